@@ -1,0 +1,11 @@
+-- The texts of errors.
+use Rattle.std.specs.Prelude.{ℕ, List, codes}
+use Rattle.gix_base.specs.declared.hash.HexError.{HexError}
+use Rattle.gix_base.specs.declared.hash.HexError.TheVariants.{WrongLength, NotHex, TooShort, TooLong}
+
+-- what each prints
+abbrev pub error_text : HexError → List ℕ
+error_text WrongLength = codes "WrongLength"
+error_text NotHex = codes "NotHex"
+error_text TooShort = codes "TooShort"
+error_text TooLong = codes "TooLong"

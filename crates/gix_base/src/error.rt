@@ -1,0 +1,137 @@
+//! Refusals of a delegate, and lists that are never empty.
+
+ghost use Rattle.gix_base.specs.NonEmpty.{all_of, left_of};
+ghost use Rattle.std.specs.Iterator.{YieldsFirstRef, item_count};
+ghost use Rattle.std.specs.Cow.{cow_str_bytes};
+ghost use Rattle.std.specs.Prelude.{◌≡◌, ◌∷◌, [], IfSome, IsNone, None, false, true, codes, length, min, ◌↔◌};
+
+use bstr::BString;
+use std::alloc::{Allocator, Global};
+use std::borrow::CowStr;
+use std::slice::Iter;
+
+/// A list that has a first item.
+#[derive(Drop)]
+#[derive_where(Debug, PartialEq, Eq, PartialOrd, Ord, Hash; T)]
+pub struct NonEmpty<T, A: Allocator = Global> {
+    pub head: T,
+    pub tail: Vec<T, A>,
+}
+
+impl<T, A: Allocator> NonEmpty<T, A> {
+    /// The list of `head` alone. It takes no memory.
+    pub fn new(alloc: A, head: T) -> NonEmpty<T, A>
+        ensures { all_of result ≡ head ∷ [] }
+    {
+        NonEmpty {
+            head,
+            tail: Vec::new(alloc),
+        }
+    }
+
+    /// The same items in the same order; `None` where `items` is empty. It takes no memory.
+    pub fn from_vec(mut items: Vec<T, A>) -> Option<NonEmpty<T, A>>
+        ensures none { IsNone result ↔ (items.items ≡ []) }
+        ensures same { IfSome result (λ list. all_of list ≡ items.items) }
+    {
+        if items.is_empty() {
+            items.destroy_empty();
+            return None;
+        }
+        let head = items.remove(0);
+        Some(NonEmpty { head, tail: items })
+    }
+
+    /// The first item.
+    pub fn first(&self) -> &T
+        ensures { result.now ≡ self.now.head }
+    {
+        &self.head
+    }
+
+    /// The items, the head first.
+    pub fn iter(&self) -> NonEmptyIter<'_, T>
+        ensures { left_of result ≡ all_of self.now }
+    {
+        NonEmptyIter {
+            head: Some(&self.head),
+            tail: self.tail.iter(),
+        }
+    }
+
+    /// How many items there are, at most the greatest `usize`.
+    pub fn len(&self) -> usize
+        ensures { result ≡ min (length (all_of self.now)) usize.MAX }
+    {
+        self.tail.len().saturating_add(1)
+    }
+}
+
+/// The items of a [`NonEmpty`] that are still to come, the head first.
+#[derive(Drop)]
+pub struct NonEmptyIter<'a, T> {
+    head: Option<&'a T>,
+    tail: Iter<'a, T>,
+}
+
+impl<'a, T> Iterator for NonEmptyIter<'a, T> {
+    type Item = &'a T;
+
+    ghost next_gives = { YieldsFirstRef left_of };
+
+    ghost remaining = { item_count left_of };
+
+    fn next(&mut self) -> Option<&'a T> {
+        match self.head.take() {
+            Some(head) => Some(head),
+            None => self.tail.next(),
+        }
+    }
+}
+
+/// A refusal by a delegate, with what led to it.
+#[derive(Debug, Drop)]
+pub struct Exn {
+    /// What was refused, for a reader.
+    pub message: CowStr<'static>,
+    /// The text that was refused, where there is one.
+    pub input: Option<BString>,
+    /// The refusals that led to this one.
+    pub causes: Vec<Exn>,
+    /// Whether memory was wanting: then no alternative is tried.
+    pub out_of_memory: bool,
+}
+
+impl Exn {
+    ghost use Rattle.gix_base.specs.declared.error.Exn.{out-Exn};
+
+    /// A refusal with that message, no input and no causes. It takes no memory.
+    pub fn new(alloc: Global, message: &'static str) -> Exn
+        ensures message { cow_str_bytes (out-Exn result).message ≡ message.now }
+        ensures input { (out-Exn result).input ≡ None }
+        ensures causes { (out-Exn result).causes.items ≡ [] }
+        ensures memory { (out-Exn result).out_of_memory ≡ false }
+    {
+        Exn {
+            message: CowStr::Borrowed(message),
+            input: None,
+            causes: Vec::new(alloc),
+            out_of_memory: false,
+        }
+    }
+
+    /// The refusal for want of memory, `out of memory`. It takes no memory.
+    pub fn out_of_memory(alloc: Global) -> Exn
+        ensures message { cow_str_bytes (out-Exn result).message ≡ codes "out of memory" }
+        ensures input { (out-Exn result).input ≡ None }
+        ensures causes { (out-Exn result).causes.items ≡ [] }
+        ensures memory { (out-Exn result).out_of_memory ≡ true }
+    {
+        Exn {
+            message: CowStr::Borrowed("out of memory"),
+            input: None,
+            causes: Vec::new(alloc),
+            out_of_memory: true,
+        }
+    }
+}

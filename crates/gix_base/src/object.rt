@@ -1,0 +1,10 @@
+//! What an object can be.
+
+/// The kind of an object: gitglossary, "object type".
+#[derive(Clone, Copy, Debug, PartialEq, Eq, PartialOrd, Ord, Hash)]
+pub enum Kind {
+    Tree,
+    Blob,
+    Commit,
+    Tag,
+}
