@@ -1,0 +1,10 @@
+pub mod Ids
+pub mod Kept
+pub mod Maximal
+pub mod Members
+pub mod Walk
+pub mod Added
+pub mod Sources
+pub mod Above
+pub mod Queues
+pub mod Octopus

@@ -1,0 +1,10 @@
+use Rattle.std.proofs.Common.{◌≡◌, ◌≤◌, drop, []}
+use Rattle.gix_revision.specs.Walks.{parents_added}
+use Rattle.gix_revision.proofs.merge_base.function.all_parents.Given as goal
+
+abbrev pub invariant-loop-id : goal.invariant-loop-id
+invariant-loop-id g l = record {
+  parents : parents_added (g.S.Find.history l.graph.source) l.all (drop l.id-index l.ids) ≡ parents_added (g.S.Find.history l.fn.graph.source) [] l.ids;
+  history : g.S.Find.history l.graph.source ≡ g.S.Find.history l.fn.graph.source;
+  count : g.S.Find.fault_count l.fn.graph.source ≤ g.S.Find.fault_count l.graph.source;
+}

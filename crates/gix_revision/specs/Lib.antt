@@ -1,0 +1,13 @@
+pub mod Faults
+pub mod Graph
+pub mod History
+pub mod Bases
+pub mod Held
+pub mod Commit
+pub mod Lends
+pub mod Data
+pub mod Walks
+pub mod MarkLends
+pub mod Queue
+pub mod Laws
+pub mod Octopus

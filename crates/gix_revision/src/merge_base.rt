@@ -1,0 +1,8 @@
+//! The best common ancestors of commits.
+
+pub mod flags;
+pub mod function;
+pub mod seen;
+
+pub use flags::Flags;
+pub use function::merge_base;

@@ -1,0 +1,180 @@
+ghost use Rattle.std.specs.Prelude.{◌≡◌, ◌≤◌, Some, IfSome, IfOk, OnOk, OnErr, is_some, Ok, Err, IsTrue, ◌↔◌, IsOk, MatchOption, ◌||◌, ◌&&◌, not, cond, []};
+ghost use Rattle.std.specs.Option.{option_map};
+ghost use Rattle.gix_revision.specs.Data.{data_at};
+ghost use Rattle.std.specs.List.{IsDistinct, filter};
+ghost use Rattle.gix_revision.specs.History.{entry_at, parents_in, is_one_of, same_id, IsAncestorOfOne, IsAcyclic};
+ghost use Rattle.gix_revision.specs.Bases.{AreBases, ids_of, is_plain};
+ghost use Rattle.gix_revision.specs.Faults.{FaultSeen};
+ghost use Rattle.gix_base.specs.declared.hash.ObjectId.{ObjectId};
+ghost use Rattle.gix_base.specs.NonEmpty.{all_of};
+ghost use Rattle.gix_revision.specs.Walks.{visited, all_visited, parents_added, all_added};
+
+use crate::graph::commit::Commit;
+use crate::graph::find::Find;
+use crate::graph::{Error, Graph};
+use crate::merge_base::flags::Flags;
+use crate::merge_base::seen::Seen;
+use bitflags::Flags as BitFlags;
+use gix_base::error::NonEmpty;
+use gix_base::hash::ObjectId;
+use std::alloc::Allocator;
+
+fn stands_in(xs: &[ObjectId], x: ObjectId) -> bool
+    ensures { result ≡ is_one_of xs.now x }
+{
+    xs.contains(&x)
+}
+
+fn visit<S: Find, A: Allocator + Copy>(
+    alloc: A,
+    id: ObjectId,
+    seen: &mut Seen<A>,
+    graph: &mut Graph<S, Commit<Flags, A>, A>,
+) -> Result<(), Error>
+    ensures seen { OnOk result (seen.new ≡ visited (S.history graph.old.source) seen.old id) }
+    ensures history { S.history graph.new.source ≡ S.history graph.old.source }
+    ensures count { S.fault_count graph.old.source ≤ S.fault_count graph.new.source }
+    ensures fault { result ≡ Err Error.Source → FaultSeen (S.fault_count graph.old.source) (S.fault_count graph.new.source) }
+{
+    if seen.contains(id) {
+        return Ok(());
+    }
+    if graph.take_in(alloc, id, Flags::empty())? {
+        if seen.push(id).is_err() {
+            return Err(Error::OutOfMemory);
+        }
+    }
+    Ok(())
+}
+
+fn visit_all<S: Find, A: Allocator + Copy>(
+    alloc: A,
+    ids: &[ObjectId],
+    seen: &mut Seen<A>,
+    graph: &mut Graph<S, Commit<Flags, A>, A>,
+) -> Result<(), Error>
+    ensures seen { OnOk result (seen.new ≡ all_visited (S.history graph.old.source) seen.old ids.now) }
+    ensures history { S.history graph.new.source ≡ S.history graph.old.source }
+    ensures count { S.fault_count graph.old.source ≤ S.fault_count graph.new.source }
+    ensures fault { result ≡ Err Error.Source → FaultSeen (S.fault_count graph.old.source) (S.fault_count graph.new.source) }
+{
+    for id in ids {
+        visit(alloc, *id, seen, graph)?;
+    }
+    Ok(())
+}
+
+/// The ancestors of the starts, each once.
+pub fn ancestors<S: Find, A: Allocator + Copy>(
+    alloc: A,
+    starts: &[ObjectId],
+    graph: &mut Graph<S, Commit<Flags, A>, A>,
+) -> Result<Seen<A>, Error>
+    ensures all { IfOk result (λ v. (c : ObjectId) → IsTrue (is_one_of v c) ↔ IsAncestorOfOne (S.history graph.old.source) starts.now c) }
+    ensures once { IfOk result (λ v. IsDistinct same_id v) }
+    ensures history { S.history graph.new.source ≡ S.history graph.old.source }
+    ensures count { S.fault_count graph.old.source ≤ S.fault_count graph.new.source }
+    ensures fault { result ≡ Err Error.Source → FaultSeen (S.fault_count graph.old.source) (S.fault_count graph.new.source) }
+{
+    let mut seen = Seen::new(alloc);
+    visit_all(alloc, starts, &mut seen, graph)?;
+    let mut i = 0;
+    while i < seen.len() {
+        let parents = graph.parents_of(alloc, seen.at(i), Flags::empty())?;
+        visit_all(alloc, &parents, &mut seen, graph)?;
+        i += 1;
+    }
+    Ok(seen)
+}
+
+fn add_parents<S: Find, A: Allocator + Copy>(
+    alloc: A,
+    id: ObjectId,
+    all: &mut Seen<A>,
+    graph: &mut Graph<S, Commit<Flags, A>, A>,
+) -> Result<(), Error>
+    ensures parents { OnOk result (all.new ≡ all_added all.old (parents_in (entry_at (S.history graph.old.source) id))) }
+    ensures history { S.history graph.new.source ≡ S.history graph.old.source }
+    ensures count { S.fault_count graph.old.source ≤ S.fault_count graph.new.source }
+    ensures fault { result ≡ Err Error.Source → FaultSeen (S.fault_count graph.old.source) (S.fault_count graph.new.source) }
+{
+    let parents = graph.parents_of(alloc, id, Flags::empty())?;
+    if all.add_all(&parents).is_err() {
+        return Err(Error::OutOfMemory);
+    }
+    Ok(())
+}
+
+/// The parents of each of the ids.
+fn all_parents<S: Find, A: Allocator + Copy>(
+    alloc: A,
+    ids: &[ObjectId],
+    graph: &mut Graph<S, Commit<Flags, A>, A>,
+) -> Result<Seen<A>, Error>
+    ensures parents { IfOk result (λ v. v ≡ parents_added (S.history graph.old.source) [] ids.now) }
+    ensures history { S.history graph.new.source ≡ S.history graph.old.source }
+    ensures count { S.fault_count graph.old.source ≤ S.fault_count graph.new.source }
+    ensures fault { result ≡ Err Error.Source → FaultSeen (S.fault_count graph.old.source) (S.fault_count graph.new.source) }
+{
+    let mut all = Seen::new(alloc);
+    for id in ids {
+        add_parents(alloc, *id, &mut all, graph)?;
+    }
+    Ok(all)
+}
+
+/// The best common ancestors of `first` and a hypothetical merge of `others`.
+pub fn merge_base<S: Find, A: Allocator + Copy>(
+    alloc: A,
+    first: ObjectId,
+    others: &[ObjectId],
+    graph: &mut Graph<S, Commit<Flags, A>, A>,
+) -> Result<Option<NonEmpty<ObjectId, A>>, Error>
+    ensures bases { IsAcyclic (S.history graph.old.source)
+        → IfOk result (λ found. AreBases (S.history graph.old.source) first others.now (ids_of found)) }
+    ensures once { IfOk result (λ found. IsDistinct same_id (ids_of found)) }
+    ensures trivial { IsTrue (is_plain first others.now) → IsOk result }
+    ensures history { S.history graph.new.source ≡ S.history graph.old.source }
+    ensures fault { result ≡ Err Error.Source → FaultSeen (S.fault_count graph.old.source) (S.fault_count graph.new.source) }
+{
+    if others.is_empty() || stands_in(others, first) {
+        return Ok(Some(NonEmpty::new(alloc, first)));
+    }
+    let ours = ancestors(alloc, &[first], graph)?;
+    let theirs = ancestors(alloc, others, graph)?;
+    let common = common_of(ours, theirs);
+    let reached = all_parents(alloc, &common, graph)?;
+    Ok(NonEmpty::from_vec(without(common, reached)))
+}
+
+/// The ids that stand in both.
+fn common_of<A: Allocator + Copy>(ours: Seen<A>, theirs: Seen<A>) -> Vec<ObjectId, A>
+    ensures { result.items ≡ filter (is_one_of theirs) ours }
+{
+    let mut kept = ours.into_vec();
+    keep_common(&mut kept, &theirs);
+    kept
+}
+
+/// The ids of `xs` that do not stand in `ys`.
+fn without<A: Allocator + Copy>(xs: Vec<ObjectId, A>, ys: Seen<A>) -> Vec<ObjectId, A>
+    ensures { result.items ≡ filter (λ x. not (is_one_of ys x)) xs.items }
+{
+    let mut kept = xs;
+    drop_all(&mut kept, &ys);
+    kept
+}
+
+/// Keeps the ids that stand in `ys`.
+fn keep_common<A: Allocator + Copy>(xs: &mut Vec<ObjectId, A>, ys: &Seen<A>)
+    ensures { xs.new.items ≡ filter (is_one_of ys.now) xs.old.items }
+{
+    xs.retain(|x| ys.contains(*x));
+}
+
+/// Drops the ids that stand in `ys`.
+fn drop_all<A: Allocator + Copy>(xs: &mut Vec<ObjectId, A>, ys: &Seen<A>)
+    ensures { xs.new.items ≡ filter (λ x. not (is_one_of ys.now x)) xs.old.items }
+{
+    xs.retain(|x| !ys.contains(*x));
+}
