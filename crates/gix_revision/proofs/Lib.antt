@@ -8,3 +8,4 @@ pub mod Sources
 pub mod Above
 pub mod Queues
 pub mod Octopus
+pub mod Faults

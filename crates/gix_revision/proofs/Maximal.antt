@@ -6,7 +6,7 @@ use Rattle.gix_base.specs.NonEmpty.{all_of}
 use Rattle.gix_base.specs.declared.error.NonEmpty.{NonEmpty}
 use Rattle.gix_base.specs.declared.hash.ObjectId.{ObjectId}
 use Rattle.gix_revision.specs.History.{History, entry_at, same_id, is_one_of, Has, IsEdge, parents_in, IsAncestor, IsAncestorOfOne, IsAcyclic}
-use Rattle.gix_revision.specs.Bases.{IsCommon, IsMaximal, IsBase, is_empty, ids_of}
+use Rattle.gix_revision.specs.Bases.{IsCommon, IsMaximal, IsBase, AreBases, CoverBases, is_empty, is_plain, ids_of}
 use Rattle.gix_revision.specs.History.IsAncestor.{itself, further}
 use Rattle.gix_revision.specs.Walks.{parents_of_all}
 use Rattle.gix_revision.proofs.Members.{one_of-left, one_of-right, one_of-cases, one_of-single, one_of-head, one_of-tail, one_of-cons_cases, one_of-filter, one_of-filtered}
@@ -115,3 +115,9 @@ distinct_filter p (x ∷ xs) d =
 pub not_trivial : (os : List ObjectId) (f : ObjectId) (a b : Bool) → a ≡ (length os == 0) → a ≡ false → b ≡ is_one_of os f → b ≡ false → (is_empty os || is_one_of os f) ≡ false
 not_trivial [] f a b h i j k = cc
 not_trivial (x ∷ xs) f a b h i j k = sym j ∙ k
+
+-- exact bases cover the bases
+pub covers : (h : History) (f : ObjectId) (os ids : List ObjectId) → is_plain f os ≡ false → AreBases h f os ids → CoverBases h f os ids
+covers h f os ids plain are =
+    let looked = rw plain at are in
+    record { every = λ c m. (looked c).1 m; common = λ c m. ((looked c).0 m).0 }

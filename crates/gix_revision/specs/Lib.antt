@@ -11,3 +11,5 @@ pub mod MarkLends
 pub mod Queue
 pub mod Laws
 pub mod Octopus
+pub mod Refusals
+pub mod ErrorTexts

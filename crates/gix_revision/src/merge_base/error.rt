@@ -1,0 +1,64 @@
+//! Why no merge base is answered.
+
+ghost use Rattle.std.specs.Prelude.{◌≡◌, ℕ, Some};
+ghost use Rattle.gix_revision.specs.Refusals.{HasCause};
+ghost use Rattle.gix_revision.specs.declared.graph.Error.TheVariants.{Source as SourceFailed};
+ghost use Rattle.gix_revision.specs.Faults.{FaultSeen};
+
+use crate::graph;
+use std::fmt;
+use thiserror::Error as StdError;
+
+/// A text that says what was being done when the source failed.
+#[derive(Clone, Copy, Debug, PartialEq, Eq, Drop, StdError)]
+pub struct Simple(pub &'static str);
+
+impl fmt::Display for Simple {
+    ghost output = { λ simple. Some simple.0.now };
+
+    fn fmt<W: fmt::Write>(&self, f: &mut fmt::Formatter<W>) -> fmt::Result {
+        f.write_str(self.0)
+    }
+}
+
+/// Why `merge_base` and `octopus` give no answer.
+#[derive(Clone, Copy, Debug, PartialEq, Eq, Drop, StdError)]
+pub enum Error {
+    /// The source failed while a commit or a parent was taken from it.
+    Source(Simple),
+    /// There was no memory.
+    OutOfMemory,
+}
+
+impl fmt::Display for Error {
+    ghost use Rattle.gix_revision.specs.ErrorTexts.{merge_base_error_text};
+
+    ghost output = { λ e. Some (merge_base_error_text e) };
+
+    fn fmt<W: fmt::Write>(&self, f: &mut fmt::Formatter<W>) -> fmt::Result {
+        match self {
+            Error::Source(simple) => f.write_str(simple.0),
+            Error::OutOfMemory => f.write_str("out of memory"),
+        }
+    }
+}
+
+/// The refusal for a commit that was handed in and could not be taken from the source.
+pub(crate) fn commit_refused(error: graph::Error) -> Error
+    ensures cause { (before after : ℕ) → (error ≡ SourceFailed → FaultSeen before after) → HasCause before after result }
+{
+    match error {
+        graph::Error::Source => Error::Source(Simple("could not insert commit into graph")),
+        graph::Error::OutOfMemory => Error::OutOfMemory,
+    }
+}
+
+/// The refusal for a parent that could not be taken from the source.
+pub(crate) fn parent_refused(error: graph::Error) -> Error
+    ensures cause { (before after : ℕ) → (error ≡ SourceFailed → FaultSeen before after) → HasCause before after result }
+{
+    match error {
+        graph::Error::Source => Error::Source(Simple("could not insert parent commit into graph")),
+        graph::Error::OutOfMemory => Error::OutOfMemory,
+    }
+}
