@@ -1,12 +1,11 @@
 -- What a hex text's bytes print as: the text in lower case.
-use Rattle.std.proofs.Common.{◌≡◌, ℕ, suc, zero, ◌+◌, ◌*◌, ◌/◌, ◌%◌, ◌<◌, ◌==◌, ◌&&◌, Bool, true, List, [], ◌∷◌, map, length, take, replicate, slice_index, Option, Some, None, Result, Ok, Err, refl, sym, ap, ◌∙◌, arith, inl, inr}
+use Rattle.std.proofs.Common.{◌≡◌, ℕ, suc, zero, ◌+◌, ◌*◌, ◌/◌, ◌%◌, ◌<◌, ◌==◌, ◌&&◌, Bool, true, List, [], ◌∷◌, map, length, take, slice_index, Option, Some, None, Result, Ok, Err, refl, sym, ap, ◌∙◌, arith, inl, inr}
 use Rattle.std.specs.Char.{to_ascii_lowercase}
 use Rattle.std.specs.Result.{result_unwrap_or}
 use Rattle.std.proofs.lemmas.Bool.{and_parts, cases_lt, eqb-true}
 use Rattle.hex.specs.Hex.{hex_digit_value, digit_or_error, value_at, pair_value, ◌>>=◌, decode_pairs, lower_digits, encode_with, encode_lower, decode_sized, is_hex_digit}
 use Rattle.std.proofs.lemmas.List.{map-append, length-map, drop-map, length-append, get_or_append_left}
 use Rattle.std.proofs.Math.Seq.{take-append_seam}
-use Rattle.std.proofs.lemmas.List.Elements.{All-append, All-drop, All-replicate}
 use Rattle.std.specs.List.{AllPass}
 use Rattle.hex.proofs.HexLemmas.{decode_sized-ok, decode_sized-twice, decode_of-even}
 use Rattle.gix_base.specs.Hash.{padded}
@@ -78,31 +77,20 @@ pub lower-padded : (text : List ℕ) → map to_ascii_lowercase (padded text) �
 lower-padded text =
     rw (map-append, length-map, ← drop-map) refl
 
--- what an encoding shows of a filled up text
-shows : (text bytes : List ℕ) → decode_sized (padded text) 20 ≡ Ok bytes → encode_lower bytes ≡ map to_ascii_lowercase (padded text)
-shows text bytes h =
-    let len = decode_sized-ok (padded text) 20 bytes h in
-    let even : length (padded text) % 2 ≡ 0 = omega arith in
-    encode-decode_pairs 0 (padded text) bytes (sym (decode_of-even (padded text) even) ∙ (sym (decode_sized-twice (padded text) 20 len) ∙ h))
-
--- its first digits are the text in lower case
-pub prefix_shows : (text bytes : List ℕ) → decode_sized (padded text) 20 ≡ Ok bytes → take (length text) (encode_lower bytes) ≡ map to_ascii_lowercase text
-prefix_shows text bytes h =
+-- the first of the digits that a filled up text is read as are the text in lower case
+pub prefix_shows : (text digits : List ℕ) → digits ≡ map to_ascii_lowercase (padded text)
+    → take (length text) digits ≡ map to_ascii_lowercase text
+prefix_shows text digits e =
     let low = map to_ascii_lowercase text in
     let len : length low ≡ length text = rw length-map refl in
-    rw (shows text bytes h, lower-padded text, ← len) (take-append_seam low _)
+    rw (e, lower-padded text, ← len) (take-append_seam low _)
 
 -- and filling those up again gives all of them
-pub prefix_zeros : (text bytes : List ℕ) → decode_sized (padded text) 20 ≡ Ok bytes → padded (take (length text) (encode_lower bytes)) ≡ encode_lower bytes
-prefix_zeros text bytes h =
-    rw (prefix_shows text bytes h) (sym (lower-padded text) ∙ sym (shows text bytes h))
+pub prefix_zeros : (text digits : List ℕ) → digits ≡ map to_ascii_lowercase (padded text)
+    → padded (take (length text) digits) ≡ digits
+prefix_zeros text digits e = rw (prefix_shows text digits e) (sym (lower-padded text) ∙ sym e)
 
--- a text is digits exactly if it is once it is filled up
-pub digits_padded : (text : List ℕ) → AllPass is_hex_digit text → AllPass is_hex_digit (padded text)
-digits_padded text h =
-    let P : ℕ → Type 0 = λ x. is_hex_digit x ≡ true in
-    All-append P text _ h (All-drop P (length text) (replicate 40 48) (All-replicate P 40 48 refl))
-
+-- a text is digits if it is once it is filled up
 pub digits_from_padded : (text : List ℕ) → AllPass is_hex_digit (padded text) → AllPass is_hex_digit text
 digits_from_padded text h k d lt =
     let at = h k d (rw length-append (omega arith)) in

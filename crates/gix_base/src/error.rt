@@ -2,8 +2,7 @@
 
 ghost use Rattle.gix_base.specs.NonEmpty.{all_of, left_of};
 ghost use Rattle.std.specs.Iterator.{YieldsFirstRef, item_count};
-ghost use Rattle.std.specs.Cow.{cow_str_bytes};
-ghost use Rattle.std.specs.Prelude.{◌≡◌, ◌∷◌, [], IfSome, IsNone, None, false, true, codes, length, min, ◌↔◌};
+ghost use Rattle.std.specs.Prelude.{◌≡◌, ◌∷◌, [], IfSome, IsNone, None, Some, false, true, codes, length, min, slice_get, ◌↔◌};
 
 use bstr::BString;
 use std::alloc::{Allocator, Global};
@@ -44,7 +43,7 @@ impl<T, A: Allocator> NonEmpty<T, A> {
 
     /// The first item.
     pub fn first(&self) -> &T
-        ensures { result.now ≡ self.now.head }
+        ensures { slice_get (all_of self.now) 0 ≡ Some result.now }
     {
         &self.head
     }
@@ -103,14 +102,14 @@ pub struct Exn {
 }
 
 impl Exn {
-    ghost use Rattle.gix_base.specs.declared.error.Exn.{out-Exn};
+    ghost use Rattle.gix_base.specs.Exn.{message_of, input_of, causes_of, is_out_of_memory};
 
     /// A refusal with that message, no input and no causes. It takes no memory.
     pub fn new(alloc: Global, message: &'static str) -> Exn
-        ensures message { cow_str_bytes (out-Exn result).message ≡ message.now }
-        ensures input { (out-Exn result).input ≡ None }
-        ensures causes { (out-Exn result).causes.items ≡ [] }
-        ensures memory { (out-Exn result).out_of_memory ≡ false }
+        ensures message { message_of result ≡ message.now }
+        ensures input { input_of result ≡ None }
+        ensures causes { causes_of result ≡ [] }
+        ensures memory { is_out_of_memory result ≡ false }
     {
         Exn {
             message: CowStr::Borrowed(message),
@@ -122,10 +121,10 @@ impl Exn {
 
     /// The refusal for want of memory, `out of memory`. It takes no memory.
     pub fn out_of_memory(alloc: Global) -> Exn
-        ensures message { cow_str_bytes (out-Exn result).message ≡ codes "out of memory" }
-        ensures input { (out-Exn result).input ≡ None }
-        ensures causes { (out-Exn result).causes.items ≡ [] }
-        ensures memory { (out-Exn result).out_of_memory ≡ true }
+        ensures message { message_of result ≡ codes "out of memory" }
+        ensures input { input_of result ≡ None }
+        ensures causes { causes_of result ≡ [] }
+        ensures memory { is_out_of_memory result ≡ true }
     {
         Exn {
             message: CowStr::Borrowed("out of memory"),
@@ -133,5 +132,41 @@ impl Exn {
             causes: Vec::new(alloc),
             out_of_memory: true,
         }
+    }
+}
+
+#[cfg(test)]
+mod tests {
+    use super::*;
+    use std::test::Fail;
+
+    #[test]
+    fn lists_keep_their_items(rt: HostRuntime) -> Result<(), Fail> {
+        let alloc = rt.alloc();
+        let one = NonEmpty::new(alloc, 7u8);
+        assert_eq!(rt; *one.first(), 7);
+        assert_eq!(rt; one.len(), 1);
+        assert!(rt; NonEmpty::<u8>::from_vec(Vec::new(alloc)).is_none());
+        let list = NonEmpty::from_vec(vec![in alloc; 3u8, 1, 2]?).ok_or("empty")?;
+        assert_eq!(rt; *list.first(), 3);
+        assert_eq!(rt; list.len(), 3);
+        let mut items = list.iter();
+        assert_eq!(rt; items.next().copied(), Some(3));
+        assert_eq!(rt; items.next().copied(), Some(1));
+        assert_eq!(rt; items.next().copied(), Some(2));
+        assert_eq!(rt; items.next().copied(), None);
+        Ok(())
+    }
+
+    #[test]
+    fn refusals_say_whether_memory_was_wanting(rt: HostRuntime) {
+        let refused = Exn::new(rt.alloc(), "no such ref");
+        assert_eq!(rt; refused.message.as_str(), "no such ref");
+        assert!(rt; refused.input.is_none() && refused.causes.is_empty());
+        assert!(rt; !refused.out_of_memory);
+        let wanting = Exn::out_of_memory(rt.alloc());
+        assert_eq!(rt; wanting.message.as_str(), "out of memory");
+        assert!(rt; wanting.input.is_none() && wanting.causes.is_empty());
+        assert!(rt; wanting.out_of_memory);
     }
 }

@@ -1,13 +1,11 @@
 //! Ids and prefixes.
 
-ghost use Rattle.std.specs.Prelude.{◌≡◌, ◌≢◌, ◌↔◌, ◌≤◌, ◌<◌, ◌++◌, ◌*◌, length, take, drop, min, IsOk, IfOk, IfErr, IsErrOf, Some, Ok, ◌⊎◌};
-ghost use Rattle.std.specs.List.{AllPass};
-ghost use Rattle.hex.specs.Hex.{decode_of, decode_sized, encode_lower, is_hex_digit};
-ghost use Rattle.gix_base.specs.Hash.{id_text, padded};
-ghost use Rattle.std.specs.Ordering.{nat_cmp};
-ghost use Rattle.std.specs.Cmp.Lexicographic.{slice_cmp};
-ghost use Rattle.gix_base.specs.HexError.{error_text};
+ghost use Rattle.std.specs.Prelude.{◌≡◌, ◌≢◌, ◌↔◌, ◌≤◌, ◌<◌, ◌++◌, length, take, drop, min, IsOk, IfOk, IfErr, IsErrOf, Some, ◌⊎◌};
+ghost use Rattle.hex.specs.Hex.{IsBytes};
 ghost use Rattle.std.specs.Str.{str_to_ascii_lowercase};
+ghost use Rattle.gix_base.specs.Digits.{HasOther, digits_of, bytes_of};
+ghost use Rattle.gix_base.specs.Hash.{id_text, IsIdText, padded};
+ghost use Rattle.gix_base.specs.HexError.{error_text};
 
 use hex::FromHex;
 use std::cmp::Ordering;
@@ -36,18 +34,25 @@ impl fmt::Display for HexError {
     }
 }
 
-/// An object's SHA-1 id.
+/// The SHA-1 id of an object: gitglossary, "object name".
+///
+/// Ordered by its bytes: the first that differs decides.
 #[derive(Clone, Copy, Debug, PartialEq, Eq, PartialOrd, Ord, Hash)]
 pub struct ObjectId(pub [u8; 20]);
 
 impl ObjectId {
-    /// Reads 40 hex digits, of either case.
+    /// The id that 40 hex digits name, letters in either case (git-rev-parse, "Specifying
+    /// Revisions"): its bytes are those that the digits say, and its text is theirs in lower case.
+    ///
+    /// Refused, in this order: `WrongLength` where there are not 40 bytes, `NotHex` where one of
+    /// them is no hex digit.
     pub fn from_hex(text: &[u8]) -> Result<ObjectId, HexError>
         ensures wrong_length { IsErrOf result HexError.WrongLength ↔ (length text.now ≢ 40) }
-        ensures read { IsOk result ↔ ((length text.now ≡ 40) × AllPass is_hex_digit text.now) }
-        ensures value { IfOk result (λ id. decode_of text.now ≡ Ok id.0) }
-        ensures shows { IfOk result (λ id. id_text id ≡ str_to_ascii_lowercase text.now) }
+        ensures not_hex { IsErrOf result HexError.NotHex ↔ ((length text.now ≡ 40) × HasOther text.now) }
         ensures only { IfErr result (λ e. (e ≡ HexError.WrongLength) ⊎ (e ≡ HexError.NotHex)) }
+        ensures read { IsOk result ↔ IsIdText text.now }
+        ensures value { IfOk result (λ id. id.0 ≡ bytes_of text.now) }
+        ensures shows { IfOk result (λ id. id_text id ≡ str_to_ascii_lowercase text.now) }
     {
         if text.len() != 40 {
             return Err(HexError::WrongLength);
@@ -58,14 +63,15 @@ impl ObjectId {
         }
     }
 
-    /// The 20 bytes.
+    /// The 20 bytes of the id.
     pub fn as_bytes(&self) -> &[u8]
         ensures { result.now ≡ self.now.0 }
     {
         &self.0
     }
 
-    /// Writes the first `len` digits, at most 40, and says how many.
+    /// Writes the first `len` of the 40 lower-case digits to the front of `out`, all 40 where
+    /// `len` is greater, and leaves the rest of `out` as it was. Answers how many it wrote.
     pub fn write_hex(&self, len: usize, out: &mut [u8; 40]) -> usize
         ensures count { result ≡ min len 40 }
         ensures written { out.new ≡ take result (id_text self.now) ++ drop result out.old }
@@ -106,28 +112,37 @@ fn fill_up(text: &[u8]) -> [u8; 40]
     digits
 }
 
-/// The first 4 to 40 digits of ids.
+/// The first 4 to 40 digits of ids: git-rev-parse, "Specifying Revisions".
+///
+/// Ordered by the bytes of its digits filled up with zeros, then by the number of digits.
 #[derive(Clone, Copy, Debug, PartialEq, Eq, PartialOrd, Ord, Hash)]
 pub struct Prefix {
     id: ObjectId,
     hex_len: usize,
     ghost at_least: { 4 ≤ hex_len },
     ghost at_most: { hex_len ≤ 40 },
-    ghost zeros: { padded (take hex_len (encode_lower id.0)) ≡ encode_lower id.0 },
+    ghost bytes: { IsBytes id.0 },
+    // No digit is set past its end.
+    ghost zeros: { padded (take hex_len (digits_of id.0)) ≡ digits_of id.0 },
 }
 
 impl Prefix {
-    ghost use Rattle.gix_base.specs.Prefix.{prefix_text};
+    ghost use Rattle.gix_base.specs.Prefix.{prefix_text, order_against, IsPrefixText};
 
+    /// The least number of digits: git-config, `core.abbrev`.
     pub const MIN_HEX_LEN: usize = 4;
 
-    /// Reads 4 to 40 hex digits, of either case.
+    /// The prefix of 4 to 40 hex digits, letters in either case.
+    ///
+    /// Refused, in this order: `TooShort` under 4 bytes, `TooLong` over 40, `NotHex` where one of
+    /// them is no hex digit.
     pub fn from_hex(text: &[u8]) -> Result<Prefix, HexError>
         ensures too_short { IsErrOf result HexError.TooShort ↔ (length text.now < 4) }
         ensures too_long { IsErrOf result HexError.TooLong ↔ (40 < length text.now) }
-        ensures read { IsOk result ↔ ((4 ≤ length text.now) × (length text.now ≤ 40) × AllPass is_hex_digit text.now) }
-        ensures len { IfOk result (λ p. p.hex_len ≡ length text.now) }
-        ensures value { IfOk result (λ p. decode_of (padded text.now) ≡ Ok p.id.0) }
+        ensures not_hex { IsErrOf result HexError.NotHex
+            ↔ ((4 ≤ length text.now) × (length text.now ≤ 40) × HasOther text.now) }
+        ensures only { IfErr result (λ e. e ≢ HexError.WrongLength) }
+        ensures read { IsOk result ↔ IsPrefixText text.now }
         ensures shows { IfOk result (λ p. prefix_text p ≡ str_to_ascii_lowercase text.now) }
     {
         if text.len() < Prefix::MIN_HEX_LEN {
@@ -136,32 +151,31 @@ impl Prefix {
         if text.len() > 40 {
             return Err(HexError::TooLong);
         }
-        match <[u8; 20] as FromHex>::from_hex(fill_up(text).as_slice()) {
-            Ok(bytes) => Ok(Prefix {
-                id: ObjectId(bytes),
-                hex_len: text.len(),
-            }),
-            Err(_) => Err(HexError::NotHex),
-        }
+        let id = ObjectId::from_hex(&fill_up(text))?;
+        Ok(Prefix {
+            id,
+            hex_len: text.len(),
+        })
     }
 
-    /// The number of digits.
+    /// The number of digits, from 4 to 40.
     pub fn hex_len(&self) -> usize
-        ensures { result ≡ self.now.hex_len }
+        ensures { result ≡ length (prefix_text self.now) }
     {
         self.hex_len
     }
 
-    /// The digits, padded with zeros.
+    /// The id of the digits filled up with the digit 0 to 40.
     pub fn as_oid(&self) -> &ObjectId
-        ensures { result.now ≡ self.now.id }
+        ensures { id_text result.now ≡ padded (prefix_text self.now) }
     {
         &self.id
     }
 
-    /// How the digits compare with as many first digits of `id`.
+    /// How the digits compare with as many first digits of `id`, the first that differs deciding:
+    /// `Equal` where `id` begins with them.
     pub fn cmp_oid(&self, id: &ObjectId) -> Ordering
-        ensures { result ≡ slice_cmp nat_cmp (prefix_text self.now) (take self.now.hex_len (id_text id.now)) }
+        ensures { result ≡ order_against self.now id.now }
     {
         let own = self.id.digits();
         let others = id.digits();
@@ -178,5 +192,173 @@ impl fmt::Display for Prefix {
         let digits = self.id.digits();
         let text = str::from_utf8(&digits[..self.hex_len]).map_err(|_| fmt::Error)?;
         f.write_str(text)
+    }
+}
+
+#[cfg(test)]
+mod tests {
+    use super::*;
+    use std::test::Fail;
+
+    // The example of git-rev-parse, "Specifying Revisions".
+    const NAME: &str = "dae86e1950b1277e545cee180551750029cfe735";
+
+    const UPPER: &str = "DAE86E1950B1277E545CEE180551750029CFE735";
+
+    const FOURS: &str = "4444444444444444444444444444444444444444";
+
+    #[test]
+    fn ids_read_and_print(rt: HostRuntime) -> Result<(), Fail> {
+        let alloc = rt.alloc();
+        let id = ObjectId::from_hex(FOURS.as_bytes())?;
+        assert_eq!(rt; id.as_bytes(), [0x44u8; 20].as_slice());
+        for (text, printed) in [(FOURS, FOURS), (NAME, NAME), (UPPER, NAME)] {
+            let id = ObjectId::from_hex(text.as_bytes())?;
+            let again = format!(in alloc; "{id}")?;
+            assert_eq!(rt; again.as_str(), printed);
+        }
+        Ok(())
+    }
+
+    #[test]
+    fn ids_are_refused(rt: HostRuntime) {
+        for (text, refusal) in [
+            ("", HexError::WrongLength),
+            (
+                "444444444444444444444444444444444444444",
+                HexError::WrongLength,
+            ),
+            (
+                "44444444444444444444444444444444444444444",
+                HexError::WrongLength,
+            ),
+            (
+                "g4444444444444444444444444444444444444444",
+                HexError::WrongLength,
+            ),
+            ("444444444444444444444444444444444444444g", HexError::NotHex),
+            ("444444444444444444444444444444444444444G", HexError::NotHex),
+            ("444444444444444444444444444444444444444 ", HexError::NotHex),
+        ] {
+            assert_eq!(rt;
+                ObjectId::from_hex(text.as_bytes()),
+                Err(refusal),
+                "at {text}"
+            );
+        }
+    }
+
+    #[test]
+    fn digits_are_written_to_the_front(rt: HostRuntime) -> Result<(), Fail> {
+        let id = ObjectId::from_hex(UPPER.as_bytes())?;
+        for (len, count, want) in [
+            (0, 0, "----------------------------------------"),
+            (7, 7, "dae86e1---------------------------------"),
+            (40, 40, NAME),
+            (41, 40, NAME),
+            (usize::MAX, 40, NAME),
+        ] {
+            let mut out = [b'-'; 40];
+            assert_eq!(rt; id.write_hex(len, &mut out), count, "at {len}");
+            assert_eq!(rt; out.as_slice(), want.as_bytes(), "at {len}");
+        }
+        Ok(())
+    }
+
+    #[test]
+    fn prefixes_read_and_print(rt: HostRuntime) -> Result<(), Fail> {
+        let alloc = rt.alloc();
+        for (text, len, printed, padded) in [
+            (
+                "dae8",
+                4,
+                "dae8",
+                "dae8000000000000000000000000000000000000",
+            ),
+            (
+                "DAE86",
+                5,
+                "dae86",
+                "dae8600000000000000000000000000000000000",
+            ),
+            (
+                "DAE86E1950B1277E545CEE180551750029CFE73",
+                39,
+                "dae86e1950b1277e545cee180551750029cfe73",
+                "dae86e1950b1277e545cee180551750029cfe730",
+            ),
+            (NAME, 40, NAME, NAME),
+        ] {
+            let prefix = Prefix::from_hex(text.as_bytes())?;
+            assert_eq!(rt; prefix.hex_len(), len, "at {text}");
+            let shown = format!(in alloc; "{prefix}")?;
+            assert_eq!(rt; shown.as_str(), printed, "at {text}");
+            let whole = format!(in alloc; "{}", prefix.as_oid())?;
+            assert_eq!(rt; whole.as_str(), padded, "at {text}");
+        }
+        Ok(())
+    }
+
+    #[test]
+    fn prefixes_are_refused(rt: HostRuntime) {
+        for (text, refusal) in [
+            ("", HexError::TooShort),
+            ("dae", HexError::TooShort),
+            ("xyz", HexError::TooShort),
+            ("daeg", HexError::NotHex),
+            (
+                "dae86e1950b1277e545cee180551750029cfe7350",
+                HexError::TooLong,
+            ),
+            (
+                "xae86e1950b1277e545cee180551750029cfe7350",
+                HexError::TooLong,
+            ),
+        ] {
+            assert_eq!(rt;
+                Prefix::from_hex(text.as_bytes()),
+                Err(refusal),
+                "at {text}"
+            );
+        }
+    }
+
+    #[test]
+    fn prefixes_compare(rt: HostRuntime) -> Result<(), Fail> {
+        let id = ObjectId::from_hex(NAME.as_bytes())?;
+        for (text, order) in [
+            ("dae86e1", Ordering::Equal),
+            (UPPER, Ordering::Equal),
+            ("dae86e0", Ordering::Less),
+            ("dae9", Ordering::Greater),
+        ] {
+            let prefix = Prefix::from_hex(text.as_bytes())?;
+            assert_eq!(rt; prefix.cmp_oid(&id), order, "at {text}");
+        }
+        for (text, other, order) in [
+            ("4444", "44440", Ordering::Less),
+            ("44441", "4445", Ordering::Less),
+            ("abcd", "ABCD", Ordering::Equal),
+        ] {
+            let prefix = Prefix::from_hex(text.as_bytes())?;
+            let other = Prefix::from_hex(other.as_bytes())?;
+            assert_eq!(rt; prefix.cmp(&other), order, "at {text}");
+        }
+        Ok(())
+    }
+
+    #[test]
+    fn refusals_print_their_names(rt: HostRuntime) -> Result<(), Fail> {
+        let alloc = rt.alloc();
+        for (refusal, want) in [
+            (HexError::WrongLength, "WrongLength"),
+            (HexError::NotHex, "NotHex"),
+            (HexError::TooShort, "TooShort"),
+            (HexError::TooLong, "TooLong"),
+        ] {
+            let text = format!(in alloc; "{refusal}")?;
+            assert_eq!(rt; text.as_str(), want);
+        }
+        Ok(())
     }
 }

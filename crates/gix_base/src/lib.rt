@@ -4,4 +4,5 @@
 pub mod date;
 pub mod error;
 pub mod hash;
+pub mod laws;
 pub mod object;
