@@ -8,4 +8,7 @@ pub mod Sources
 pub mod Above
 pub mod Queues
 pub mod Octopus
+pub mod AmongOnes
+pub mod Lacked
+pub mod Least
 pub mod Faults

@@ -13,7 +13,7 @@ use Rattle.gix_revision.proofs.Maximal.{common_goes_down, common_has, common_one
 use Rattle.gix_revision.proofs.Above.{anc-trans, base_above}
 
 -- the ancestors of some ids make a list
-pub Listed : (h : History) (starts : List ObjectId) → Type 0
+unfoldable pub Listed : (h : History) (starts : List ObjectId) → Type 0
 Listed h starts = (xs : List ObjectId) × ((c : ObjectId) → IsTrue (is_one_of xs c) ↔ IsAncestorOfOne h starts c)
 
 le_cases : (a b : ℕ) → (a < b) ⊎ (b ≤ a)

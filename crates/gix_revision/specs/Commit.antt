@@ -1,4 +1,4 @@
--- What a held commit says of the source's entry.
+-- What a held commit says of the source's entry, and its data.
 use Rattle.std.specs.Prelude.{◌≡◌, Option, Some}
 use Rattle.gix_revision.specs.History.{Entry}
 use Rattle.gix_revision.specs.declared.graph.commit.Commit.{Commit}
@@ -14,3 +14,7 @@ agrees_with c e = e ≡ Some (copied_entry c)
 -- the commit with other data
 abbrev pub with_data : {D A : Type 0} → D → Commit D A → Commit D A
 with_data w c = record c { «data» = w }
+
+-- the data beside it
+abbrev pub data_of : {D A : Type 0} → Commit D A → D
+data_of c = c.«data»

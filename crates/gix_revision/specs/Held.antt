@@ -1,4 +1,4 @@
--- What the values of the crate say of a source's entry.
+-- The entries and histories that a source's values stand for.
 use Rattle.std.specs.Prelude.{List, [], ◌∷◌}
 use Rattle.gix_revision.specs.History.{Entry, History}
 use Rattle.gix_base.specs.declared.hash.ObjectId.{ObjectId}

@@ -3,6 +3,8 @@ pub mod Graph
 pub mod History
 pub mod Bases
 pub mod Held
+pub mod Memory
+pub mod Testing
 pub mod Commit
 pub mod Lends
 pub mod Data
@@ -13,3 +15,4 @@ pub mod Laws
 pub mod Octopus
 pub mod Refusals
 pub mod ErrorTexts
+pub mod GraphError
