@@ -1,0 +1,53 @@
+-- What the digits of an id are.
+use Rattle.std.proofs.Common.{◌≡◌, ℕ, ◌+◌, ◌*◌, ◌%◌, ◌<◌, ◌==◌, List, [], ◌∷◌, Bool, true, false, length, refl, sym, ◌∙◌, arith}
+use Rattle.std.proofs.lemmas.Bool.{eqb-true}
+use Rattle.std.specs.List.{AllPass}
+use Rattle.std.specs.Str.{str_to_ascii_lowercase}
+use Rattle.hex.specs.Hex.{IsBytes, lower_digits, encode_lower, is_hex_digit}
+use Rattle.hex.proofs.HexLemmas.{length-encode_with, decode_of-encode_lower, decode_of-ok, decode_of-even}
+use Rattle.gix_base.specs.Hash.{id_text}
+use Rattle.gix_base.specs.declared.hash.ObjectId.{ObjectId}
+use Rattle.gix_base.proofs.HexBack.{encode-decode_pairs}
+use Rattle.gix_spec.specs.Heard.{IsId}
+
+-- forty hex digits, in lower case
+pub record AreForty (text : List ℕ) : Type 0 where
+  pub forty : length text ≡ 40
+  pub digits : AllPass is_hex_digit text
+  pub lower : str_to_ascii_lowercase text ≡ text
+
+pub id_text-forty : (a : ObjectId) → IsId a → AreForty (id_text a)
+id_text-forty a h =
+    let twice = length-encode_with lower_digits a.0 in
+    let back = decode_of-encode_lower a.0 h.1 in
+    let even : length (id_text a) % 2 ≡ 0 = omega (arith, twice) in
+    record {
+      forty = omega (arith, twice, h.0);
+      digits = (decode_of-ok (id_text a) a.0 back).1;
+      lower = sym (encode-decode_pairs 0 (id_text a) a.0 (sym (decode_of-even (id_text a) even) ∙ back));
+    }
+
+-- a byte that is no digit is none of them
+apart : (b c : ℕ) → is_hex_digit b ≡ true → is_hex_digit c ≡ false → (same : Bool) → (b == c) ≡ same → same ≡ false
+apart b c h k true e = let s : b ≡ c = eqb-true b c e in let t = rw s at h in cc
+apart b c h k false e = refl
+
+-- the first of them is neither a dot nor a caret
+pub record HasFirst (text : List ℕ) : Type 0 where
+  pub first : ℕ
+  pub others : List ℕ
+  pub split : text ≡ first ∷ others
+  pub no_dot : (first == 46) ≡ false
+  pub no_caret : (first == 94) ≡ false
+
+pub first_of : (text : List ℕ) → length text ≡ 40 → AllPass is_hex_digit text → HasFirst text
+first_of [] h d = cc
+first_of (b ∷ rest) h d =
+    let digit : is_hex_digit b ≡ true = d 0 0 (omega arith) in
+    record {
+      first = b;
+      others = rest;
+      split = refl;
+      no_dot = apart b 46 digit refl (b == 46) refl;
+      no_caret = apart b 94 digit refl (b == 94) refl;
+    }

@@ -1,0 +1,7 @@
+pub mod Runs
+pub mod Readings
+pub mod Memory
+pub mod LastCall
+pub mod Digits
+pub mod Printed
+pub mod Frugal

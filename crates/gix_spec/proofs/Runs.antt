@@ -1,0 +1,98 @@
+-- How what the parts of a parse do joins into runs.
+use Rattle.std.proofs.Common.{◌⊎◌, inl, inr, option_map, Bor, ◌≡◌, ℕ, List, [], ◌∷◌, ◌++◌, Option, Some, None, cond, Bool, true, false, Result, Ok, Err, refl, append_assoc, append-nil, IsErrAnd, IsErrOf}
+use Rattle.gix_base.specs.declared.error.Exn.{Exn, out-Exn}
+use Rattle.gix_spec.specs.declared.spec.parse.fault.Fault.{Fault}
+use Rattle.gix_spec.specs.declared.spec.parse.Error.{Error}
+use Rattle.gix_spec.specs.declared.spec.parse.Error.TheVariants.{OutOfMemory, Refused}
+use Rattle.gix_spec.specs.Call.{Call}
+use Rattle.gix_spec.specs.Answer.{Answer, answer_of, refused, no_memory}
+use Rattle.gix_spec.specs.Tree.{Tree, leaf, ask, takes, fine, faulty}
+use Rattle.gix_spec.specs.Run.{IsRun, at_leaf, goes_on, turns, runs_out, has_room, has_none, IsBeginning, stops, begins_accepted, begins_refused, begins_out, begins_room, Outcome, ended, without_memory, short_of_memory}
+use Rattle.gix_spec.specs.Context.{Context}
+use Rattle.gix_spec.specs.Pieces.{Piece, unescaped, fault}
+use Rattle.gix_spec.specs.Trees.{tree_of, demand}
+use Rattle.gix_spec.specs.Parse.{Fails, Parses}
+use Rattle.gix_spec.specs.Performs.{Leads, GoesTo, Performs, DemandedBy, Demanded, TellsOf}
+
+module _ {S : Type 0} (by : S → Call → Answer → S → Type 0) where
+  -- a run that a part ended, seen from further back
+  fails_after : (s u w : S) (t v : Tree) (e : Error) → Leads by s t u v → Fails by u v w e → Fails by s t w e
+  fails_after s u w t v OutOfMemory f (inl r) = inl (f w without_memory r)
+  fails_after s u w t v OutOfMemory f (inr r) = inr (f w short_of_memory r)
+  fails_after s u w t v (Refused g i a b) f r = f w (ended (faulty g (option_map (λ x. x.now) i) a b)) r
+
+  refused_at : (b : Bool) (e : Exn) (c : Call) (s u : S) → b ≡ false → by s c (cond b no_memory (refused e)) u → by s c (refused e) u
+  refused_at b e c s u h k = rw h at k
+
+  out_at : (b : Bool) (e : Exn) (c : Call) (s u : S) → b ≡ true → by s c (cond b no_memory (refused e)) u → by s c no_memory u
+  out_at b e c s u h k = rw h at k
+
+  pub demand_goes : (r : Result (Unit {0}) Exn) (out : Result (Unit {0}) Error) (c : Call) (f : Fault) (i : Option (List ℕ)) (v : Tree) (s u : S) →
+      by s c (answer_of r) u → DemandedBy r f i out → GoesTo by s (demand c f i v) u out v
+  demand_goes (Ok a) (Ok b) c f i v s u h d = λ w o r. goes_on h r
+  demand_goes (Err e) (Err OutOfMemory) c f i v s u h d = inl (runs_out (out_at (out-Exn e).out_of_memory e c s u d h))
+  demand_goes (Err e) (Err (Refused g j a b)) c f i v s u h d = rw (d.1, d.2, d.3, d.4) (turns (refused_at (out-Exn e).out_of_memory e c s u d.0 h) at_leaf)
+  demand_goes (Ok a) (Err err) c f i v s u h d = absurd d
+  demand_goes (Err e) (Ok b) c f i v s u h d = absurd d
+
+  -- a piece that is one call
+  pub performs_demand : {p : Piece} {c : Call} {f : Fault} {i : Option (List ℕ)} {m n : Context} {s u : S} {r : Result (Unit {0}) Exn} {out : Result (Unit {0}) Error} →
+      ((more : List Piece) → tree_of (p ∷ more) m ≡ demand c f i (tree_of more n)) → by s c (answer_of r) u → Demanded r f i out → Performs by (p ∷ []) s m u n out
+  performs_demand {p} {c} {f} {i} {n} {s} {u} {r} {out} same h d = record { performs = λ more. rw (same more) (demand_goes r out c f i (tree_of more n) s u h d.demanded) }
+
+  -- an error that a part gave is handed on
+  pub performs_err : {X Y : Type 0} {ps : List Piece} {m n k : Context} {s u : S} {e : Error} {out : Result Y Error} →
+      Performs {X = X} by ps s m u n (Err e) → IsErrAnd out (λ y. y ≡ e) → Performs by ps s m u k out
+  performs_err {out = Ok y} h q = absurd q
+  performs_err {out = Err y} h q = record { performs = λ more. rw q (h.performs more) }
+
+  -- no piece, no call
+  pub performs_none : {X : Type 0} (x : X) {m : Context} {s : S} → Performs by [] s m s m (Ok x)
+  performs_none x = record { performs = λ more w o r. r }
+
+  -- the value of a part that went well doesn't matter
+  pub performs_as : {X Y : Type 0} {ps : List Piece} {m n : Context} {s u : S} {x : X} (y : Y) → Performs by ps s m u n (Ok x) → Performs by ps s m u n (Ok y)
+  performs_as y h = record { performs = h.performs }
+
+  goes_then : {X Y : Type 0} (s u w : S) (t v z : Tree) (x : X) (out : Result Y Error) → Leads by s t u v → GoesTo by u v w out z → GoesTo by s t w out z
+  goes_then s u w t v z x (Ok y) f g = λ k o r. f k o (g k o r)
+  goes_then s u w t v z x (Err e) f g = fails_after s u w t v e f g
+
+  -- one part after another
+  pub performs_then : {X Y : Type 0} {ps qs : List Piece} {m n k : Context} {s u w : S} {x : X} {out : Result Y Error} →
+      Performs by ps s m u n (Ok x) → Performs by qs u n w k out → Performs by (ps ++ qs) s m w k out
+  performs_then {ps} {qs} {m} {n} {k} {s} {u} {w} {x} {out} f g = record {
+    performs = λ more.
+        rw append_assoc (goes_then s u w (tree_of (ps ++ (qs ++ more)) m) (tree_of (qs ++ more) n) (tree_of more k) x out (f.performs (qs ++ more)) (g.performs more));
+  }
+
+  -- a part that ended the run, whatever was to follow it
+  pub performs_stop : {X Y : Type 0} {ps : List Piece} (qs : List Piece) {m n k : Context} {s u : S} {e : Error} {out : Result Y Error} →
+      Performs {X = X} by ps s m u n (Err e) → IsErrAnd out (λ y. y ≡ e) → Performs by (ps ++ qs) s m u k out
+  performs_stop qs {out = Ok y} h q = absurd q
+  performs_stop {ps} qs {m} {s} {u} {e} {out = Err y} h q = record { performs = λ more. rw (append_assoc, q) (h.performs (qs ++ more)) }
+
+  -- a fault of the text
+  pub performs_fault : {X : Type 0} {f : Fault} {i : Option (List ℕ)} {j : Option (Bor (List ℕ))} {m n : Context} {s : S} →
+      option_map (λ x. x.now) j ≡ i → Performs {X = X} by (fault f i ∷ []) s m s n (Err (Refused f j None None))
+  performs_fault h = record { performs = λ more. rw h at_leaf }
+
+  -- the run of a whole text
+  pub runs_whole : {ps : List Piece} {m n : Context} {s u : S} {out : Result (Unit {0}) Error} → Performs by ps s m u n out → Parses by s (tree_of ps m) u out
+  runs_whole {ps} {u} {out = Ok a} h = (rw append-nil at (h.performs [])) u (ended fine) at_leaf
+  runs_whole {ps} {out = Err e} h = rw append-nil at (h.performs [])
+
+  -- every run is a beginning of one
+  pub beginning_of_run : {s u : S} {t : Tree} {o : Outcome} → IsRun by s t u o → IsBeginning by s t u
+  beginning_of_run at_leaf = stops
+  beginning_of_run (goes_on h r) = begins_accepted h (beginning_of_run r)
+  beginning_of_run (turns h r) = begins_refused h (beginning_of_run r)
+  beginning_of_run (runs_out h) = begins_out h
+  beginning_of_run (has_room r) = begins_room (beginning_of_run r)
+  beginning_of_run has_none = stops
+
+  pub beginning_of_parse : {s u : S} (t : Tree) (out : Result (Unit {0}) Error) → Parses by s t u out → IsBeginning by s t u
+  beginning_of_parse t (Ok a) r = beginning_of_run r
+  beginning_of_parse t (Err OutOfMemory) (inl r) = beginning_of_run r
+  beginning_of_parse t (Err OutOfMemory) (inr r) = beginning_of_run r
+  beginning_of_parse t (Err (Refused f i a b)) r = beginning_of_run r

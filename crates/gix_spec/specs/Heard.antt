@@ -1,0 +1,46 @@
+-- What a delegate hears of a printed spec that accepts every call.
+use Rattle.std.specs.Prelude.{◌≡◌, ℕ, List, [], ◌∷◌, ◌++◌, None, length}
+use Rattle.hex.specs.Hex.{IsBytes}
+use Rattle.gix_base.specs.declared.date.Time.{Time}
+use Rattle.gix_base.specs.declared.hash.ObjectId.{ObjectId}
+use Rattle.gix_base.specs.Hash.{id_text}
+use Rattle.gix_spec.specs.declared.spec.Spec.{Spec}
+use Rattle.gix_spec.specs.declared.spec.Spec.TheVariants.{Include, Exclude, Range, Merge, IncludeOnlyParents, ExcludeParents}
+use Rattle.gix_spec.specs.Call.{Call, prefix, kind, done}
+use Rattle.gix_spec.specs.Answer.{Answer, accepted}
+use Rattle.gix_spec.specs.Tree.{fine}
+use Rattle.gix_spec.specs.Run.{IsRun, Outcome, ended}
+use Rattle.gix_spec.specs.Parse.{meaning_of}
+use Rattle.gix_spec.specs.Printed.{spec_text, kind_of}
+
+-- a delegate that accepts every call, and keeps them
+abbrev pub Accepts : List Call → Call → Answer → List Call → Type 0
+Accepts s c a t = (a ≡ accepted) × (t ≡ s ++ c ∷ [])
+
+-- an id is the prefix of all its digits
+abbrev pub id_call : ObjectId → Call
+id_call a = prefix (id_text a) None
+
+-- the calls of a printed spec: its ids in order, the kind where it stands, none for the first form, and the end
+abbrev pub heard_of : Spec → List Call
+heard_of (Include a) = id_call a ∷ done ∷ []
+heard_of (Exclude a) = kind (kind_of (Exclude a)) ∷ id_call a ∷ done ∷ []
+heard_of (Range a b) = id_call a ∷ kind (kind_of (Range a b)) ∷ id_call b ∷ done ∷ []
+heard_of (Merge a b) = id_call a ∷ kind (kind_of (Merge a b)) ∷ id_call b ∷ done ∷ []
+heard_of (IncludeOnlyParents a) = id_call a ∷ kind (kind_of (IncludeOnlyParents a)) ∷ done ∷ []
+heard_of (ExcludeParents a) = id_call a ∷ kind (kind_of (ExcludeParents a)) ∷ done ∷ []
+
+-- every parse of the printed spec makes just these calls, and ends well
+abbrev pub ReadsBack : Spec → Type 0
+ReadsBack spec = (now : Time) (s : List Call) (o : Outcome) → IsRun Accepts [] (meaning_of (spec_text spec) now) s o →
+    (s ≡ heard_of spec) × (o ≡ ended fine)
+
+-- an id has twenty bytes
+abbrev pub IsId : ObjectId → Type 0
+IsId a = (length a.0 ≡ 20) × IsBytes a.0
+
+-- the forms that are read today
+abbrev pub PrintedReadsBack : Type 0
+PrintedReadsBack =
+    ((a : ObjectId) → IsId a → ReadsBack (Include a)) × ((a : ObjectId) → IsId a → ReadsBack (Exclude a))
+    × ((a b : ObjectId) → IsId a → IsId b → ReadsBack (Range a b)) × ((a b : ObjectId) → IsId a → IsId b → ReadsBack (Merge a b))

@@ -1,0 +1,17 @@
+pub mod Call
+pub mod Answer
+pub mod Tree
+pub mod Run
+pub mod Context
+pub mod Pieces
+pub mod Trees
+pub mod Reading
+pub mod Parse
+pub mod Performs
+pub mod Printed
+pub mod Faults
+pub mod Sibling
+pub mod Ends
+pub mod Heard
+pub mod Agree
+pub mod Orders

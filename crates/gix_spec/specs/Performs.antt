@@ -1,0 +1,42 @@
+-- What a part of a parse does to the run, whatever follows it.
+use Rattle.std.specs.Prelude.{Bool, true, false, option_map, ◌≡◌, ℕ, List, ◌++◌, Option, Some, None, Result, Ok, Err}
+use Rattle.gix_base.specs.declared.error.Exn.{Exn, out-Exn}
+use Rattle.gix_spec.specs.declared.spec.parse.fault.Fault.{Fault}
+use Rattle.gix_spec.specs.declared.spec.parse.Error.{Error}
+use Rattle.gix_spec.specs.declared.spec.parse.Error.TheVariants.{OutOfMemory, Refused}
+use Rattle.gix_spec.specs.Call.{Call}
+use Rattle.gix_spec.specs.Answer.{Answer}
+use Rattle.gix_spec.specs.Tree.{Tree}
+use Rattle.gix_spec.specs.Run.{IsRun, Outcome}
+use Rattle.gix_spec.specs.Context.{Context}
+use Rattle.gix_spec.specs.Pieces.{Piece}
+use Rattle.gix_spec.specs.Trees.{tree_of}
+use Rattle.gix_spec.specs.Parse.{Fails}
+
+-- From s with the tree t ahead, the calls led to u with the tree v ahead.
+abbrev pub Leads : {S : Type 0} → (step : S → Call → Answer → S → Type 0) → S → Tree → S → Tree → Type 0
+Leads {S} step s t u v = (w : S) (o : Outcome) → IsRun step u v w o → IsRun step s t w o
+
+-- They led there, or the run ended at u as this error says.
+abbrev pub GoesTo : {S X : Type 0} → (step : S → Call → Answer → S → Type 0) → S → Tree → S → Result X Error → Tree → Type 0
+GoesTo step s t u (Ok x) v = Leads step s t u v
+GoesTo step s t u (Err e) v = Fails step s t u e
+
+-- The calls did what these pieces mean, whatever follows them, and what is known went from m to n.
+pub record Performs {S X : Type 0} (step : S → Call → Answer → S → Type 0) (ps : List Piece) (s : S) (m : Context) (u : S) (n : Context) (out : Result X Error) : Type 0 where
+  pub performs : (more : List Piece) → GoesTo step s (tree_of (ps ++ more) m) u out (tree_of more n)
+
+-- What became of a call that has to be accepted: an error tells of its refusal.
+abbrev pub TellsOf : Exn → Fault → Option (List ℕ) → Error → Type 0
+TellsOf e f input OutOfMemory = (out-Exn e).out_of_memory ≡ true
+TellsOf e f input (Refused g given first second) =
+    ((out-Exn e).out_of_memory ≡ false) × (g ≡ f) × (option_map (λ x. x.now) given ≡ input) × (first ≡ Some e) × (second ≡ None)
+
+abbrev pub DemandedBy : Result (Unit {0}) Exn → Fault → Option (List ℕ) → Result (Unit {0}) Error → Type 0
+DemandedBy (Ok a) f input (Ok b) = Unit {0}
+DemandedBy (Err e) f input (Err err) = TellsOf e f input err
+DemandedBy (Ok a) f input (Err err) = ⊥
+DemandedBy (Err e) f input (Ok b) = ⊥
+
+pub record Demanded (answer : Result (Unit {0}) Exn) (f : Fault) (input : Option (List ℕ)) (out : Result (Unit {0}) Error) : Type 0 where
+  pub demanded : DemandedBy answer f input out

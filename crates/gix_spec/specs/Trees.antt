@@ -1,0 +1,80 @@
+-- The tree that the pieces of a text mean.
+use Rattle.std.specs.Prelude.{ℕ, List, [], ◌∷◌, Option, Some, None, Bool, true, false, ◌||◌}
+use Rattle.gix_base.specs.declared.error.Exn.{Exn}
+use Rattle.gix_base.specs.declared.date.Time.{Time}
+use Rattle.gix_spec.specs.declared.spec.Kind.TheVariants.{ExcludeReachable, RangeBetween}
+use Rattle.gix_spec.specs.declared.spec.parse.delegate.ReflogLookup.TheVariants.{Date as AtDate}
+use Rattle.gix_spec.specs.declared.spec.parse.delegate.Traversal.TheVariants.{NthParent}
+use Rattle.gix_spec.specs.declared.spec.parse.fault.Fault.{Fault}
+use Rattle.gix_spec.specs.declared.spec.parse.fault.Fault.TheVariants.{KindRefused, HeadRefused, Unconsumed, DoneRefused, DoneRefusedInNavigation, FindRefused, IndexRefused, NameRefused, ReflogWithoutName, SiblingWithoutName, Date, AtRefused, TraverseRefused, PeelRefused, RepeatRefused}
+use Rattle.gix_spec.specs.Call as calls
+use Rattle.gix_spec.specs.Call.{Call, find_ref, prefix, kind, traverse, find, done}
+use Rattle.gix_spec.specs.Tree.{fine, faulty, Tree, leaf, ask, takes}
+use Rattle.gix_spec.specs.Context.{Context, start, HEAD, after_reference, after_prefix, next_revision}
+use Rattle.gix_spec.specs.Pieces.{Piece, exclude, regex, index, head, name, branch, reflog, sibling, date, unescaped, step, peel, path, closer, without_parent, range, finish, finished, fault}
+
+-- a call that has to be accepted: its refusal is this fault
+abbrev pub demand : Call → Fault → Option (List ℕ) → Tree → Tree
+demand c f input onward = ask c onward (λ e. leaf (faulty f input (Some e) None))
+
+-- the call that was accepted last, once more; there may be none
+abbrev pub repeat : Option Call → List ℕ → Tree → Tree
+repeat None after onward = leaf (faulty Unconsumed (Some after) None None)
+repeat (Some c) after onward = demand c RepeatRefused (Some after) onward
+
+-- what asks for a reference, and may not stand after an accepted prefix
+abbrev pub of_reference : (own_prefix : Bool) → Fault → (own : List ℕ) → Tree → Tree
+of_reference true f own onward = leaf (faulty f (Some own) None None)
+of_reference false f own onward = onward
+
+-- the reflog at a time, where the text means one
+abbrev pub at_time : Option Time → (inner : List ℕ) → Tree → Tree
+at_time None inner onward = leaf (faulty Date (Some inner) None None)
+at_time (Some t) inner onward = demand (calls.reflog (AtDate t)) AtRefused (Some inner) onward
+
+-- a name: its prefix, if it has one, then the reference
+abbrev pub attempts : (text whole : List ℕ) → Option (List ℕ × Option calls.Hint) → Context → (Context → Tree) → Tree
+attempts text whole None m onward = demand (find_ref text) NameRefused (Some whole) (onward (after_reference m text))
+attempts text whole (Some p) m onward =
+    ask (prefix p.0 p.1) (onward (after_prefix m p.0 p.1))
+    (λ e. ask (find_ref text) (onward (after_reference m text)) (λ d. leaf (faulty NameRefused (Some whole) (Some e) (Some d))))
+
+-- The tree of some pieces, where this is known from those before.
+abbrev pub tree_of : List Piece → Context → Tree
+tree_of [] m = leaf fine
+tree_of (exclude ∷ ps) m = demand (kind ExcludeReachable) (KindRefused ExcludeReachable) None (tree_of ps m)
+tree_of (regex wanted raw negated ∷ ps) m = demand (find wanted negated) FindRefused (Some raw) (tree_of ps m)
+tree_of (index p stage ∷ ps) m = demand (calls.index p stage) (IndexRefused stage) (Some p) (tree_of ps m)
+tree_of (head ∷ ps) m = demand (find_ref HEAD) HeadRefused None (tree_of ps (after_reference m HEAD))
+tree_of (name text whole attempt ∷ ps) m = attempts text whole attempt m (λ n. tree_of ps n)
+tree_of (branch number inner ∷ ps) m = demand (calls.branch number) AtRefused (Some inner) (tree_of ps m)
+tree_of (reflog query own inner ∷ ps) m =
+    of_reference m.own_prefix ReflogWithoutName own (demand (calls.reflog query) AtRefused (Some inner) (tree_of ps m))
+tree_of (sibling which own inner ∷ ps) m =
+    of_reference m.own_prefix SiblingWithoutName own (demand (calls.sibling which) AtRefused (Some inner) (tree_of ps m))
+tree_of (date meaning own inner ∷ ps) m =
+    of_reference m.own_prefix ReflogWithoutName own (takes (at_time (meaning m.now) inner (tree_of ps m)))
+tree_of (unescaped ∷ ps) m = takes (tree_of ps m)
+tree_of (step t after ∷ ps) m = demand (traverse t) (TraverseRefused t) (Some after) (tree_of ps m)
+tree_of (peel target after ∷ ps) m = demand (calls.peel target) PeelRefused (Some after) (tree_of ps m)
+tree_of (path p ∷ ps) m = demand (calls.peel (calls.path p)) PeelRefused (Some p) (tree_of ps m)
+tree_of (closer k rest ∷ ps) m =
+    demand (kind k) (KindRefused k) (Some rest) (demand done DoneRefusedInNavigation (Some rest) (tree_of ps m))
+tree_of (without_parent number after rest ∷ ps) m =
+    demand (traverse (NthParent number)) (TraverseRefused (NthParent number)) (Some after)
+    (demand (kind RangeBetween) (KindRefused RangeBetween) (Some after)
+    (repeat m.anchor after (demand done DoneRefusedInNavigation (Some rest) (tree_of ps m))))
+tree_of (range k ∷ ps) m = demand (kind k) (KindRefused k) None (tree_of ps (next_revision m))
+tree_of (finish ∷ ps) m = demand done DoneRefused None (tree_of ps m)
+tree_of (finished ∷ ps) m = tree_of ps m
+tree_of (fault f input ∷ ps) m = leaf (faulty f input None None)
+
+-- whether reading a piece may take memory: an escape is taken out, or a text goes to a date
+abbrev pub takes_one : Piece → Bool
+takes_one unescaped = true
+takes_one (date meaning own inner) = true
+takes_one _ = false
+
+abbrev pub takes_memory : List Piece → Bool
+takes_memory [] = false
+takes_memory (p ∷ ps) = takes_one p || takes_memory ps

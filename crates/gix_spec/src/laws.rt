@@ -1,0 +1,152 @@
+//! Laws of the definitions, each the contract of a function without parameters.
+
+ghost use Rattle.gix_spec.specs.Ends.{DoneIsLast, EndsInDone, ReadsAll, TakesNoneWithoutBraces};
+ghost use Rattle.gix_spec.specs.Agree.{OrderAgrees, HashAgrees};
+ghost use Rattle.std.specs.Prelude.{◌≡◌};
+ghost use Rattle.gix_spec.specs.Orders.{OrderIs, spec_order, kind_order, step_order, sibling_order};
+ghost use Rattle.gix_spec.specs.Heard.{PrintedReadsBack};
+
+use crate::spec::parse::Delegate;
+use crate::spec::parse::delegate::{PeelTo, PrefixHint, ReflogLookup, SiblingBranch, Traversal};
+use crate::spec::{Kind, Spec};
+use std::hash::Hash;
+
+/// A parse that ends well has `done` as its last call, whatever the delegate answered before.
+#[tactic(auto, using(crate::proofs::LastCall::done_is_last))]
+pub fn done_is_last()
+    ensures { DoneIsLast }
+{}
+
+/// The same of any delegate: it came to a state from which `done`, accepted, led to the last one.
+#[tactic(auto, using(crate::proofs::LastCall::ends_in_done))]
+pub fn ends_in_done<D: Delegate>()
+    ensures { EndsInDone D.step }
+{}
+
+/// A parse that ends well left no byte of the text unread.
+#[tactic(auto, using(crate::proofs::LastCall::reads_all))]
+pub fn reads_all<D: Delegate>()
+    ensures { ReadsAll D.step }
+{}
+
+/// A text without braces takes no memory, so that only its delegate can want some.
+#[tactic(auto, using(crate::proofs::Frugal::takes_none_without_braces))]
+pub fn texts_without_braces_take_no_memory()
+    ensures { TakesNoneWithoutBraces }
+{}
+
+/// A printed spec is read back: a delegate that accepts every call hears one prefix of 40 digits for
+/// each id in order, the kind of the spec, none for `Include`, and `done`.
+#[tactic(auto, using(crate::proofs::Printed::printed_reads_back))]
+pub fn printed_specs_read_back()
+    ensures { PrintedReadsBack }
+{}
+
+/// Every order agrees with its equality.
+pub fn order_agrees<T: Ord>()
+    ensures { OrderAgrees T.cmp T.eq }
+{}
+
+/// Every hash agrees with its equality.
+pub fn hash_agrees<T: Hash>()
+    ensures { HashAgrees T.hash_input T.eq }
+{}
+
+/// Specs: `Ord` and `Hash` agree with `==`.
+pub fn specs_agree()
+    ensures order { OrderAgrees
+        ⟦<Spec as Ord>⟧.cmp
+        ⟦<Spec as PartialEq>⟧.eq }
+    ensures hash { HashAgrees
+        ⟦<Spec as Hash>⟧.hash_input
+        ⟦<Spec as PartialEq>⟧.eq }
+{
+    order_agrees::<Spec>();
+    hash_agrees::<Spec>();
+}
+
+/// Kinds of specs: `Ord` and `Hash` agree with `==`.
+pub fn kinds_agree()
+    ensures order { OrderAgrees
+        ⟦<Kind as Ord>⟧.cmp
+        ⟦<Kind as PartialEq>⟧.eq }
+    ensures hash { HashAgrees
+        ⟦<Kind as Hash>⟧.hash_input
+        ⟦<Kind as PartialEq>⟧.eq }
+{}
+
+/// Hints of prefixes: `Ord` and `Hash` agree with `==`.
+pub fn hints_agree()
+    ensures order { OrderAgrees
+        ⟦<PrefixHint<'static> as Ord>⟧.cmp
+        ⟦<PrefixHint<'static> as PartialEq>⟧.eq }
+    ensures hash { HashAgrees
+        ⟦<PrefixHint<'static> as Hash>⟧.hash_input
+        ⟦<PrefixHint<'static> as PartialEq>⟧.eq }
+{
+    order_agrees::<PrefixHint<'static>>();
+    hash_agrees::<PrefixHint<'static>>();
+}
+
+/// Look-ups in a reflog: `Ord` and `Hash` agree with `==`.
+pub fn lookups_agree()
+    ensures order { OrderAgrees
+        ⟦<ReflogLookup as Ord>⟧.cmp
+        ⟦<ReflogLookup as PartialEq>⟧.eq }
+    ensures hash { HashAgrees
+        ⟦<ReflogLookup as Hash>⟧.hash_input
+        ⟦<ReflogLookup as PartialEq>⟧.eq }
+{}
+
+/// Steps: `Ord` and `Hash` agree with `==`.
+pub fn traversals_agree()
+    ensures order { OrderAgrees
+        ⟦<Traversal as Ord>⟧.cmp
+        ⟦<Traversal as PartialEq>⟧.eq }
+    ensures hash { HashAgrees
+        ⟦<Traversal as Hash>⟧.hash_input
+        ⟦<Traversal as PartialEq>⟧.eq }
+{}
+
+/// What objects are peeled to: `Ord` and `Hash` agree with `==`.
+pub fn targets_agree()
+    ensures order { OrderAgrees
+        ⟦<PeelTo<'static> as Ord>⟧.cmp
+        ⟦<PeelTo<'static> as PartialEq>⟧.eq }
+    ensures hash { HashAgrees
+        ⟦<PeelTo<'static> as Hash>⟧.hash_input
+        ⟦<PeelTo<'static> as PartialEq>⟧.eq }
+{
+    order_agrees::<PeelTo<'static>>();
+    hash_agrees::<PeelTo<'static>>();
+}
+
+/// Sibling branches: `Ord` and `Hash` agree with `==`.
+pub fn siblings_agree()
+    ensures order { OrderAgrees
+        ⟦<SiblingBranch as Ord>⟧.cmp
+        ⟦<SiblingBranch as PartialEq>⟧.eq }
+    ensures hash { HashAgrees
+        ⟦<SiblingBranch as Hash>⟧.hash_input
+        ⟦<SiblingBranch as PartialEq>⟧.eq }
+{}
+
+/// Specs are ordered by kind, then by the bytes of their ids.
+pub fn specs_are_ordered()
+    ensures { OrderIs ⟦<Spec as Ord>⟧.cmp spec_order }
+{}
+
+/// Kinds of specs are ordered as their cases stand.
+pub fn kinds_are_ordered()
+    ensures { OrderIs ⟦<Kind as Ord>⟧.cmp kind_order }
+{}
+
+/// Steps are ordered by case, then by number.
+pub fn traversals_are_ordered()
+    ensures { OrderIs ⟦<Traversal as Ord>⟧.cmp step_order }
+{}
+
+/// Sibling branches are ordered as their cases stand.
+pub fn siblings_are_ordered()
+    ensures { OrderIs ⟦<SiblingBranch as Ord>⟧.cmp sibling_order }
+{}

@@ -1,0 +1,38 @@
+//! What a parse knows beside the text that it reads.
+
+ghost use Rattle.std.specs.Prelude.{◌≡◌};
+ghost use Rattle.gix_spec.specs.Context.{context_of, start};
+
+use super::delegate::PrefixHint;
+use gix_base::date::Time;
+use gix_base::hash::Prefix;
+
+/// The prefix or reference call that was accepted last.
+#[derive(Clone, Copy, Debug)]
+pub(crate) enum Anchor<'a> {
+    Head,
+    Reference(&'a [u8]),
+    ByPrefix(Prefix, Option<PrefixHint<'a>>),
+}
+
+/// The moment that dates are read at, the anchor, and whether this revision's own name was accepted
+/// as a prefix.
+#[derive(Clone, Copy, Debug)]
+pub(crate) struct Context<'a> {
+    pub(crate) now: Time,
+    pub(crate) anchor: Option<Anchor<'a>>,
+    pub(crate) own_prefix: bool,
+}
+
+impl<'a> Context<'a> {
+    /// At the start of a text nothing was accepted.
+    pub(crate) fn new(now: Time) -> Context<'a>
+        ensures { context_of result ≡ start now }
+    {
+        Context {
+            now,
+            anchor: None,
+            own_prefix: false,
+        }
+    }
+}
