@@ -38,12 +38,12 @@ added_all h xs [] = refl
 added_all h xs (i ∷ is) =
     added_all h (all_added xs (parents_in (entry_at h i))) is ∙ sym (all_added_append xs (parents_in (entry_at h i)) (parents_of_all h is))
 
-drop_one : (h : History) (ids : List ObjectId) (x : ObjectId) → is_one_of (parents_added h [] ids) x ≡ is_one_of (parents_of_all h ids) x
-drop_one h ids x = ap (λ l. is_one_of l x) (added_all h [] ids) ∙ one_of-all_added [] (parents_of_all h ids) x
+pub one_of-parents_added : (h : History) (ids : List ObjectId) (x : ObjectId) → is_one_of (parents_added h [] ids) x ≡ is_one_of (parents_of_all h ids) x
+one_of-parents_added h ids x = ap (λ l. is_one_of l x) (added_all h [] ids) ∙ one_of-all_added [] (parents_of_all h ids) x
 
 pub drop_same : (h : History) (ids xs : List ObjectId) → filter (λ x. not (is_one_of (parents_added h [] ids) x)) xs ≡ filter (λ x. not (is_one_of (parents_of_all h ids) x)) xs
 drop_same h ids [] = refl
-drop_same h ids (x ∷ xs) = rw (drop_one h ids x, drop_same h ids xs) refl
+drop_same h ids (x ∷ xs) = rw (one_of-parents_added h ids x, drop_same h ids xs) refl
 
 -- the answer of the call, from what its steps gave
 pub bases_found : (h : History) (f : ObjectId) (os ours theirs common reached out : List ObjectId) → IsAcyclic h → (is_empty os || is_one_of os f) ≡ false

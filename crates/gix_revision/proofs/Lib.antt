@@ -12,3 +12,4 @@ pub mod AmongOnes
 pub mod Lacked
 pub mod Least
 pub mod Faults
+pub mod Gather

@@ -1,5 +1,5 @@
 -- The common ancestors that are a parent of no common one are the maximal ones.
-use Rattle.std.proofs.Common.{◌≡◌, Bool, true, false, cond, refl, sym, subst, ◌∙◌, List, [], ◌∷◌, inl, inr, ◌||◌, IsTrue, ◌↔◌, not, Option, Some, None, length, ◌==◌}
+use Rattle.std.proofs.Common.{◌≡◌, Bool, true, false, cond, refl, sym, subst, ◌∙◌, List, [], ◌∷◌, inl, inr, ◌||◌, IsTrue, ◌↔◌, not, Option, Some, None, length, ◌==◌, ap}
 use Rattle.std.specs.List.{filter, IsDistinct, AllByRecursion}
 use Rattle.std.specs.Option.{IfSome, IsNone}
 use Rattle.gix_base.specs.NonEmpty.{all_of}
@@ -8,7 +8,8 @@ use Rattle.gix_base.specs.declared.hash.ObjectId.{ObjectId}
 use Rattle.gix_revision.specs.History.{History, entry_at, same_id, is_one_of, Has, IsEdge, parents_in, IsAncestor, IsAncestorOfOne, IsAcyclic}
 use Rattle.gix_revision.specs.Bases.{IsCommon, IsMaximal, IsBase, AreBases, CoverBases, is_empty, is_plain, ids_of}
 use Rattle.gix_revision.specs.History.IsAncestor.{itself, further}
-use Rattle.gix_revision.specs.Walks.{parents_of_all}
+use Rattle.gix_revision.specs.Graph.{Graphed}
+use Rattle.gix_revision.specs.Walks.{parents_of_all, HoldsEach, HoldsAncestors}
 use Rattle.gix_revision.proofs.Members.{one_of-left, one_of-right, one_of-cases, one_of-single, one_of-head, one_of-tail, one_of-cons_cases, one_of-filter, one_of-filtered}
 
 pub parent_of_one : (h : History) (xs : List ObjectId) (p c : ObjectId) → IsTrue (is_one_of xs p) → IsTrue (is_one_of (parents_in (entry_at h p)) c) → IsTrue (is_one_of (parents_of_all h xs) c)
@@ -121,3 +122,10 @@ pub covers : (h : History) (f : ObjectId) (os ids : List ObjectId) → is_plain 
 covers h f os ids plain are =
     let looked = rw plain at are in
     record { every = λ c m. (looked c).1 m; common = λ c m. ((looked c).0 m).0 }
+
+-- a graph that holds all ancestors of f and others holds what is common, of those of f
+pub holds_common : {S T : Type 0} (h : History) (g : Graphed S T) (f : ObjectId) (os xs common : List ObjectId) (p : ObjectId → Bool)
+    → HoldsAncestors h g (f ∷ os) → ((c : ObjectId) → IsTrue (is_one_of xs c) ↔ IsAncestorOfOne h (f ∷ []) c) → common ≡ filter p xs → HoldsEach h g common
+holds_common h g f os xs common p holds ours is q m has =
+    let a = (ours q).0 (one_of-filter p xs q (ap (λ l. is_one_of l q) (sym is) ∙ m)).0 in
+    holds q (f, one_of-head f os, subst (λ z. IsAncestor h z q) (one_of-single f a.0 a.1) a.2)

@@ -7,7 +7,8 @@ use Rattle.std.proofs.lemmas.List.{take-append-le}
 use Rattle.gix_base.specs.declared.hash.ObjectId.{ObjectId}
 use Rattle.gix_revision.specs.History.{History, entry_at, same_id, is_one_of, Has, IsEdge, parents_in, IsAncestor, IsAncestorOfOne}
 use Rattle.gix_revision.specs.History.IsAncestor.{itself, further}
-use Rattle.gix_revision.specs.Walks.{visited, all_visited}
+use Rattle.gix_revision.specs.Graph.{Graphed}
+use Rattle.gix_revision.specs.Walks.{visited, all_visited, Holds, HoldsEach, HoldsAncestors}
 use Rattle.gix_revision.proofs.Ids.{same_id-laws}
 use Rattle.gix_revision.proofs.Members.{one_of-left, one_of-right, one_of-cases, one_of-single, one_of-head, one_of-tail, one_of-cons_cases, one_of-at, one_of-take_cases}
 
@@ -130,7 +131,7 @@ walk_goes h starts seen i d w below =
 pub walk_bounded : (h : History) (starts seen : List ObjectId) (i : ℕ) → Walked h starts seen i → length seen ≤ length h
 walk_bounded h starts seen i w = length-le_from_keys same_id-laws seen h w.once w.has
 
-has_ancestor : (h : History) (a c : ObjectId) → IsAncestor h a c → Has h c × Has h a
+pub has_ancestor : (h : History) (a c : ObjectId) → IsAncestor h a c → Has h c × Has h a
 has_ancestor h a c (itself has) = (has, has)
 has_ancestor h a c (further b c' p e) = (e.1, (has_ancestor h a b p).1)
 
@@ -142,3 +143,19 @@ walk_ends h starts seen i w all c = (w.sound c, λ a. reached a.0 (w.begun a.0 a
     reached : (o : ObjectId) → IsTrue (is_one_of seen o) → (c : ObjectId) → IsAncestor h o c → IsTrue (is_one_of seen c)
     reached o m c (itself has) = m
     reached o m c (further b c' p e) = w.closed b c (ap (λ l. is_one_of l b) all ∙ reached o m b p) e
+
+-- a graph that holds the ancestors of the starts holds the starts that the history has
+pub holds_starts : {S T : Type 0} (h : History) (g : Graphed S T) (starts : List ObjectId) → HoldsAncestors h g starts → HoldsEach h g starts
+holds_starts h g starts holds q m has = holds q (q, m, itself has)
+
+-- it holds each commit that is seen
+pub holds_seen : {S T : Type 0} (h : History) (g : Graphed S T) (starts seen : List ObjectId) (i : ℕ) (d : ObjectId)
+    → HoldsAncestors h g starts → Walked h starts seen i → i < length seen → Holds h g (get_or seen i d)
+holds_seen h g starts seen i d holds w below has = holds _ (w.sound _ (one_of-at seen i d below))
+
+-- and the parents of each
+pub holds_parents : {S T : Type 0} (h : History) (g : Graphed S T) (starts seen : List ObjectId) (i : ℕ) (d : ObjectId)
+    → HoldsAncestors h g starts → Walked h starts seen i → i < length seen → HoldsEach h g (parents_in (entry_at h (get_or seen i d)))
+holds_parents h g starts seen i d holds w below q m has =
+    let a = w.sound _ (one_of-at seen i d below) in
+    holds q (a.0, a.1, further _ q a.2 (m, has))

@@ -16,3 +16,4 @@ pub mod Octopus
 pub mod Refusals
 pub mod ErrorTexts
 pub mod GraphError
+pub mod Flags

@@ -7,6 +7,7 @@ ghost use Rattle.gix_revision.specs.Laws.{AncestorsAreCommits, AncestorsAreLeast
 ghost use Rattle.gix_revision.specs.Laws.{MaximalAboveEach, MaximalExists, MaximalOfMaximal};
 ghost use Rattle.gix_revision.specs.Laws.{LackedChangesNoBases, BasesCover};
 
+pub mod flags;
 #[cfg(test)]
 mod tests;
 

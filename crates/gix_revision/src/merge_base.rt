@@ -1,9 +1,13 @@
 //! The best common ancestors of commits.
 
+pub(crate) mod ancestors;
 pub mod error;
 pub mod flags;
 pub mod function;
-pub mod seen;
+pub(crate) mod gather;
+pub(crate) mod seen;
+#[cfg(test)]
+mod tests;
 
 pub use error::{Error, Simple};
 pub use flags::Flags;

@@ -1,3 +1,5 @@
+//! Sets of ids in the order in which they came.
+
 ghost use Rattle.std.specs.Prelude.{◌≡◌, ◌∷◌, ◌++◌, [], List, OnOk, OnErr, length, ◌<◌, slice_index_or};
 ghost use Rattle.gix_revision.specs.History.{is_one_of};
 ghost use Rattle.gix_base.specs.declared.hash.ObjectId.{ObjectId};
@@ -11,7 +13,7 @@ use std::marker::Model;
 
 /// Ids in the order in which they came, with a set of them for quick look-ups.
 #[derive(Drop)]
-pub struct Seen<A: Allocator> {
+pub(crate) struct Seen<A: Allocator> {
     order: Vec<ObjectId, A>,
     members: HashSet<ObjectId, BuildHasherDefault<FoldHasher>, A>,
 }
@@ -29,7 +31,8 @@ impl<A: Allocator> Model for Seen<A> {
 }
 
 impl<A: Allocator + Copy> Seen<A> {
-    pub fn new(alloc: A) -> Self
+    /// No ids.
+    pub(crate) fn new(alloc: A) -> Self
         ensures { result ≡ [] }
     {
         Seen {
@@ -38,40 +41,45 @@ impl<A: Allocator + Copy> Seen<A> {
         }
     }
 
-    pub fn contains(&self, id: ObjectId) -> bool
+    /// Whether an id is in it.
+    pub(crate) fn contains(&self, id: ObjectId) -> bool
         ensures { result ≡ is_one_of self.now id }
     {
         self.members.contains(&id)
     }
 
-    pub fn len(&self) -> usize
+    /// How many there are.
+    pub(crate) fn len(&self) -> usize
         ensures { result ≡ length self.now }
     {
         self.order.len()
     }
 
-    pub fn as_slice(&self) -> &[ObjectId]
+    /// All of them, in order.
+    pub(crate) fn as_slice(&self) -> &[ObjectId]
         ensures { result.now ≡ self.now }
     {
         &self.order
     }
 
-    pub fn at(&self, i: usize) -> ObjectId
+    /// The id at a place.
+    pub(crate) fn at(&self, i: usize) -> ObjectId
         requires { i < length self.now }
         ensures { (d : ObjectId) → result ≡ slice_index_or self.now i d }
     {
         self.order[i]
     }
 
-    pub fn into_vec(self) -> Vec<ObjectId, A>
+    /// All of them, in order.
+    pub(crate) fn into_vec(self) -> Vec<ObjectId, A>
         ensures { result.items ≡ self }
     {
         let Seen { order, members } = self;
         order
     }
 
-    /// Puts an id at the end.
-    pub fn push(&mut self, id: ObjectId) -> Result<(), AllocError>
+    /// Puts an id at the end; unchanged where there is no memory.
+    pub(crate) fn push(&mut self, id: ObjectId) -> Result<(), AllocError>
         ensures pushed { OnOk result (self.new ≡ self.old ++ id ∷ []) }
         ensures err { OnErr result (self.new ≡ self.old) }
     {
@@ -86,7 +94,7 @@ impl<A: Allocator + Copy> Seen<A> {
     }
 
     /// Puts an id at the end, unless it is there.
-    pub fn add(&mut self, id: ObjectId) -> Result<(), AllocError>
+    pub(crate) fn add(&mut self, id: ObjectId) -> Result<(), AllocError>
         ensures { OnOk result (self.new ≡ added self.old id) }
     {
         if self.contains(id) {
@@ -95,7 +103,8 @@ impl<A: Allocator + Copy> Seen<A> {
         self.push(id)
     }
 
-    pub fn add_all(&mut self, ids: &[ObjectId]) -> Result<(), AllocError>
+    /// Puts each of the ids at the end, unless it is there.
+    pub(crate) fn add_all(&mut self, ids: &[ObjectId]) -> Result<(), AllocError>
         ensures { OnOk result (self.new ≡ all_added self.old ids.now) }
     {
         for id in ids {

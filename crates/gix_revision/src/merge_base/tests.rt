@@ -1,0 +1,228 @@
+//! Merge bases of worked histories, failing look-ups, and memory refused at each request.
+
+use crate::graph::testing::{Counting, Failing, Turn};
+use crate::graph::tests::{Row, id, source_of};
+use crate::graph::{Find, FindFault, Graph, MemorySource};
+use crate::merge_base::{Error, Flags, Simple, merge_base};
+use bitflags::Flags as BitFlags;
+use gix_base::error::NonEmpty;
+use gix_base::hash::ObjectId;
+use refusing::Refusing;
+use std::alloc::{Allocator, Global};
+use std::test::Fail;
+
+/// Two merges of the same two commits:
+///
+/// ```text
+///   2---4
+///  / \ /
+/// 1   X
+///  \ / \
+///   3---5
+/// ```
+const CRISS_CROSS: [Row<'static>; 5] = [
+    (1, 1, &[]),
+    (2, 2, &[1]),
+    (3, 2, &[1]),
+    (4, 3, &[2, 3]),
+    (5, 3, &[2, 3]),
+];
+
+/// The parent 1 is newer than its child 2.
+const OLDER_CHILD: [Row<'static>; 4] = [
+    (1, 50, &[]),
+    (2, 1, &[1]),
+    (3, 100, &[2, 1]),
+    (4, 90, &[2, 1]),
+];
+
+/// The commits between 5 and 2 are older than 2.
+const OLD_PATH: [Row<'static>; 7] = [
+    (9, 0, &[]),
+    (2, 50, &[9]),
+    (3, 0, &[2]),
+    (4, 0, &[9, 3]),
+    (5, 1, &[4]),
+    (6, 100, &[5, 2]),
+    (7, 90, &[5, 2]),
+];
+
+/// The history of a case.
+#[derive(Clone, Copy)]
+enum Table {
+    CrissCross,
+    OlderChild,
+    OldPath,
+}
+
+fn source(alloc: Global, table: Table) -> Result<MemorySource, Fail> {
+    match table {
+        Table::CrissCross => source_of(alloc, &CRISS_CROSS),
+        Table::OlderChild => source_of(alloc, &OLDER_CHILD),
+        Table::OldPath => source_of(alloc, &OLD_PATH),
+    }
+}
+
+fn ids(alloc: Global, numbers: &[u8]) -> Result<Vec<ObjectId>, Fail> {
+    let mut ids = Vec::new(alloc);
+    for n in numbers {
+        ids.push(id(*n))?;
+    }
+    Ok(ids)
+}
+
+/// Whether the answer is these bases, in any order.
+fn is_set<A: Allocator>(found: &Option<NonEmpty<ObjectId, A>>, bases: &[u8]) -> bool {
+    match found {
+        Some(list) => {
+            bases.len() == 1 + list.tail.len()
+                && bases
+                    .iter()
+                    .all(|n| list.head == id(*n) || list.tail.contains(&id(*n)))
+        }
+        None => bases.is_empty(),
+    }
+}
+
+#[test]
+fn bases_of_worked_histories(rt: HostRuntime) -> Result<(), Fail> {
+    let alloc = rt.alloc();
+    let cases: [(Table, u8, &[u8], &[u8]); 12] = [
+        // Nothing is looked up: there are no others, or the first is among them.
+        (Table::CrissCross, 9, &[], &[9]),
+        (Table::CrissCross, 9, &[1, 9], &[9]),
+        (Table::CrissCross, 4, &[5, 4, 4], &[4]),
+        // Both sides, several others, an ancestor, repeated others.
+        (Table::CrissCross, 4, &[5], &[2, 3]),
+        (Table::CrissCross, 5, &[4], &[2, 3]),
+        (Table::CrissCross, 4, &[2], &[2]),
+        (Table::CrissCross, 4, &[1, 3], &[3]),
+        (Table::CrissCross, 4, &[5, 5, 9, 5], &[2, 3]),
+        // One of the others is not in the source, or the first is not.
+        (Table::CrissCross, 4, &[9, 5], &[2, 3]),
+        (Table::CrissCross, 9, &[4], &[]),
+        // Wrong clocks.
+        (Table::OlderChild, 3, &[4], &[2]),
+        (Table::OldPath, 6, &[7], &[5]),
+    ];
+    for (table, first, numbers, bases) in cases {
+        let others = ids(alloc, numbers)?;
+        let mut graph = Graph::new(alloc, Counting::new(source(alloc, table)?));
+        for _ in 0..2u8 {
+            let found = merge_base(alloc, id(first), &others, &mut graph)?;
+            assert!(rt; is_set(&found, bases), "{first} and {numbers:?}");
+        }
+        if numbers.is_empty() || numbers.contains(&first) {
+            assert_eq!(rt; graph.source().questions(), 0);
+        }
+    }
+    Ok(())
+}
+
+#[test]
+fn each_id_is_asked_for_once(rt: HostRuntime) -> Result<(), Fail> {
+    let alloc = rt.alloc();
+    // 1 and 2 have a parent that the source lacks.
+    let rows: [Row<'static>; 3] = [(1, 1, &[9]), (2, 1, &[9]), (3, 2, &[1, 2])];
+    let mut graph = Graph::new(alloc, Counting::new(source_of(alloc, &rows)?));
+    let found = merge_base(alloc, id(3), &[id(9), id(2), id(9)], &mut graph)?;
+    assert!(rt; is_set(&found, &[2]));
+    assert_eq!(rt; graph.source().questions(), 4);
+    Ok(())
+}
+
+#[test]
+fn a_failing_look_up_is_answered_with_its_cause(rt: HostRuntime) -> Result<(), Fail> {
+    let alloc = rt.alloc();
+    let commit = "could not insert commit into graph";
+    let parent = "could not insert parent commit into graph";
+    for (turn, text) in [
+        (0, commit),
+        (1, commit),
+        (2, parent),
+        (3, parent),
+        (4, parent),
+    ] {
+        let failing = Failing::new(
+            source(alloc, Table::CrissCross)?,
+            Turn::After(turn),
+            FindFault::Failed,
+            0,
+        );
+        let mut graph = Graph::new(alloc, failing);
+        let refused = merge_base(alloc, id(4), &[id(5)], &mut graph);
+        match refused {
+            Err(error) => {
+                assert!(rt; error == Error::Source(Simple(text)), "look-up {turn}");
+                assert_eq!(rt; format!(in alloc; "{error}")?.as_str(), text);
+            }
+            Ok(_) => assert!(rt; false, "look-up {turn}"),
+        }
+        assert_eq!(rt; graph.source().faults(), 1);
+        let again = merge_base(alloc, id(4), &[id(5)], &mut graph)?;
+        assert!(rt; is_set(&again, &[2, 3]), "after look-up {turn}");
+        assert_eq!(rt; graph.source().faults(), 1);
+    }
+    let late = Failing::new(
+        source(alloc, Table::CrissCross)?,
+        Turn::After(5),
+        FindFault::Failed,
+        0,
+    );
+    let mut graph = Graph::new(alloc, late);
+    let found = merge_base(alloc, id(4), &[id(5)], &mut graph)?;
+    assert!(rt; is_set(&found, &[2, 3]));
+    assert_eq!(rt; graph.source().faults(), 0);
+    Ok(())
+}
+
+#[test]
+fn each_request_is_refused(rt: HostRuntime) -> Result<(), Fail> {
+    for before in 0..200u64 {
+        let refusing = Refusing::new(rt.alloc(), before);
+        let mut graph = Graph::new(&refusing, source(rt.alloc(), Table::CrissCross)?);
+        let found = merge_base(&refusing, id(4), &[id(5)], &mut graph);
+        if !refusing.has_refused() {
+            assert!(rt; before > 5, "too few requests");
+            assert!(rt; is_set(&found?, &[2, 3]));
+            return Ok(());
+        }
+        assert!(rt;
+            matches!(found, Err(Error::OutOfMemory)),
+            "request {before}"
+        );
+        let again = merge_base(&refusing, id(4), &[id(5)], &mut graph)?;
+        assert!(rt; is_set(&again, &[2, 3]), "after request {before}");
+    }
+    assert!(rt; false, "never enough");
+    Ok(())
+}
+
+#[test]
+fn want_of_memory_prints_its_text(rt: HostRuntime) -> Result<(), Fail> {
+    let alloc = rt.alloc();
+    assert_eq!(rt;
+        format!(in alloc; "{}", Error::OutOfMemory)?.as_str(),
+        "out of memory"
+    );
+    assert_eq!(rt;
+        format!(in alloc; "{}", Simple("a text"))?.as_str(),
+        "a text"
+    );
+    Ok(())
+}
+
+#[test]
+fn marks_have_their_bits(rt: HostRuntime) {
+    let both = Flags::from_bits_retain(3);
+    assert!(rt; both.contains(Flags::COMMIT1) && both.contains(Flags::COMMIT2));
+    assert!(rt; !both.contains(Flags::STALE) && !both.is_empty());
+    let mut marks = Flags::default();
+    marks.insert(Flags::STALE);
+    marks.insert(Flags::RESULT);
+    assert_eq!(rt; marks.bits(), 12);
+    marks.remove(Flags::STALE);
+    assert_eq!(rt; marks.bits(), 8);
+    assert_eq!(rt; Flags::all().bits(), 15);
+    assert!(rt; Flags::empty().is_empty());
+}
