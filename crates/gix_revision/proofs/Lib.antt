@@ -13,3 +13,9 @@ pub mod Lacked
 pub mod Least
 pub mod Faults
 pub mod Gather
+pub mod Choice
+pub mod Unreached
+pub mod Heads
+pub mod Results
+pub mod Calls
+pub mod OctopusLaws

@@ -46,6 +46,10 @@ one_of-take_cases xs i d q h member =
       | inr m ↦ inr (one_of-single _ q m)
     ]
 
+-- the first i + 1 members are the first i with the next at their end
+pub take_next : (xs : List ObjectId) (i : ℕ) (d : ObjectId) → i < length xs → take (i + 1) xs ≡ take i xs ++ (get_or xs i d ∷ [])
+take_next xs i d h = rw add-one (take-suc xs i d h)
+
 -- what a filter keeps
 pub one_of-filter : (p : ObjectId → Bool) (xs : List ObjectId) (q : ObjectId) → IsTrue (is_one_of (filter p xs) q) → IsTrue (is_one_of xs q) × IsTrue (p q)
 one_of-filter p [] q h = cc

@@ -8,7 +8,8 @@ use Rattle.gix_revision.specs.History.{History, entry_at, is_one_of, parents_in,
 use Rattle.gix_revision.specs.Bases.{IsCommon, IsMaximal, IsBase}
 use Rattle.gix_revision.specs.Walks.{all_visited}
 use Rattle.gix_revision.proofs.Members.{one_of-single, one_of-head}
-use Rattle.gix_revision.proofs.Walk.{Walked, walk_starts, walk_goes, walk_bounded, walk_ends}
+use Rattle.gix_revision.specs.History.IsAncestor.{further}
+use Rattle.gix_revision.proofs.Walk.{has_ancestor, Walked, walk_starts, walk_goes, walk_bounded, walk_ends}
 use Rattle.gix_revision.proofs.Maximal.{common_goes_down, common_has, common_ones}
 use Rattle.gix_revision.proofs.Above.{anc-trans, base_above}
 
@@ -40,6 +41,14 @@ best_above h f os acyclic c s =
     let ours = listed h (f ∷ []) f in
     let theirs = listed h os f in
     base_above h (IsCommon h f os) (filter (is_one_of theirs.0) ours.0) acyclic (common_goes_down h f os) (common_has h f os) (common_ones h f os ours.0 theirs.0 ours.1 theirs.1) c s
+
+-- each ancestor of one of ids lies below a best one
+pub one_above_all : (h : History) (ids : List ObjectId) → IsAcyclic h → (c : ObjectId) → IsAncestorOfOne h ids c
+    → (m : ObjectId) × IsMaximal h (IsAncestorOfOne h ids) m × IsAncestor h m c
+unfolding Listed
+one_above_all h ids acyclic c a =
+    let all = listed h ids c in
+    base_above h (IsAncestorOfOne h ids) all.0 acyclic (λ x y s e. (s.0, s.1, further x y s.2 e)) (λ x s. (has_ancestor h s.0 x s.2).0) all.1 c a
 
 -- below the bases of b and o lies what is below both
 pub bases_cover : (h : History) (b o : ObjectId) → IsAcyclic h → (c : ObjectId) → ((x : ObjectId) × IsBase h b (o ∷ []) x × IsAncestor h x c) ↔ (IsAncestor h b c × IsAncestor h o c)

@@ -1,5 +1,7 @@
 -- Laws of the definitions, each of them the contract of a function of the module `laws`.
-use Rattle.std.specs.Prelude.{◌≡◌, ◌↔◌, List, [], ◌∷◌, ◌++◌, Bool, IsTrue, not}
+use Rattle.std.specs.Prelude.{◌≡◌, ◌↔◌, List, [], ◌∷◌, ◌++◌, Bool, IsTrue, not, Option}
+use Rattle.std.specs.List.Sorted.{IsPermutation}
+use Rattle.gix_revision.specs.Octopus.{IsOctopusBase}
 use Rattle.gix_revision.specs.History.{History, Has, is_one_of, IsEdge, IsAcyclic, IsAncestor}
 use Rattle.gix_revision.specs.Bases.{IsMaximal, IsBase, is_empty}
 use Rattle.gix_base.specs.declared.hash.ObjectId.{ObjectId}
@@ -76,3 +78,17 @@ BasesCover =
     (h : History) (b o : ObjectId) → IsAcyclic h
     → (c : ObjectId)
     → ((x : ObjectId) × IsBase h b (o ∷ []) x × IsAncestor h x c) ↔ (IsAncestor h b c × IsAncestor h o c)
+
+-- the same ids, in whatever order and however often, have the same octopus base
+abbrev pub SameIdsSameOctopusBase : Type 0
+SameIdsSameOctopusBase =
+    (h : History) (f g : ObjectId) (os ps : List ObjectId) (r s : Option ObjectId)
+    → ((i : ObjectId) → Among (f ∷ os) i ↔ Among (g ∷ ps) i)
+    → IsOctopusBase h f os r → IsOctopusBase h g ps s → r ≡ s
+
+-- first and others may be given in any order
+abbrev pub OctopusBaseInAnyOrder : Type 0
+OctopusBaseInAnyOrder =
+    (h : History) (f g : ObjectId) (os ps : List ObjectId) (r s : Option ObjectId)
+    → IsPermutation (f ∷ os) (g ∷ ps)
+    → IsOctopusBase h f os r → IsOctopusBase h g ps s → r ≡ s

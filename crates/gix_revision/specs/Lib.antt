@@ -17,3 +17,6 @@ pub mod Refusals
 pub mod ErrorTexts
 pub mod GraphError
 pub mod Flags
+pub mod GenThenTime
+pub mod OctopusSteps
+pub mod Queries

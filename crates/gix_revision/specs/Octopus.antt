@@ -21,3 +21,7 @@ IsOctopusBase h f os r =
     MatchBool (list_all (same_id f) os) (r ≡ Some f)
     (MatchOption r ((c : ObjectId) → ¬ IsAncestorOfAll h (f ∷ os) c)
     (λ x. IsMaximal h (IsAncestorOfAll h (f ∷ os)) x × ((y : ObjectId) → IsMaximal h (IsAncestorOfAll h (f ∷ os)) y → IsTrue (is_gt (choice h x y)) → ⊥)))
+
+-- r is an ancestor of f and of all of os, and none only where they have none in common
+abbrev pub IsCommonToAll : History → ObjectId → List ObjectId → Option ObjectId → Type 0
+IsCommonToAll h f os r = MatchOption r ((c : ObjectId) → ¬ IsAncestorOfAll h (f ∷ os) c) (IsAncestorOfAll h (f ∷ os))

@@ -6,6 +6,12 @@ ghost use Rattle.gix_revision.specs.Laws.{EdgesJoinCommits, AncestorsHoldTheStar
 ghost use Rattle.gix_revision.specs.Laws.{AncestorsAreCommits, AncestorsAreLeast, NoneAreMutualAncestors};
 ghost use Rattle.gix_revision.specs.Laws.{MaximalAboveEach, MaximalExists, MaximalOfMaximal};
 ghost use Rattle.gix_revision.specs.Laws.{LackedChangesNoBases, BasesCover};
+ghost use Rattle.gix_revision.specs.Laws.{SameIdsSameOctopusBase, OctopusBaseInAnyOrder};
+ghost use Rattle.gix_base.specs.Laws.{OrderAgrees, OrderIs};
+ghost use Rattle.gix_revision.specs.GenThenTime.{key_order};
+
+use crate::merge_base::GenThenTime;
+use gix_base::laws::order_agrees;
 
 pub mod flags;
 #[cfg(test)]
@@ -63,3 +69,18 @@ pub fn lacked_changes_no_bases()
 pub fn bases_cover()
     ensures { BasesCover }
 {}
+
+/// The octopus base depends on the set of ids alone: wherever two calls for the same ids answer,
+/// they answer alike, in any order of `first` and `others` together.
+pub fn octopus_base_is_of_the_set()
+    ensures same_ids { SameIdsSameOctopusBase }
+    ensures any_order { OctopusBaseInAnyOrder }
+{}
+
+/// Keys are ordered by generation, then by time, and `Ord` agrees with `==`.
+pub fn keys_are_ordered()
+    ensures order { OrderIs ⟦<GenThenTime as Ord>⟧.cmp key_order }
+    ensures agrees { OrderAgrees ⟦<GenThenTime as Ord>⟧.cmp ⟦<GenThenTime as PartialEq>⟧.eq }
+{
+    order_agrees::<GenThenTime>();
+}
