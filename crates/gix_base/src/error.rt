@@ -4,7 +4,10 @@ ghost use Rattle.gix_base.specs.NonEmpty.{all_of, left_of};
 ghost use Rattle.std.specs.Iterator.{YieldsFirstRef, item_count};
 ghost use Rattle.std.specs.Prelude.{◌≡◌, ◌∷◌, [], IfSome, IsNone, None, Some, false, true, codes, length, min, slice_get, ◌↔◌};
 
+mod message;
+
 use bstr::BString;
+pub use message::Message;
 use std::alloc::{Allocator, Global};
 use std::borrow::CowStr;
 use std::slice::Iter;

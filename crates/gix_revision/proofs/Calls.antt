@@ -1,11 +1,11 @@
 -- Lists of calls on one graph.
-use Rattle.std.proofs.Common.{arith, ◌≡◌, ℕ, Bool, true, false, cond, refl, ap, sym, subst, ◌∙◌, List, [], ◌∷◌, ◌++◌, ◌⊎◌, inl, inr, ◌<◌, ◌≤◌, ◌+◌, ◌-◌, ◌^◌, take, length, get_or}
+use Rattle.std.proofs.Common.{arith, ◌≡◌, ℕ, true, false, cond, refl, ap, subst, ◌∙◌, List, [], ◌∷◌, ◌++◌, ◌⊎◌, inl, inr, ◌<◌, ◌≤◌, ◌+◌, ◌-◌, ◌^◌, take, length, get_or}
 use Rattle.std.proofs.Common.{add-one}
 use Rattle.std.proofs.Math.Seq.{take-suc}
 use Rattle.std.specs.List.{filter}
 use Rattle.gix_revision.specs.History.{History}
 use Rattle.gix_revision.specs.Graph.{Graphed}
-use Rattle.gix_revision.specs.Queries.{IsRight, AreRight, FewRefused, HasCauseIfRefused, is_refused_by_source, IsCall, AreCalls}
+use Rattle.gix_revision.specs.Queries.{AreRight, FewRefused, HasCauseIfRefused, is_refused_by_source, IsCall, AreCalls}
 use Rattle.gix_revision.specs.declared.graph.commit.Commit.{Commit}
 use Rattle.gix_revision.specs.declared.merge_base.flags.Flags.{Flags}
 use Rattle.gix_revision.specs.declared.merge_base.error.Error.TheVariants.{Source, OutOfMemory}

@@ -1,14 +1,14 @@
 -- The order of choice, and the first choice of a list.
-use Rattle.std.proofs.Common.{◌≡◌, ℕ, Bool, true, false, cond, refl, ap, sym, subst, ◌∙◌, List, [], ◌∷◌, ◌++◌, ◌⊎◌, inl, inr, IsTrue, Option, Some, None, ◌<◌, ◌+◌, take, length, get_or}
+use Rattle.std.proofs.Common.{◌≡◌, ℕ, Bool, true, false, cond, refl, ap, sym, subst, ◌∙◌, List, [], ◌∷◌, ◌++◌, inl, inr, IsTrue, Option, Some, None, ◌<◌, ◌+◌, take, length, get_or}
 use Rattle.std.specs.Option.{MatchOption, option_map}
 use Rattle.std.specs.declared.cmp.Ordering.{Ordering}
 use Rattle.std.specs.declared.cmp.Ordering.TheVariants.{Less, Equal, Greater}
-use Rattle.std.specs.Ordering.{nat_cmp, int_cmp, on, flip_args, is_gt, is_eq, ordering_then, ordering_reverse}
-use Rattle.std.specs.Cmp.{IsTotalOrder, upto, tied_itself, Equal-is}
+use Rattle.std.specs.Ordering.{nat_cmp, int_cmp, is_gt, is_eq, ordering_then, ordering_reverse}
+use Rattle.std.specs.Cmp.{IsTotalOrder, upto, tied_itself}
 use Rattle.std.specs.Cmp.Lexicographic.{slice_cmp, texts_ties}
 use Rattle.std.proofs.lemmas.Cmp.{then_total, back_total, on_total, nat_cmp_total, int_cmp_total, nat_list_cmp_total}
 use Rattle.gix_base.specs.declared.hash.ObjectId.{ObjectId}
-use Rattle.gix_revision.specs.History.{History, is_one_of, generation_of, time_of}
+use Rattle.gix_revision.specs.History.{History, generation_of, time_of}
 use Rattle.gix_revision.specs.Octopus.{choice}
 use Rattle.gix_revision.specs.OctopusSteps.{IsFirstChoice, IsBestOf, candidate_at, preference, better_of}
 use Rattle.gix_revision.specs.declared.merge_base.heads.Candidate.{Candidate}

@@ -1,7 +1,6 @@
 -- How an octopus goes from head to head.
 use Rattle.std.proofs.Common.{◌≡◌, ℕ, Bool, true, false, refl, ap, sym, subst, ◌∙◌, List, [], ◌∷◌, ◌++◌, ◌⊎◌, inl, inr, ◌||◌, ◌&&◌, IsTrue, ◌↔◌, Option, Some, None, ◌<◌, ◌+◌, take, length, get_or}
 use Rattle.std.specs.Bool.{MatchBool}
-use Rattle.std.specs.Option.{MatchOption}
 use Rattle.std.specs.List.{list_all}
 use Rattle.std.proofs.lemmas.Bool.{or_cases}
 use Rattle.std.proofs.Math.Bool.{or-true}
@@ -9,10 +8,10 @@ use Rattle.std.proofs.lemmas.List.Folds.{list_all-append}
 use Rattle.gix_base.specs.declared.hash.ObjectId.{ObjectId}
 use Rattle.gix_revision.specs.History.{History, same_id, is_one_of, Has, IsAncestor, IsAncestorOfOne, IsAncestorOfAll, IsAcyclic}
 use Rattle.gix_revision.specs.History.IsAncestor.{itself}
-use Rattle.gix_revision.specs.Bases.{IsCommon, IsMaximal, CoverBases, is_plain}
+use Rattle.gix_revision.specs.Bases.{IsCommon, CoverBases, is_plain}
 use Rattle.gix_revision.specs.Octopus.{IsOctopusBase, IsCommonToAll}
 use Rattle.gix_revision.specs.OctopusSteps.{IsCommonWith, AddsBases, CoversEach, AreApart, AreUnreached, IsStep, AreOctopusBases, IsBestOf}
-use Rattle.gix_revision.proofs.Ids.{same_id-true, same_id-equal}
+use Rattle.gix_revision.proofs.Ids.{same_id-equal}
 use Rattle.gix_revision.proofs.Members.{one_of-left, one_of-right, one_of-cases, one_of-single, one_of-head, take_next}
 use Rattle.gix_revision.proofs.Walk.{has_ancestor}
 use Rattle.gix_revision.proofs.Above.{anc-trans}

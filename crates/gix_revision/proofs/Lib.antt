@@ -19,3 +19,17 @@ pub mod Heads
 pub mod Results
 pub mod Calls
 pub mod OctopusLaws
+pub mod WalkFrom
+pub mod Follows
+pub mod Counts
+pub mod Sizes
+pub mod WalkRefusals
+pub mod NearestSteps
+pub mod Measures
+pub mod Describes
+pub mod FallingSizes
+pub mod ExactDepth
+pub mod HexText
+pub mod NamesCopied
+pub mod DescribeCalls
+pub mod FormatsEqual

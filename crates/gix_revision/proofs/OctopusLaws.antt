@@ -1,11 +1,11 @@
 -- The octopus base depends on the set of ids alone.
-use Rattle.std.proofs.Common.{◌≡◌, Bool, true, false, refl, ap, sym, subst, ◌∙◌, List, [], ◌∷◌, ◌&&◌, IsTrue, ◌↔◌, Option, Some, None, inl, inr}
+use Rattle.std.proofs.Common.{◌≡◌, Bool, true, false, refl, ap, sym, ◌∙◌, List, [], ◌∷◌, ◌&&◌, IsTrue, ◌↔◌, Option, Some, None, inl, inr}
 use Rattle.std.specs.Bool.{MatchBool}
 use Rattle.std.specs.Option.{MatchOption}
 use Rattle.std.specs.List.{list_all}
 use Rattle.std.specs.Ordering.{is_gt}
 use Rattle.gix_base.specs.declared.hash.ObjectId.{ObjectId}
-use Rattle.gix_revision.specs.History.{History, same_id, is_one_of, IsAncestor, IsAncestorOfAll}
+use Rattle.gix_revision.specs.History.{History, same_id, is_one_of, IsAncestorOfAll}
 use Rattle.gix_revision.specs.Bases.{IsMaximal}
 use Rattle.gix_revision.specs.Octopus.{IsOctopusBase, choice}
 use Rattle.gix_revision.proofs.Ids.{same_id-true, same_id-equal}

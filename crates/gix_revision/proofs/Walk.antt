@@ -89,7 +89,7 @@ pub record Walked (h : History) (starts seen : List ObjectId) (i : ℕ) : Type 0
   pub begun : (o : ObjectId) → IsTrue (is_one_of starts o) → Has h o → IsTrue (is_one_of seen o)
   pub closed : (x q : ObjectId) → IsTrue (is_one_of (take i seen) x) → IsEdge h x q → IsTrue (is_one_of seen q)
 
-nothing : IsDistinct same_id []
+pub nothing : IsDistinct same_id []
 unfolding IsDistinct
 nothing = tt
 

@@ -20,3 +20,15 @@ pub mod Flags
 pub mod GenThenTime
 pub mod OctopusSteps
 pub mod Queries
+pub mod Followed
+pub mod Sizes
+pub mod Ahead
+pub mod Described
+pub mod DescribeRefusals
+pub mod Nearest
+pub mod Outcomes
+pub mod DescribeLaws
+pub mod FormatText
+pub mod Copies
+pub mod DescribeQueries
+pub mod FormatLaws

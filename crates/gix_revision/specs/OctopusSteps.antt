@@ -1,5 +1,5 @@
 -- How an octopus goes from head to head: with each head it follows every base that it has.
-use Rattle.std.specs.Prelude.{◌≡◌, ◌↔◌, ◌⊎◌, ℕ, ℤ, List, [], ◌∷◌, IsTrue, MatchBool, MatchOption, Option, Some, None, cond}
+use Rattle.std.specs.Prelude.{◌≡◌, ◌↔◌, ◌⊎◌, List, [], ◌∷◌, IsTrue, MatchBool, MatchOption, Option, Some, None, cond}
 use Rattle.std.specs.Ordering.{nat_cmp, int_cmp, ordering_then, is_gt}
 use Rattle.std.specs.Cmp.Lexicographic.{slice_cmp}
 use Rattle.std.specs.declared.cmp.Ordering.{Ordering}
@@ -7,7 +7,6 @@ use Rattle.gix_base.specs.declared.hash.ObjectId.{ObjectId}
 use Rattle.gix_revision.specs.History.{History, is_one_of, generation_of, time_of, IsAncestor, IsAncestorOfOne, IsAncestorOfAll}
 use Rattle.gix_revision.specs.Bases.{IsCommon, IsMaximal, is_plain}
 use Rattle.gix_revision.specs.Octopus.{choice}
-use Rattle.gix_revision.specs.declared.merge_base.gen_then_time.GenThenTime.{GenThenTime}
 use Rattle.gix_revision.specs.declared.merge_base.heads.Candidate.{Candidate}
 
 -- c may be answered for b and o: it is b where they are equal, else it is common to both

@@ -1,16 +1,14 @@
--- The pairs of a queue.
-use Rattle.std.specs.Prelude.{◌≡◌, List, map, false}
-use Rattle.std.specs.List.{AllByRecursion}
-use Rattle.std.specs.BinaryHeap.{lt_by_cmp}
+-- What a queue has: a multiset of pairs of a key and a value.
+use Rattle.std.specs.Prelude.{◌≡◌, List, map, All, false}
+use Rattle.std.specs.Ordering.{is_lt}
+use Rattle.std.specs.Slice.Iter.{iter_rest}
 use Rattle.std.specs.declared.cmp.Ordering.{Ordering}
-use Rattle.gix_revision.specs.declared.queue.Entry.{Entry}
+use Rattle.gix_revision.specs.declared.queue.IterUnordered.{IterUnordered}
 
-abbrev pub pairs_of : {K T : Type 0} → List (Entry K T) → List (K × T)
-pairs_of es = map (λ e. (e.key, e.value)) es
+-- no pair has a key that is greater than k
+abbrev pub IsGreatest : {K T : Type 0} → (K → K → Ordering) → K → List (K × T) → Type 0
+IsGreatest compare k ps = All (λ p. is_lt (compare k p.0) ≡ false) ps
 
-abbrev pub by_key : {K T : Type 0} → (K → K → Ordering) → Entry K T → Entry K T → Ordering
-by_key R a b = R a.key b.key
-
--- k is less than the key of no pair
-abbrev pub NoneGreater : {K T : Type 0} → (K → K → Ordering) → K → List (K × T) → Type 0
-NoneGreater R k ps = AllByRecursion (λ p. lt_by_cmp R k p.0 ≡ false) ps
+-- the values that are still to come
+abbrev pub values_left : {K T : Type 0} → IterUnordered K T → List T
+values_left it = map (λ e. e.value) (iter_rest it.entries)

@@ -1,11 +1,27 @@
--- What the sources for tests stand before.
-use Rattle.std.specs.Prelude.{ℕ}
+-- The sources for tests: what they stand before, and whose turn it is.
+use Rattle.std.specs.Prelude.{ℕ, ◌-◌, Bool, true, false, nat_eq, if◌then◌else◌}
+use Rattle.gix_base.specs.declared.hash.ObjectId.{ObjectId}
+use Rattle.gix_revision.specs.History.{same_id}
+use Rattle.gix_revision.specs.declared.graph.testing.Turn.{Turn}
+use Rattle.gix_revision.specs.declared.graph.testing.Turn.TheVariants.{After, For, Never}
 use Rattle.gix_revision.specs.declared.graph.testing.Failing.{Failing}
 use Rattle.gix_revision.specs.declared.graph.testing.Counting.{Counting}
 
 -- the source that answers where nothing is refused
 abbrev pub source_behind : {F : Type 0} → Failing F → F
 source_behind s = s.inner
+
+-- whether a look-up for id is refused
+abbrev pub is_turn : Turn → ObjectId → Bool
+is_turn (After before) id = nat_eq before 0
+is_turn (For bad) id = same_id bad id
+is_turn Never id = false
+
+-- whose turn it is after a look-up
+abbrev pub next_turn : Turn → Turn
+next_turn (After before) = if nat_eq before 0 then Never else After (before - 1)
+next_turn (For bad) = For bad
+next_turn Never = Never
 
 -- how many look-ups failed
 abbrev pub failing_count : {F : Type 0} → Failing F → ℕ

@@ -14,6 +14,8 @@ use crate::merge_base::GenThenTime;
 use gix_base::laws::order_agrees;
 
 pub mod flags;
+pub mod formats;
+pub mod sizes;
 #[cfg(test)]
 mod tests;
 

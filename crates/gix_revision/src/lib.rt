@@ -1,7 +1,21 @@
-//! Merge bases, described commits and revision texts over a graph of commits.
+//! Merge bases, described commits and revision texts over a graph of commits, each answer proved.
+//!
+//! `merge_base::merge_base` answers the best common ancestors of commits, `merge_base::octopus` the
+//! one that many heads go back to, `describe::describe` the name of a commit by its nearest named
+//! ancestor; `spec::parse::parse` reads a revision text and tells a delegate what it says. The graph
+//! that the first three walk is taken from a source that implements [`graph::Find`], and is used again
+//! from call to call.
 #![tactic(auto)]
 
+pub mod describe;
 pub mod graph;
 pub mod laws;
 pub mod merge_base;
 pub mod queue;
+mod seen;
+
+pub use gix_base::{date, error, hash, object};
+pub use gix_spec::spec;
+pub use gix_spec::spec::Spec;
+pub use graph::Graph;
+pub use queue::PriorityQueue;

@@ -8,7 +8,6 @@ pub(crate) mod gather;
 pub mod gen_then_time;
 pub mod heads;
 pub mod queries;
-pub(crate) mod seen;
 #[cfg(test)]
 mod tests;
 

@@ -1,14 +1,12 @@
 -- What the digits of an id are.
-use Rattle.std.proofs.Common.{◌≡◌, ℕ, ◌+◌, ◌*◌, ◌%◌, ◌<◌, ◌==◌, List, [], ◌∷◌, Bool, true, false, length, refl, sym, ◌∙◌, arith}
+use Rattle.std.proofs.Common.{◌≡◌, ℕ, ◌==◌, List, [], ◌∷◌, Bool, true, false, length, refl, arith}
 use Rattle.std.proofs.lemmas.Bool.{eqb-true}
 use Rattle.std.specs.List.{AllPass}
 use Rattle.std.specs.Str.{str_to_ascii_lowercase}
-use Rattle.hex.specs.Hex.{IsBytes, lower_digits, encode_lower, is_hex_digit}
-use Rattle.hex.proofs.HexLemmas.{length-encode_with, decode_of-encode_lower, decode_of-ok, decode_of-even}
-use Rattle.gix_base.specs.Hash.{id_text}
+use Rattle.hex.specs.Hex.{is_hex_digit}
+use Rattle.gix_base.specs.Hash.{id_text, IsId}
 use Rattle.gix_base.specs.declared.hash.ObjectId.{ObjectId}
-use Rattle.gix_base.proofs.HexBack.{encode-decode_pairs}
-use Rattle.gix_spec.specs.Heard.{IsId}
+use Rattle.gix_base.proofs.ReadBack.{length-id_text, AreDigits-digits_of, lower-digits_of}
 
 -- forty hex digits, in lower case
 pub record AreForty (text : List ℕ) : Type 0 where
@@ -17,15 +15,7 @@ pub record AreForty (text : List ℕ) : Type 0 where
   pub lower : str_to_ascii_lowercase text ≡ text
 
 pub id_text-forty : (a : ObjectId) → IsId a → AreForty (id_text a)
-id_text-forty a h =
-    let twice = length-encode_with lower_digits a.0 in
-    let back = decode_of-encode_lower a.0 h.1 in
-    let even : length (id_text a) % 2 ≡ 0 = omega (arith, twice) in
-    record {
-      forty = omega (arith, twice, h.0);
-      digits = (decode_of-ok (id_text a) a.0 back).1;
-      lower = sym (encode-decode_pairs 0 (id_text a) a.0 (sym (decode_of-even (id_text a) even) ∙ back));
-    }
+id_text-forty a h = record { forty = length-id_text a h; digits = AreDigits-digits_of a.0 h.1; lower = lower-digits_of a.0 h.1 }
 
 -- a byte that is no digit is none of them
 apart : (b c : ℕ) → is_hex_digit b ≡ true → is_hex_digit c ≡ false → (same : Bool) → (b == c) ≡ same → same ≡ false

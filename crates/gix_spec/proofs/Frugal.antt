@@ -3,7 +3,7 @@ use Rattle.std.proofs.Common.{◌≡◌, ℕ, List, [], ◌∷◌, ◌++◌, ◌
 use Rattle.gix_spec.specs.declared.spec.Kind.{Kind}
 use Rattle.gix_spec.specs.Pieces.{Piece, head, range}
 use Rattle.gix_spec.specs.Trees.{takes_one, takes_memory}
-use Rattle.gix_spec.specs.Reading.{Read, named, revision_at, forty_digits, implied_head, end_at, second_side, range_at, after_first, range_mark, sides_at, excluded_at, text_at, exclude_mark, pieces_where, pieces_of, unread_of}
+use Rattle.gix_spec.specs.Reading.{named, revision_at, forty_digits, implied_head, end_at, second_side, after_first, range_mark, sides_at, excluded_at, text_at, exclude_mark, pieces_where, pieces_of, unread_of}
 use Rattle.gix_spec.specs.Ends.{TakesNoneWithoutBraces}
 
 or_false : (a b c : Bool) → (a || b) ≡ false → (b ≡ false → c ≡ false) → (a || c) ≡ false

@@ -6,12 +6,12 @@ use Rattle.gix_spec.specs.declared.spec.Kind.{Kind}
 use Rattle.gix_spec.specs.declared.spec.parse.fault.Fault.{Fault}
 use Rattle.gix_spec.specs.Call.{Call, find_ref, prefix, reflog as asks_reflog, branch as asks_branch, sibling as asks_sibling, kind, traverse, peel as asks_peel, find, index as asks_index, done}
 use Rattle.gix_spec.specs.Answer.{Answer, accepted, refused}
-use Rattle.gix_spec.specs.Tree.{Tree, Leaf, leaf, ask, takes, fine, faulty}
-use Rattle.gix_spec.specs.Run.{IsRun, at_leaf, goes_on, turns, runs_out, has_room, has_none, IsBeginning, stops, begins_accepted, begins_refused, begins_room, ended}
+use Rattle.gix_spec.specs.Tree.{Tree, leaf, ask, takes, fine, faulty}
+use Rattle.gix_spec.specs.Run.{IsRun, at_leaf, goes_on, turns, has_room, IsBeginning, stops, begins_accepted, begins_refused, begins_room, ended}
 use Rattle.gix_spec.specs.Context.{Context, start}
 use Rattle.gix_spec.specs.Pieces.{Piece, exclude, regex, index, head, name, branch, reflog, sibling, date, unescaped, step, peel, path, closer, without_parent, range, finish, finished, fault}
 use Rattle.gix_spec.specs.Trees.{tree_of, of_reference, at_time, repeat}
-use Rattle.gix_spec.specs.Reading.{pieces_of, pieces_where, unread_of, text_at, excluded_at, exclude_mark, sides_at, after_first, range_at, range_mark, second_side, implied_head, end_at, revision_at}
+use Rattle.gix_spec.specs.Reading.{pieces_of, pieces_where, unread_of, text_at, excluded_at, exclude_mark, sides_at, after_first, range_mark, second_side, implied_head, end_at, revision_at}
 use Rattle.gix_spec.specs.Ends.{Records, DoneIsLast, EndsInDone, ReadsAll}
 
 abbrev is_done : Call → Bool

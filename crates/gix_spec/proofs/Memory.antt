@@ -1,12 +1,12 @@
 -- Where no piece takes memory, the parse itself never wants any.
-use Rattle.std.proofs.Common.{◌⊎◌, inl, inr, ◌≡◌, ℕ, List, [], ◌∷◌, Option, Some, None, Bool, true, false, Result, Ok, Err, refl, IsErrOf}
+use Rattle.std.proofs.Common.{inl, inr, ◌≡◌, ℕ, List, [], ◌∷◌, Option, Some, None, Bool, true, false, Result, Ok, Err, IsErrOf}
 use Rattle.gix_base.specs.declared.error.Exn.{Exn}
 use Rattle.gix_spec.specs.declared.spec.parse.Error.{Error}
 use Rattle.gix_spec.specs.declared.spec.parse.Error.TheVariants.{OutOfMemory, Refused}
 use Rattle.gix_spec.specs.Call.{Call}
 use Rattle.gix_spec.specs.Answer.{Answer}
 use Rattle.gix_spec.specs.Tree.{Tree, leaf, ask, takes}
-use Rattle.gix_spec.specs.Run.{IsRun, at_leaf, goes_on, turns, runs_out, has_room, has_none, Outcome, without_memory, short_of_memory}
+use Rattle.gix_spec.specs.Run.{IsRun, goes_on, turns, has_room, has_none, without_memory, short_of_memory}
 use Rattle.gix_spec.specs.Context.{Context}
 use Rattle.gix_spec.specs.Pieces.{Piece, exclude, regex, index, head, name, branch, reflog, sibling, date, unescaped, step, peel, path, closer, without_parent, range, finish, finished, fault}
 use Rattle.gix_spec.specs.Trees.{tree_of, takes_memory, of_reference, repeat}

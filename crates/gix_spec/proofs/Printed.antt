@@ -1,27 +1,26 @@
 -- A printed spec is read as what it was printed from.
-use Rattle.std.proofs.Common.{◌≡◌, ℕ, ◌+◌, ◌<◌, ◌≤◌, ◌==◌, List, [], ◌∷◌, ◌++◌, Bool, true, false, Option, Some, None, length, take, drop, codes, refl, sym, ap, ◌∙◌, arith, append_assoc, append-nil, length-append}
+use Rattle.std.proofs.Common.{◌≡◌, ℕ, ◌+◌, ◌≤◌, ◌==◌, List, [], ◌∷◌, ◌++◌, Bool, true, false, Some, None, length, take, drop, refl, sym, ap, arith, append_assoc, append-nil, length-append}
 use Rattle.std.proofs.lemmas.Bool.{eqb-true}
 use Rattle.std.proofs.lemmas.List.{take_at, drop_at}
-use Rattle.std.specs.Str.{str_to_ascii_lowercase}
 use Rattle.gix_base.specs.declared.error.Exn.{Exn}
 use Rattle.gix_base.specs.declared.date.Time.{Time}
 use Rattle.gix_base.specs.declared.hash.ObjectId.{ObjectId}
-use Rattle.gix_base.specs.Hash.{id_text}
+use Rattle.gix_base.specs.Hash.{id_text, IsId}
 use Rattle.gix_spec.specs.declared.spec.Kind.{Kind}
 use Rattle.gix_spec.specs.declared.spec.Kind.TheVariants.{RangeBetween, ReachableToMergeBase}
 use Rattle.gix_spec.specs.declared.spec.Spec.TheVariants.{Include, Exclude, Range, Merge}
 use Rattle.gix_spec.specs.Call.{Call}
-use Rattle.gix_spec.specs.Answer.{Answer, accepted, refused, no_memory}
+use Rattle.gix_spec.specs.Answer.{accepted, refused, no_memory}
 use Rattle.gix_spec.specs.Tree.{Tree, Leaf, leaf, ask, takes}
 use Rattle.gix_spec.specs.Run.{IsRun, at_leaf, goes_on, turns, runs_out, has_room, has_none, Outcome, ended}
 use Rattle.gix_spec.specs.Context.{start}
 use Rattle.gix_spec.specs.Pieces.{Piece, exclude, name, range, finish}
 use Rattle.gix_spec.specs.Trees.{tree_of, takes_memory}
-use Rattle.gix_spec.specs.Reading.{Read, pieces_of, pieces_where, unread_of, text_at, exclude_mark, sides_at, range_mark, second_side, implied_head, revision_at, named, forty_digits}
-use Rattle.gix_spec.specs.Heard.{Accepts, ReadsBack, IsId, PrintedReadsBack}
+use Rattle.gix_spec.specs.Reading.{Read, pieces_of, unread_of, text_at, exclude_mark, sides_at, range_mark, second_side, implied_head, revision_at}
+use Rattle.gix_spec.specs.Heard.{Accepts, ReadsBack, PrintedReadsBack}
 use Rattle.gix_spec.proofs.Memory.{IsFrugal, tree_frugal}
 use Rattle.gix_spec.proofs.Readings.{forty_digits-found}
-use Rattle.gix_spec.proofs.Digits.{AreForty, id_text-forty, HasFirst, first_of}
+use Rattle.gix_spec.proofs.Digits.{AreForty, id_text-forty, first_of}
 
 -- the calls where all are accepted, and the leaf where they end
 abbrev calls_of : Tree → List Call

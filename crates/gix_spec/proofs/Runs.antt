@@ -1,18 +1,18 @@
 -- How what the parts of a parse do joins into runs.
-use Rattle.std.proofs.Common.{◌⊎◌, inl, inr, option_map, Bor, ◌≡◌, ℕ, List, [], ◌∷◌, ◌++◌, Option, Some, None, cond, Bool, true, false, Result, Ok, Err, refl, append_assoc, append-nil, IsErrAnd, IsErrOf}
+use Rattle.std.proofs.Common.{inl, inr, option_map, Bor, ◌≡◌, ℕ, List, [], ◌∷◌, ◌++◌, Option, None, cond, Bool, true, false, Result, Ok, Err, append_assoc, append-nil, IsErrAnd}
 use Rattle.gix_base.specs.declared.error.Exn.{Exn, out-Exn}
 use Rattle.gix_spec.specs.declared.spec.parse.fault.Fault.{Fault}
 use Rattle.gix_spec.specs.declared.spec.parse.Error.{Error}
 use Rattle.gix_spec.specs.declared.spec.parse.Error.TheVariants.{OutOfMemory, Refused}
 use Rattle.gix_spec.specs.Call.{Call}
 use Rattle.gix_spec.specs.Answer.{Answer, answer_of, refused, no_memory}
-use Rattle.gix_spec.specs.Tree.{Tree, leaf, ask, takes, fine, faulty}
+use Rattle.gix_spec.specs.Tree.{Tree, fine, faulty}
 use Rattle.gix_spec.specs.Run.{IsRun, at_leaf, goes_on, turns, runs_out, has_room, has_none, IsBeginning, stops, begins_accepted, begins_refused, begins_out, begins_room, Outcome, ended, without_memory, short_of_memory}
 use Rattle.gix_spec.specs.Context.{Context}
-use Rattle.gix_spec.specs.Pieces.{Piece, unescaped, fault}
+use Rattle.gix_spec.specs.Pieces.{Piece, fault}
 use Rattle.gix_spec.specs.Trees.{tree_of, demand}
 use Rattle.gix_spec.specs.Parse.{Fails, Parses}
-use Rattle.gix_spec.specs.Performs.{Leads, GoesTo, Performs, DemandedBy, Demanded, TellsOf}
+use Rattle.gix_spec.specs.Performs.{Leads, GoesTo, Performs, DemandedBy, Demanded}
 
 module _ {S : Type 0} (by : S → Call → Answer → S → Type 0) where
   -- a run that a part ended, seen from further back

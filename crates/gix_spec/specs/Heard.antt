@@ -1,9 +1,8 @@
 -- What a delegate hears of a printed spec that accepts every call.
-use Rattle.std.specs.Prelude.{◌≡◌, ℕ, List, [], ◌∷◌, ◌++◌, None, length}
-use Rattle.hex.specs.Hex.{IsBytes}
+use Rattle.std.specs.Prelude.{◌≡◌, List, [], ◌∷◌, ◌++◌, None}
 use Rattle.gix_base.specs.declared.date.Time.{Time}
 use Rattle.gix_base.specs.declared.hash.ObjectId.{ObjectId}
-use Rattle.gix_base.specs.Hash.{id_text}
+use Rattle.gix_base.specs.Hash.{id_text, IsId}
 use Rattle.gix_spec.specs.declared.spec.Spec.{Spec}
 use Rattle.gix_spec.specs.declared.spec.Spec.TheVariants.{Include, Exclude, Range, Merge, IncludeOnlyParents, ExcludeParents}
 use Rattle.gix_spec.specs.Call.{Call, prefix, kind, done}
@@ -34,10 +33,6 @@ heard_of (ExcludeParents a) = id_call a ∷ kind (kind_of (ExcludeParents a)) �
 abbrev pub ReadsBack : Spec → Type 0
 ReadsBack spec = (now : Time) (s : List Call) (o : Outcome) → IsRun Accepts [] (meaning_of (spec_text spec) now) s o →
     (s ≡ heard_of spec) × (o ≡ ended fine)
-
--- an id has twenty bytes
-abbrev pub IsId : ObjectId → Type 0
-IsId a = (length a.0 ≡ 20) × IsBytes a.0
 
 -- the forms that are read today
 abbrev pub PrintedReadsBack : Type 0

@@ -13,5 +13,4 @@ pub mod Faults
 pub mod Sibling
 pub mod Ends
 pub mod Heard
-pub mod Agree
 pub mod Orders

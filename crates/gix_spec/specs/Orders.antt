@@ -1,5 +1,5 @@
 -- The orders of specs, kinds and arguments: by case as they are declared, then by what the case holds.
-use Rattle.std.specs.Prelude.{◌≡◌, ℕ, List, []}
+use Rattle.std.specs.Prelude.{ℕ, List, []}
 use Rattle.std.specs.declared.cmp.Ordering.{Ordering}
 use Rattle.std.specs.Ordering.{nat_cmp, ordering_then}
 use Rattle.std.specs.Cmp.Lexicographic.{slice_cmp}
@@ -12,10 +12,6 @@ use Rattle.gix_spec.specs.declared.spec.parse.delegate.Traversal.TheVariants.{Nt
 use Rattle.gix_spec.specs.declared.spec.parse.delegate.SiblingBranch.{SiblingBranch}
 use Rattle.gix_spec.specs.declared.spec.parse.delegate.SiblingBranch.TheVariants.{Upstream, Push}
 use Rattle.gix_spec.specs.Printed.{kind_of}
-
--- an order answers what its definition says
-abbrev pub OrderIs : {T : Type 0} → (T → T → Ordering) → (T → T → Ordering) → Type 0
-OrderIs {T} order definition = (a b : T) → order a b ≡ definition a b
 
 -- kinds of specs
 abbrev pub place_of : Kind → ℕ

@@ -1,6 +1,6 @@
 -- What a parse answers: its state and its result are a run of the tree.
 use Rattle.gix_base.specs.declared.date.Time.{Time}
-use Rattle.std.specs.Prelude.{ℕ, List, ◌⊎◌, ◌≡◌, option_map, Result, Ok, Err}
+use Rattle.std.specs.Prelude.{ℕ, List, ◌⊎◌, option_map, Result, Ok, Err}
 use Rattle.gix_spec.specs.declared.spec.parse.Error.{Error}
 use Rattle.gix_spec.specs.declared.spec.parse.Error.TheVariants.{OutOfMemory, Refused}
 use Rattle.gix_spec.specs.Call.{Call}

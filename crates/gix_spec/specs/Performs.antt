@@ -1,5 +1,5 @@
 -- What a part of a parse does to the run, whatever follows it.
-use Rattle.std.specs.Prelude.{Bool, true, false, option_map, ◌≡◌, ℕ, List, ◌++◌, Option, Some, None, Result, Ok, Err}
+use Rattle.std.specs.Prelude.{true, false, option_map, ◌≡◌, ℕ, List, ◌++◌, Option, Some, None, Result, Ok, Err}
 use Rattle.gix_base.specs.declared.error.Exn.{Exn, out-Exn}
 use Rattle.gix_spec.specs.declared.spec.parse.fault.Fault.{Fault}
 use Rattle.gix_spec.specs.declared.spec.parse.Error.{Error}

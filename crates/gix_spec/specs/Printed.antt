@@ -1,5 +1,5 @@
 -- Printed specs: gitrevisions, "Specifying Ranges".
-use Rattle.std.specs.Prelude.{ℕ, List, [], ◌∷◌, ◌++◌, codes}
+use Rattle.std.specs.Prelude.{ℕ, List, ◌++◌, codes}
 use Rattle.gix_base.specs.Hash.{id_text}
 use Rattle.gix_spec.specs.declared.spec.Kind.{Kind}
 use Rattle.gix_spec.specs.declared.spec.Kind.TheVariants as kinds

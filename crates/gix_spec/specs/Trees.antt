@@ -1,6 +1,5 @@
 -- The tree that the pieces of a text mean.
 use Rattle.std.specs.Prelude.{ℕ, List, [], ◌∷◌, Option, Some, None, Bool, true, false, ◌||◌}
-use Rattle.gix_base.specs.declared.error.Exn.{Exn}
 use Rattle.gix_base.specs.declared.date.Time.{Time}
 use Rattle.gix_spec.specs.declared.spec.Kind.TheVariants.{ExcludeReachable, RangeBetween}
 use Rattle.gix_spec.specs.declared.spec.parse.delegate.ReflogLookup.TheVariants.{Date as AtDate}
@@ -10,7 +9,7 @@ use Rattle.gix_spec.specs.declared.spec.parse.fault.Fault.TheVariants.{KindRefus
 use Rattle.gix_spec.specs.Call as calls
 use Rattle.gix_spec.specs.Call.{Call, find_ref, prefix, kind, traverse, find, done}
 use Rattle.gix_spec.specs.Tree.{fine, faulty, Tree, leaf, ask, takes}
-use Rattle.gix_spec.specs.Context.{Context, start, HEAD, after_reference, after_prefix, next_revision}
+use Rattle.gix_spec.specs.Context.{Context, HEAD, after_reference, after_prefix, next_revision}
 use Rattle.gix_spec.specs.Pieces.{Piece, exclude, regex, index, head, name, branch, reflog, sibling, date, unescaped, step, peel, path, closer, without_parent, range, finish, finished, fault}
 
 -- a call that has to be accepted: its refusal is this fault

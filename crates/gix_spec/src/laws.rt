@@ -1,14 +1,15 @@
 //! Laws of the definitions, each the contract of a function without parameters.
 
 ghost use Rattle.gix_spec.specs.Ends.{DoneIsLast, EndsInDone, ReadsAll, TakesNoneWithoutBraces};
-ghost use Rattle.gix_spec.specs.Agree.{OrderAgrees, HashAgrees};
+ghost use Rattle.gix_base.specs.Laws.{OrderAgrees, HashAgrees, OrderIs};
 ghost use Rattle.std.specs.Prelude.{◌≡◌};
-ghost use Rattle.gix_spec.specs.Orders.{OrderIs, spec_order, kind_order, step_order, sibling_order};
+ghost use Rattle.gix_spec.specs.Orders.{spec_order, kind_order, step_order, sibling_order};
 ghost use Rattle.gix_spec.specs.Heard.{PrintedReadsBack};
 
 use crate::spec::parse::Delegate;
 use crate::spec::parse::delegate::{PeelTo, PrefixHint, ReflogLookup, SiblingBranch, Traversal};
 use crate::spec::{Kind, Spec};
+use gix_base::laws::{hash_agrees, order_agrees};
 use std::hash::Hash;
 
 /// A parse that ends well has `done` as its last call, whatever the delegate answered before.
@@ -40,16 +41,6 @@ pub fn texts_without_braces_take_no_memory()
 #[tactic(auto, using(crate::proofs::Printed::printed_reads_back))]
 pub fn printed_specs_read_back()
     ensures { PrintedReadsBack }
-{}
-
-/// Every order agrees with its equality.
-pub fn order_agrees<T: Ord>()
-    ensures { OrderAgrees T.cmp T.eq }
-{}
-
-/// Every hash agrees with its equality.
-pub fn hash_agrees<T: Hash>()
-    ensures { HashAgrees T.hash_input T.eq }
 {}
 
 /// Specs: `Ord` and `Hash` agree with `==`.

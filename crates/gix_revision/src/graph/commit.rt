@@ -117,40 +117,6 @@ impl<S: Find, D: Drop, A: Allocator + Copy> Graph<S, Commit<D, A>, A> {
         }
     }
 
-    /// A copy of the parents of a commit, which is taken in; none where the source lacks it. What
-    /// was held keeps its data, also at a refusal.
-    pub(crate) fn parents_of(
-        &mut self,
-        alloc: A,
-        id: ObjectId,
-        new: D,
-    ) -> Result<Vec<ObjectId, A>, Error>
-        ensures parents { IfOk result
-            (λ v. v.items ≡ parents_in (entry_at (S.history self.old.source) id)) }
-        ensures history { S.history self.new.source ≡ S.history self.old.source }
-        ensures taken { OnOk result (TakesIn (S.history self.old.source) self.old id new self.new) }
-        ensures len { OnOk result
-            (held_len self.new ≡ len_after (S.history self.old.source) self.old id) }
-        ensures fault { result ≡ Err Error.Source
-            → FaultSeen (S.fault_count self.old.source) (S.fault_count self.new.source) }
-        ensures count { S.fault_count self.old.source ≤ S.fault_count self.new.source }
-        ensures faults { S.fault_count self.new.source
-            ≡ faults_after result (S.fault_count self.old.source) }
-        ensures kept { (q : ObjectId) → IsTrue (is_some (data_at self.old q))
-            → data_at self.new q ≡ data_at self.old q }
-    {
-        if !self.take_in(alloc, id, new)? {
-            return Ok(Vec::new(alloc));
-        }
-        match self.get(&id) {
-            Some(commit) => match commit.parents().to_vec(alloc) {
-                Ok(parents) => Ok(parents),
-                Err(_) => Err(Error::OutOfMemory),
-            },
-            None => Ok(Vec::new(alloc)),
-        }
-    }
-
     /// The place of the commit under `id`, which is taken from the source with data `new` unless it
     /// is held already. [`FullCommit::data`] of the answer lends its data, and is `None` where the
     /// source lacks the commit.

@@ -27,7 +27,7 @@ pub struct Failing<F: Find> {
 }
 
 impl<F: Find> Failing<F> {
-    ghost use Rattle.gix_revision.specs.Testing.{source_behind, failing_count};
+    ghost use Rattle.gix_revision.specs.Testing.{source_behind, failing_count, is_turn, next_turn};
 
     /// Refuses by `fault` where it is the turn, and begins its count of faults at `faults`.
     pub fn new(inner: F, turn: Turn, fault: FindFault, faults: u64) -> Self
@@ -44,6 +44,8 @@ impl<F: Find> Failing<F> {
 
     /// Whether it is the turn of a look-up for `id`, which is then made.
     fn is_due(&mut self, id: ObjectId) -> bool
+        ensures due { result ≡ is_turn self.old.turn id }
+        ensures next { self.new.turn ≡ next_turn self.old.turn }
         ensures source { self.new.inner ≡ self.old.inner }
         ensures faults { self.new.faults ≡ self.old.faults }
     {

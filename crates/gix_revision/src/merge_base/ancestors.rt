@@ -10,7 +10,7 @@ use crate::graph::Graph;
 use crate::graph::commit::Commit;
 use crate::graph::find::Find;
 use crate::merge_base::flags::Flags;
-use crate::merge_base::seen::Seen;
+use crate::seen::Seen;
 use gix_base::hash::ObjectId;
 use std::alloc::{AllocError, Allocator};
 

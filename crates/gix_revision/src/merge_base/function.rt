@@ -14,7 +14,7 @@ use crate::merge_base::ancestors::{all_parents, ancestors};
 use crate::merge_base::error::Error;
 use crate::merge_base::flags::Flags;
 use crate::merge_base::gather::take_in_ancestors;
-use crate::merge_base::seen::Seen;
+use crate::seen::Seen;
 use gix_base::error::NonEmpty;
 use gix_base::hash::ObjectId;
 use std::alloc::{AllocError, Allocator};

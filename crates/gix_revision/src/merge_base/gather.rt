@@ -14,7 +14,7 @@ use crate::graph::{self, Graph};
 use crate::merge_base::ancestors::reached_held;
 use crate::merge_base::error::{Error, commit_refused, parent_refused};
 use crate::merge_base::flags::Flags;
-use crate::merge_base::seen::Seen;
+use crate::seen::Seen;
 use bitflags::Flags as BitFlags;
 use gix_base::hash::ObjectId;
 use std::alloc::{AllocError, Allocator};

@@ -1,6 +1,6 @@
 //! The best commit that all of several heads go back to.
 
-ghost use Rattle.std.specs.Prelude.{◌≡◌, ◌≤◌, ◌∷◌, ◌↔◌, [], Some, IfOk, OnOk, Ok, IfErr, IsTrue, false, cond};
+ghost use Rattle.std.specs.Prelude.{◌≡◌, ◌≤◌, Some, IfOk, OnOk, Ok, IfErr, IsTrue, false};
 ghost use Rattle.std.specs.List.{list_all};
 ghost use Rattle.std.specs.Ordering.{is_gt};
 ghost use Rattle.gix_base.specs.declared.hash.ObjectId.{ObjectId};
@@ -17,11 +17,14 @@ use crate::merge_base::flags::Flags;
 use crate::merge_base::function::{merge_base, without};
 use crate::merge_base::gather::reached_from;
 use crate::merge_base::gen_then_time::GenThenTime;
-use crate::merge_base::seen::Seen;
+use crate::seen::Seen;
 use bitflags::Flags as BitFlags;
 use gix_base::hash::ObjectId;
 use std::alloc::Allocator;
 use std::cmp::Ordering;
+
+#[cfg(test)]
+pub(crate) mod tests;
 
 /// Whether each of `ids` is `id`.
 fn all_are(ids: &[ObjectId], id: ObjectId) -> bool
@@ -38,9 +41,11 @@ fn add_bases<S: Find, A: Allocator + Copy>(
     all: &mut Seen<A>,
     graph: &mut Graph<S, Commit<Flags, A>, A>,
 ) -> Result<(), Error>
-    ensures added { IsAcyclic (S.history graph.old.source) → OnOk result (AddsBases (S.history graph.old.source) base other all.old all.new) }
+    ensures added { IsAcyclic (S.history graph.old.source)
+        → OnOk result (AddsBases (S.history graph.old.source) base other all.old all.new) }
     ensures history { S.history graph.new.source ≡ S.history graph.old.source }
-    ensures cause { IfErr result (HasCause (S.fault_count graph.old.source) (S.fault_count graph.new.source)) }
+    ensures cause { IfErr result
+        (HasCause (S.fault_count graph.old.source) (S.fault_count graph.new.source)) }
     ensures count { S.fault_count graph.old.source ≤ S.fault_count graph.new.source }
 {
     let Some(found) = merge_base(alloc, base, &[other], graph)? else {
@@ -59,9 +64,11 @@ fn bases_with<S: Find, A: Allocator + Copy>(
     other: ObjectId,
     graph: &mut Graph<S, Commit<Flags, A>, A>,
 ) -> Result<Seen<A>, Error>
-    ensures all { IsAcyclic (S.history graph.old.source) → IfOk result (CoversEach (S.history graph.old.source) bases.now other) }
+    ensures all { IsAcyclic (S.history graph.old.source)
+        → IfOk result (CoversEach (S.history graph.old.source) bases.now other) }
     ensures history { S.history graph.new.source ≡ S.history graph.old.source }
-    ensures cause { IfErr result (HasCause (S.fault_count graph.old.source) (S.fault_count graph.new.source)) }
+    ensures cause { IfErr result
+        (HasCause (S.fault_count graph.old.source) (S.fault_count graph.new.source)) }
     ensures count { S.fault_count graph.old.source ≤ S.fault_count graph.new.source }
 {
     let mut all = Seen::new(alloc);
@@ -77,9 +84,11 @@ fn unreached<S: Find, A: Allocator + Copy>(
     ids: Seen<A>,
     graph: &mut Graph<S, Commit<Flags, A>, A>,
 ) -> Result<Vec<ObjectId, A>, Error>
-    ensures kept { IsAcyclic (S.history graph.old.source) → IfOk result (λ kept. AreUnreached (S.history graph.old.source) ids kept.items) }
+    ensures kept { IsAcyclic (S.history graph.old.source)
+        → IfOk result (λ kept. AreUnreached (S.history graph.old.source) ids kept.items) }
     ensures history { S.history graph.new.source ≡ S.history graph.old.source }
-    ensures cause { IfErr result (HasCause (S.fault_count graph.old.source) (S.fault_count graph.new.source)) }
+    ensures cause { IfErr result
+        (HasCause (S.fault_count graph.old.source) (S.fault_count graph.new.source)) }
     ensures count { S.fault_count graph.old.source ≤ S.fault_count graph.new.source }
 {
     let reached = reached_from(alloc, ids.as_slice(), graph)?;
@@ -101,7 +110,8 @@ fn candidate_of<S: Find, A: Allocator + Copy>(
 ) -> Result<Candidate, Error>
     ensures candidate { IfOk result (λ c. c ≡ candidate_at (S.history graph.old.source) id) }
     ensures history { S.history graph.new.source ≡ S.history graph.old.source }
-    ensures cause { IfErr result (HasCause (S.fault_count graph.old.source) (S.fault_count graph.new.source)) }
+    ensures cause { IfErr result
+        (HasCause (S.fault_count graph.old.source) (S.fault_count graph.new.source)) }
     ensures count { S.fault_count graph.old.source ≤ S.fault_count graph.new.source }
 {
     if let Err(error) = graph.take_in(alloc, id, Flags::empty()) {
@@ -143,7 +153,8 @@ fn best_of<S: Find, A: Allocator + Copy>(
 ) -> Result<Option<ObjectId>, Error>
     ensures best { IfOk result (IsBestOf (S.history graph.old.source) ids.now) }
     ensures history { S.history graph.new.source ≡ S.history graph.old.source }
-    ensures cause { IfErr result (HasCause (S.fault_count graph.old.source) (S.fault_count graph.new.source)) }
+    ensures cause { IfErr result
+        (HasCause (S.fault_count graph.old.source) (S.fault_count graph.new.source)) }
     ensures count { S.fault_count graph.old.source ≤ S.fault_count graph.new.source }
 {
     let mut best: Option<Candidate> = None;
@@ -164,9 +175,11 @@ fn step<S: Find, A: Allocator + Copy>(
     other: ObjectId,
     graph: &mut Graph<S, Commit<Flags, A>, A>,
 ) -> Result<Vec<ObjectId, A>, Error>
-    ensures step { IsAcyclic (S.history graph.old.source) → IfOk result (λ left. IsStep (S.history graph.old.source) bases.now other left.items) }
+    ensures step { IsAcyclic (S.history graph.old.source)
+        → IfOk result (λ left. IsStep (S.history graph.old.source) bases.now other left.items) }
     ensures history { S.history graph.new.source ≡ S.history graph.old.source }
-    ensures cause { IfErr result (HasCause (S.fault_count graph.old.source) (S.fault_count graph.new.source)) }
+    ensures cause { IfErr result
+        (HasCause (S.fault_count graph.old.source) (S.fault_count graph.new.source)) }
     ensures count { S.fault_count graph.old.source ≤ S.fault_count graph.new.source }
 {
     let found = bases_with(alloc, bases, other, graph)?;
@@ -182,9 +195,11 @@ fn octopus_bases<S: Find, A: Allocator + Copy>(
 ) -> Result<Vec<ObjectId, A>, Error>
     ensures bases { IsAcyclic (S.history graph.old.source)
         → list_all (same_id first) others.now ≡ false
-        → IfOk result (λ left. AreOctopusBases (S.history graph.old.source) first others.now left.items) }
+        → IfOk result (λ left.
+        AreOctopusBases (S.history graph.old.source) first others.now left.items) }
     ensures history { S.history graph.new.source ≡ S.history graph.old.source }
-    ensures cause { IfErr result (HasCause (S.fault_count graph.old.source) (S.fault_count graph.new.source)) }
+    ensures cause { IfErr result
+        (HasCause (S.fault_count graph.old.source) (S.fault_count graph.new.source)) }
     ensures count { S.fault_count graph.old.source ≤ S.fault_count graph.new.source }
 {
     let mut left = Vec::new(alloc);
@@ -228,7 +243,8 @@ pub fn octopus<S: Find, A: Allocator + Copy>(
         → (result ≡ Ok (Some first)) × (graph.new ≡ graph.old) }
 
     ensures history { S.history graph.new.source ≡ S.history graph.old.source }
-    ensures cause { IfErr result (HasCause (S.fault_count graph.old.source) (S.fault_count graph.new.source)) }
+    ensures cause { IfErr result
+        (HasCause (S.fault_count graph.old.source) (S.fault_count graph.new.source)) }
     ensures count { S.fault_count graph.old.source ≤ S.fault_count graph.new.source }
 {
     if all_are(others, first) {

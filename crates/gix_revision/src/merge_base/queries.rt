@@ -14,6 +14,9 @@ use gix_base::error::NonEmpty;
 use gix_base::hash::ObjectId;
 use std::alloc::{Allocator, Global};
 
+#[cfg(test)]
+mod tests;
+
 /// A call of [`merge_base`] or of [`octopus`].
 #[derive(Drop)]
 #[derive_where(Debug, PartialEq, Eq)]
@@ -76,10 +79,13 @@ pub fn run<S: Find, A: Allocator + Copy>(
     graph: &mut Graph<S, Commit<Flags, A>, A>,
     queries: &[Query<A>],
 ) -> Result<Vec<Answer<A>, A>, Error>
-    ensures answers { IfOk result (λ answers. AreRight (S.history graph.old.source) queries.now answers.items) }
+    ensures answers { IfOk result (λ answers.
+        AreRight (S.history graph.old.source) queries.now answers.items) }
     ensures one_each { IfOk result (λ answers. length answers.items ≡ length queries.now) }
-    ensures calls { IfOk result (λ answers. AreCalls S.history S.fault_count queries.now answers.items graph.old graph.new) }
-    ensures few_refused { IfOk result (λ answers. FewRefused (S.fault_count graph.old.source) (S.fault_count graph.new.source) answers.items) }
+    ensures calls { IfOk result (λ answers.
+        AreCalls S.history S.fault_count queries.now answers.items graph.old graph.new) }
+    ensures few_refused { IfOk result (λ answers. FewRefused
+        (S.fault_count graph.old.source) (S.fault_count graph.new.source) answers.items) }
     ensures room { IfErr result (λ error. (error ≡ Error.OutOfMemory) × (graph.new ≡ graph.old)) }
     ensures history { S.history graph.new.source ≡ S.history graph.old.source }
     ensures count { S.fault_count graph.old.source ≤ S.fault_count graph.new.source }

@@ -1,4 +1,4 @@
-use Rattle.std.proofs.Common.{◌≡◌, ap, sym, ◌∙◌, ◌||◌, ◌∷◌, []}
+use Rattle.std.proofs.Common.{◌≡◌, ap, sym, ◌∙◌, ◌||◌}
 use Rattle.gix_revision.specs.History.{is_one_of}
 use Rattle.gix_revision.specs.Bases.{ids_of}
 use Rattle.gix_revision.specs.Walks.{added, all_added}

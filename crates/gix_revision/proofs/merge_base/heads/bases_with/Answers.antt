@@ -1,4 +1,4 @@
-use Rattle.std.proofs.Common.{◌≡◌, ◌∙◌, ◌<◌, length, arith}
+use Rattle.std.proofs.Common.{◌∙◌, ◌<◌, length, arith}
 use Rattle.gix_revision.proofs.Heads.{covers_next}
 use Rattle.gix_revision.proofs.merge_base.heads.bases_with.Goals as goal
 

@@ -1,4 +1,4 @@
-use Rattle.std.proofs.Common.{◌≡◌, ◌∙◌, ◌<◌, length, arith}
+use Rattle.std.proofs.Common.{◌∙◌, ◌<◌, length, arith}
 use Rattle.gix_revision.proofs.Choice.{chosen_step}
 use Rattle.gix_revision.proofs.merge_base.heads.best_of.Goals as goal
 

@@ -1,5 +1,3 @@
-use Rattle.std.proofs.Common.{◌≡◌, Ok, Some}
-use Rattle.gix_revision.specs.Queries.{AnswersBases, AnswersOctopus}
 use Rattle.gix_revision.proofs.merge_base.queries.answer_to.Goals as goal
 
 pub returns-in-Ok : goal.returns-in-Ok

@@ -1,4 +1,4 @@
-use Rattle.std.proofs.Common.{◌≡◌, ◌∙◌, ◌<◌, ◌≤◌, length, arith}
+use Rattle.std.proofs.Common.{◌≡◌, ◌<◌, ◌≤◌, length, arith, get_or, sym}
 use Rattle.std.proofs.lemmas.List.{take_all}
 use Rattle.gix_revision.proofs.Calls.{calls_count, calls_history, calls_right, calls_refused, calls_next}
 use Rattle.gix_revision.proofs.merge_base.queries.run.Goals as goal
@@ -6,8 +6,9 @@ use Rattle.gix_revision.proofs.merge_base.queries.run.Goals as goal
 pub loop-query-preserved : goal.loop-query-preserved
 loop-query-preserved g c =
     let test : c.loop-query.query-index < length c.args.queries.now = omega arith in
+    let item : get_or c.args.queries.now c.loop-query.query-index c.query-item.result ≡ c.query-item.result = sym c.query-item.is in
     record {
-      calls = rw c.push_reserved.ensures.items (calls_next _ _ c.args.queries.now c.loop-query.query-index c.query-item.result _ _ _ _ _ test c.loop-query.invariant.calls (rw (← c.query-item.is) c.answer_to.ensures));
+      calls = rw c.push_reserved.ensures.items (calls_next _ _ _ _ c.query-item.result _ c.answer_to.result _ _ _ test c.loop-query.invariant.calls (rw item c.answer_to.ensures));
       len = omega (arith, c.push_reserved.ensures.len, c.loop-query.invariant.len);
       room = omega (arith, c.push_reserved.ensures.capacity, c.loop-query.invariant.room);
     }

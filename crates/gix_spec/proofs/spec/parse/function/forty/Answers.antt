@@ -1,4 +1,4 @@
-use Rattle.std.proofs.Common.{◌≡◌, ℕ, ◌≤◌, ◌<◌, length, take, arith, refl, sym, lit≤}
+use Rattle.std.proofs.Common.{◌≤◌, length, arith, refl, sym}
 use Rattle.gix_spec.proofs.Readings.{forty_digits-short, forty_digits-found, forty_digits-none}
 use Rattle.gix_spec.proofs.spec.parse.function.forty.Goals as goal
 

@@ -1,4 +1,4 @@
-use Rattle.std.proofs.Common.{[], ◌∷◌, false}
+use Rattle.std.proofs.Common.{[], ◌∷◌}
 use Rattle.gix_spec.specs.Pieces.{range}
 use Rattle.gix_spec.specs.Reading.{second_side}
 use Rattle.gix_spec.proofs.Runs.{performs_then, performs_stop}

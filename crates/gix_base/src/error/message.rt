@@ -1,0 +1,37 @@
+//! The fault of `describe`.
+
+ghost use Rattle.std.specs.Prelude.{Some};
+
+use crate::hash::ObjectId;
+use std::fmt;
+use thiserror::Error;
+
+/// Why a commit is not described.
+#[derive(Clone, Copy, Debug, PartialEq, Eq, Drop, Error)]
+pub enum Message {
+    /// The source failed while the parents of this commit were asked for.
+    ParentsOf(ObjectId),
+    /// The commit that was to be described is not in the source.
+    MissingStart(ObjectId),
+    /// There are more commits than a count of 32 bits can say.
+    CounterFull,
+    /// There was no memory.
+    OutOfMemory,
+}
+
+impl fmt::Display for Message {
+    ghost use Rattle.gix_base.specs.Message.{message_text};
+
+    ghost output = { λ m. Some (message_text m) };
+
+    fn fmt<W: fmt::Write>(&self, f: &mut fmt::Formatter<W>) -> fmt::Result {
+        match self {
+            Message::ParentsOf(id) => {
+                write!(f, "could not insert parents of commit {id} into graph")
+            }
+            Message::MissingStart(id) => write!(f, "commit {id} is not in the source"),
+            Message::CounterFull => f.write_str("a counter is full"),
+            Message::OutOfMemory => f.write_str("out of memory"),
+        }
+    }
+}

@@ -1,0 +1,15 @@
+use Rattle.std.proofs.Common.{◌∙◌, sym}
+use Rattle.gix_revision.specs.Followed.{followed}
+use Rattle.gix_revision.specs.Outcomes.{names_of}
+use Rattle.gix_revision.proofs.NearestSteps.{named_from, unnamed_from, nearest_skip, nearest_more}
+use Rattle.gix_revision.proofs.describe.nearest.nearer.Goals as goal
+
+pub returns-then-not-contains_key-clause-nearest : goal.returns-then-not-contains_key-clause-nearest
+returns-then-not-contains_key-clause-nearest g c = λ xs near.
+    nearest_skip (followed c.args.first_parent (g.S.Find.history c.args.graph.now.source)) (names_of c.args.names.now.entries) xs c.args.commit c.args.best near
+    (unnamed_from c.args.names.now.entries c.args.commit (sym c.contains_key.ensures ∙ c.if-not-contains_key.true))
+
+pub returns-in-Ok-clause-nearest : goal.returns-in-Ok-clause-nearest
+returns-in-Ok-clause-nearest g c = λ xs near. rw c.larger.ensures
+    (nearest_more (followed c.args.first_parent (g.S.Find.history c.args.graph.now.source)) (names_of c.args.names.now.entries) xs c.args.commit c.args.best c.in-Ok.below near
+    (named_from c.args.names.now.entries c.args.commit (sym c.contains_key.ensures ∙ c.if-not-contains_key.false)) c.in-Ok.ensures.size)

@@ -1,0 +1,406 @@
+//! Worked rows of `describe`, printed texts, and refusals.
+
+use super::*;
+use crate::graph::testing::{Failing, Turn};
+use crate::graph::tests::{Row, id, source_of};
+use crate::graph::{Find, FindFault, Graph, MemorySource};
+use gix_base::error::Message;
+use refusing::Refusing;
+use std::alloc::{AllocError, Allocator};
+use std::borrow::CowSlice;
+use std::test::Fail;
+
+/// One call and the bounds of its answer.
+#[derive(Drop)]
+struct Case {
+    history: &'static [Row<'static>],
+    names: &'static [(u8, &'static str)],
+    start: u8,
+    max_candidates: usize,
+    fallback_to_oid: bool,
+    first_parent: bool,
+    want: Want,
+}
+
+#[derive(Drop)]
+enum Want {
+    Nothing,
+    Missing,
+    Unnamed {
+        seen: u32,
+    },
+    Named {
+        name: &'static str,
+        depth: (u32, u32),
+        seen: (u32, u32),
+    },
+}
+
+/// The ids are forty digits 1, 2 and 3.
+const LINE: &[Row<'static>] = &[(0x11, 1, &[]), (0x22, 2, &[0x11]), (0x33, 3, &[0x22])];
+
+const FORK: &[Row<'static>] = &[(1, 1, &[]), (2, 9, &[1]), (3, 8, &[1]), (4, 10, &[2, 3])];
+
+/// The older name is nearer: it is met last.
+const OLDER_IS_NEARER: &[Row<'static>] = &[
+    (1, 1, &[]),
+    (2, 8, &[1]),
+    (3, 9, &[]),
+    (4, 10, &[3, 2]),
+];
+
+/// The named commit is older than its parent.
+const SKEWED: &[Row<'static>] = &[(1, 5, &[]), (2, 1, &[1]), (3, 10, &[2, 1])];
+
+const MISSING_PARENT: &[Row<'static>] = &[(1, 1, &[]), (2, 2, &[9, 1])];
+
+const FAR_TIMES: &[Row<'static>] = &[(1, i64::MIN, &[]), (2, i64::MAX, &[1]), (3, 0, &[2])];
+
+const CYCLE: &[Row<'static>] = &[(1, 1, &[2]), (2, 2, &[1]), (3, 2, &[1])];
+
+fn options_of<A: Allocator + Copy>(
+    alloc: A,
+    names: &[(u8, &'static str)],
+) -> Result<Options<'static, A>, AllocError> {
+    let mut options = Options::new(alloc);
+    for (digit, name) in names {
+        let name = CowSlice::Borrowed(name.as_bytes());
+        options.name_by_oid.insert(id(*digit), name)?;
+    }
+    Ok(options)
+}
+
+fn is_wanted<A: Allocator>(
+    found: &Result<Option<Outcome<'static, A>>, Error>,
+    start: u8,
+    want: &Want,
+) -> bool {
+    match (found, want) {
+        (Ok(None), Want::Nothing) => true,
+        (Err(Message::MissingStart(missing)), Want::Missing) => *missing == id(start),
+        (Ok(Some(outcome)), Want::Unnamed { seen }) => {
+            outcome.name.is_none()
+                && outcome.id == id(start)
+                && outcome.depth == 0
+                && outcome.commits_seen == *seen
+        }
+        (Ok(Some(outcome)), Want::Named { name, depth, seen }) => {
+            let same = match &outcome.name {
+                Some(found) => found.as_slice() == name.as_bytes(),
+                None => false,
+            };
+            same && outcome.id == id(start)
+                && depth.0 <= outcome.depth
+                && outcome.depth <= depth.1
+                && seen.0 <= outcome.commits_seen
+                && outcome.commits_seen <= seen.1
+        }
+        _ => false,
+    }
+}
+
+#[test]
+fn rows_are_described(rt: HostRuntime) -> Result<(), Fail> {
+    let cases = [
+        Case {
+            history: LINE,
+            names: &[(0x11, "v1")],
+            start: 0x33,
+            max_candidates: 10,
+            fallback_to_oid: false,
+            first_parent: false,
+            want: Want::Named {
+                name: "v1",
+                depth: (2, 2),
+                seen: (3, 3),
+            },
+        },
+        // The two counts leave room where the named commit is older than its parent.
+        Case {
+            history: SKEWED,
+            names: &[(2, "v")],
+            start: 3,
+            max_candidates: 10,
+            fallback_to_oid: false,
+            first_parent: false,
+            want: Want::Named {
+                name: "v",
+                depth: (1, 2),
+                seen: (2, 3),
+            },
+        },
+        Case {
+            history: FORK,
+            names: &[(3, "B")],
+            start: 4,
+            max_candidates: 10,
+            fallback_to_oid: true,
+            first_parent: true,
+            want: Want::Unnamed { seen: 3 },
+        },
+        Case {
+            history: FORK,
+            names: &[(4, "A")],
+            start: 4,
+            max_candidates: 0,
+            fallback_to_oid: false,
+            first_parent: false,
+            want: Want::Named {
+                name: "A",
+                depth: (0, 0),
+                seen: (0, 0),
+            },
+        },
+        Case {
+            history: FORK,
+            names: &[(1, "A")],
+            start: 4,
+            max_candidates: 0,
+            fallback_to_oid: true,
+            first_parent: false,
+            want: Want::Unnamed { seen: 0 },
+        },
+        Case {
+            history: FORK,
+            names: &[],
+            start: 9,
+            max_candidates: 10,
+            fallback_to_oid: false,
+            first_parent: false,
+            want: Want::Nothing,
+        },
+        Case {
+            history: FORK,
+            names: &[(1, "A")],
+            start: 9,
+            max_candidates: 10,
+            fallback_to_oid: true,
+            first_parent: false,
+            want: Want::Missing,
+        },
+        Case {
+            history: OLDER_IS_NEARER,
+            names: &[(2, "B"), (3, "A")],
+            start: 4,
+            max_candidates: 10,
+            fallback_to_oid: false,
+            first_parent: false,
+            want: Want::Named {
+                name: "B",
+                depth: (2, 2),
+                seen: (3, 4),
+            },
+        },
+        Case {
+            history: MISSING_PARENT,
+            names: &[(1, "v")],
+            start: 2,
+            max_candidates: 10,
+            fallback_to_oid: false,
+            first_parent: false,
+            want: Want::Named {
+                name: "v",
+                depth: (1, 1),
+                seen: (2, 2),
+            },
+        },
+        Case {
+            history: MISSING_PARENT,
+            names: &[(1, "v")],
+            start: 2,
+            max_candidates: 10,
+            fallback_to_oid: true,
+            first_parent: true,
+            want: Want::Unnamed { seen: 1 },
+        },
+        Case {
+            history: FAR_TIMES,
+            names: &[(1, "v")],
+            start: 3,
+            max_candidates: 10,
+            fallback_to_oid: false,
+            first_parent: false,
+            want: Want::Named {
+                name: "v",
+                depth: (2, 2),
+                seen: (3, 3),
+            },
+        },
+        // Nothing is asked of the answer but that it comes.
+        Case {
+            history: CYCLE,
+            names: &[(2, "v")],
+            start: 3,
+            max_candidates: 10,
+            fallback_to_oid: false,
+            first_parent: false,
+            want: Want::Named {
+                name: "v",
+                depth: (0, 3),
+                seen: (1, 3),
+            },
+        },
+    ];
+    let alloc = rt.alloc();
+    for (i, case) in cases.iter().enumerate() {
+        let mut graph = Graph::new(alloc, source_of(alloc, case.history)?);
+        let mut options = options_of(alloc, case.names)?;
+        options.max_candidates = case.max_candidates;
+        options.fallback_to_oid = case.fallback_to_oid;
+        options.first_parent = case.first_parent;
+        let found = describe(alloc, &id(case.start), &mut graph, options);
+        assert!(rt; is_wanted(&found, case.start, &case.want), "case {i}");
+    }
+    Ok(())
+}
+
+#[test]
+fn either_name_of_two_lies_between_the_counts(rt: HostRuntime) -> Result<(), Fail> {
+    let alloc = rt.alloc();
+    let mut graph = Graph::new(alloc, source_of(alloc, FORK)?);
+    let mut options = options_of(alloc, &[(2, "A"), (3, "B")])?;
+    options.max_candidates = 1;
+    match describe(alloc, &id(4), &mut graph, options) {
+        Ok(Some(outcome)) => {
+            assert!(rt; outcome.name.is_some());
+            assert_eq!(rt; outcome.depth, 2);
+            assert!(rt; outcome.commits_seen == 3 || outcome.commits_seen == 4);
+        }
+        _ => assert!(rt; false),
+    }
+    Ok(())
+}
+
+fn format_of(name: Option<&'static [u8]>, digit: u8) -> Format<'static> {
+    Format {
+        name: name.map(CowSlice::Borrowed),
+        id: id(digit),
+        hex_len: 7,
+        depth: 0,
+        long: false,
+        dirty_suffix: None,
+    }
+}
+
+#[test]
+fn formats_are_printed(rt: HostRuntime) -> Result<(), Fail> {
+    let alloc = rt.alloc();
+    let mut format = format_of(Some(b"v1"), 0x11);
+    format.dirty_suffix = Some(format!(in alloc; "dirty")?);
+    assert_eq!(rt; format!(in alloc; "{format}")?.as_str(), "v1-dirty");
+    format.long(true);
+    assert_eq!(rt;
+        format!(in alloc; "{format}")?.as_str(),
+        "v1-0-g1111111-dirty"
+    );
+    let id_alone = format_of(None, 0x44);
+    assert_eq!(rt; format!(in alloc; "{id_alone}")?.as_str(), "4444444");
+    let lossy = format_of(Some(b"v\xff"), 0x44);
+    assert_eq!(rt; format!(in alloc; "{lossy}")?.as_str(), "v\u{fffd}");
+    Ok(())
+}
+
+#[test]
+fn an_outcome_is_printed_and_copied(rt: HostRuntime) -> Result<(), Fail> {
+    let alloc = rt.alloc();
+    let mut graph = Graph::new(alloc, source_of(alloc, LINE)?);
+    let options = options_of(alloc, &[(0x11, "v1")])?;
+    let copy = options.clone()?;
+    assert!(rt; copy.name_by_oid == options.name_by_oid);
+    let Ok(Some(outcome)) = describe(alloc, &id(0x33), &mut graph, copy) else {
+        assert!(rt; false);
+        return Ok(());
+    };
+    assert!(rt; outcome.name_by_oid == options.name_by_oid);
+    for (hex_len, want) in [
+        (7, "v1-2-g3333333"),
+        (0, "v1-2-g"),
+        (99, "v1-2-g3333333333333333333333333333333333333333"),
+    ] {
+        let format = outcome.clone()?.into_format(hex_len);
+        assert_eq!(rt; format!(in alloc; "{format}")?.as_str(), want);
+        assert!(rt; !format.is_exact_match());
+        assert!(rt; format.clone()? == format);
+    }
+    Ok(())
+}
+
+#[test]
+fn a_list_of_queries_is_answered_in_order(rt: HostRuntime) -> Result<(), Fail> {
+    let alloc = rt.alloc();
+    // The first query meets a failure of the source.
+    let line = source_of(alloc, LINE)?;
+    let mut graph = Graph::new(
+        alloc,
+        Failing::new(line, Turn::After(0), FindFault::Failed, 0),
+    );
+    let mut queries = Vec::new(alloc);
+    for _ in 0..3 {
+        let options = options_of(alloc, &[(0x11, "v1")])?;
+        queries.push(Query {
+            commit: id(0x33),
+            options,
+        })?;
+    }
+    let answers = match run(alloc, &mut graph, &queries) {
+        Ok(answers) => answers,
+        Err(_) => return Err(Fail::from(AllocError)),
+    };
+    assert_eq!(rt; answers.len(), 3);
+    for (i, answer) in answers.iter().enumerate() {
+        match answer {
+            Answer::Described(Some(outcome)) => {
+                assert!(rt; i > 0);
+                assert_eq!(rt; outcome.depth, 2);
+                assert_eq!(rt; outcome.commits_seen, 3);
+            }
+            Answer::Described(None) => assert!(rt; false),
+            Answer::Refused(refused) => {
+                assert_eq!(rt; i, 0);
+                assert!(rt; *refused == Message::ParentsOf(id(0x33)));
+            }
+        }
+    }
+    assert_eq!(rt; graph.source().faults(), 1);
+    Ok(())
+}
+
+/// Whether row 7's answer came, and want of memory in its place.
+fn line_is_described<A: Allocator + Copy>(
+    alloc: A,
+    graph: &mut Graph<MemorySource, Flags, A>,
+) -> Result<bool, Error> {
+    let options = match options_of(alloc, &[(0x11, "v1")]) {
+        Ok(options) => options,
+        Err(_) => return Err(Message::OutOfMemory),
+    };
+    let want = Want::Named {
+        name: "v1",
+        depth: (2, 2),
+        seen: (3, 3),
+    };
+    let found = describe(alloc, &id(0x33), graph, options);
+    match found {
+        Err(refused) => Err(refused),
+        found => Ok(is_wanted(&found, 0x33, &want)),
+    }
+}
+
+#[test]
+fn each_request_for_memory_is_refused(rt: HostRuntime) -> Result<(), Fail> {
+    for before in 0..200u64 {
+        let refusing = Refusing::new(rt.alloc(), before);
+        let mut graph = Graph::new(&refusing, source_of(rt.alloc(), LINE)?);
+        let found = line_is_described(&refusing, &mut graph);
+        if !refusing.has_refused() {
+            assert!(rt; before > 5, "too few requests");
+            assert!(rt; found == Ok(true));
+            return Ok(());
+        }
+        assert!(rt; found == Err(Message::OutOfMemory), "request {before}");
+        let again = line_is_described(&refusing, &mut graph);
+        assert!(rt; again == Ok(true), "after request {before}");
+    }
+    assert!(rt; false, "never enough");
+    Ok(())
+}

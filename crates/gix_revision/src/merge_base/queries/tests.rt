@@ -1,0 +1,136 @@
+//! Lists of calls on one graph: reused, over a failing source, and with memory refused in turn.
+
+use crate::graph::testing::{Failing, Turn};
+use crate::graph::tests::{id, source_of};
+use crate::graph::{Find, FindFault, Graph};
+use crate::merge_base::heads::tests::CRISS_CROSS;
+use crate::merge_base::{Answer, Error, Query, run};
+use gix_base::hash::ObjectId;
+use refusing::Refusing;
+use std::alloc::{AllocError, Allocator};
+use std::test::Fail;
+
+/// One id.
+fn one<A: Allocator>(alloc: A, n: u8) -> Result<Vec<ObjectId, A>, AllocError> {
+    Vec::from_slice(alloc, &[id(n)])
+}
+
+/// The bases of [4] and [5], their octopus base, and the bases again.
+fn queries<A: Allocator + Copy>(alloc: A) -> Result<Vec<Query<A>, A>, AllocError> {
+    let mut queries = Vec::with_capacity(alloc, 3)?;
+    for octopus in [false, true, false] {
+        let first = id(4);
+        let others = one(alloc, 5)?;
+        let query = if octopus {
+            Query::Octopus { first, others }
+        } else {
+            Query::MergeBase { first, others }
+        };
+        if queries.push(query).is_err() {
+            return Err(AllocError);
+        }
+    }
+    Ok(queries)
+}
+
+/// Whether the bases are [2] and [3].
+fn are_both<A: Allocator>(answer: &Answer<A>) -> bool {
+    match answer {
+        Answer::MergeBase(Some(found)) => {
+            found.len() == 2
+                && found.iter().any(|base| *base == id(2))
+                && found.iter().any(|base| *base == id(3))
+        }
+        _ => false,
+    }
+}
+
+/// Whether the octopus base is [2].
+fn is_second<A: Allocator>(answer: &Answer<A>) -> bool {
+    match answer {
+        Answer::Octopus(found) => *found == Some(id(2)),
+        _ => false,
+    }
+}
+
+#[test]
+fn a_graph_is_reused_from_call_to_call(rt: HostRuntime) -> Result<(), Fail> {
+    let alloc = rt.alloc();
+    let mut graph = Graph::new(alloc, source_of(alloc, &CRISS_CROSS)?);
+    let answers = run(alloc, &mut graph, &queries(alloc)?)?;
+    assert_eq!(rt; answers.len(), 3);
+    assert!(rt; are_both(&answers[0]) && is_second(&answers[1]) && are_both(&answers[2]));
+    assert!(rt; run(alloc, &mut graph, &[])?.is_empty());
+    Ok(())
+}
+
+#[test]
+fn a_refused_query_does_not_end_the_list(rt: HostRuntime) -> Result<(), Fail> {
+    let alloc = rt.alloc();
+    for turn in 0..5u64 {
+        let inner = source_of(alloc, &CRISS_CROSS)?;
+        let source = Failing::new(inner, Turn::After(turn), FindFault::Failed, 0);
+        let mut graph = Graph::new(alloc, source);
+        let answers = run(alloc, &mut graph, &queries(alloc)?)?;
+        assert_eq!(rt; answers.len(), 3);
+        match &answers[0] {
+            Answer::Refused(Error::Source(_)) => {}
+            _ => assert!(rt; false, "turn {turn}"),
+        }
+        assert!(rt;
+            is_second(&answers[1]) && are_both(&answers[2]),
+            "turn {turn}"
+        );
+        assert_eq!(rt; graph.source().faults(), 1);
+    }
+    Ok(())
+}
+
+/// Whether the call found no memory.
+fn lacked_memory<A: Allocator>(answer: &Answer<A>) -> bool {
+    match answer {
+        Answer::Refused(Error::OutOfMemory) => true,
+        _ => false,
+    }
+}
+
+#[test]
+fn each_request_of_a_list_is_refused(rt: HostRuntime) -> Result<(), Fail> {
+    for before in 0..500u64 {
+        // The list itself takes four requests.
+        let refusing = Refusing::new(rt.alloc(), before + 4);
+        let list = queries(&refusing)?;
+        let mut graph = Graph::new(&refusing, source_of(rt.alloc(), &CRISS_CROSS)?);
+        let Ok(answers) = run(&refusing, &mut graph, &list) else {
+            assert!(rt; before == 0, "request {before}");
+            assert_eq!(rt; graph.len(), 0);
+            continue;
+        };
+        assert!(rt; before > 0, "the room is taken first");
+        assert_eq!(rt; answers.len(), 3);
+        let refused = answers
+            .iter()
+            .filter(|answer| lacked_memory(*answer))
+            .count();
+        assert!(rt;
+            are_both(&answers[0]) || lacked_memory(&answers[0]),
+            "request {before}"
+        );
+        assert!(rt;
+            is_second(&answers[1]) || lacked_memory(&answers[1]),
+            "request {before}"
+        );
+        assert!(rt;
+            are_both(&answers[2]) || lacked_memory(&answers[2]),
+            "request {before}"
+        );
+        if !refusing.has_refused() {
+            assert!(rt; before > 10, "too few requests");
+            assert_eq!(rt; refused, 0);
+            return Ok(());
+        }
+        assert_eq!(rt; refused, 1);
+    }
+    assert!(rt; false, "never enough");
+    Ok(())
+}
