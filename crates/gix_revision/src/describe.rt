@@ -1,9 +1,9 @@
 //! The names of commits, by the nearest named ancestor: git-describe.
 
-pub mod ancestors;
+pub(crate) mod ancestors;
 pub mod format;
 pub mod function;
-pub mod nearest;
+pub(crate) mod nearest;
 pub mod options;
 pub mod outcome;
 pub mod queries;

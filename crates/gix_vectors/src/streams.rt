@@ -1,0 +1,133 @@
+//! Readers and writers that give little, fail, or never end.
+
+use std::io::{self, ErrorKind, Read, Write};
+
+/// What a reader does once its bytes are read.
+#[derive(Clone, Copy, Debug, PartialEq, Eq)]
+pub enum Ending {
+    End,
+    Failure,
+}
+
+/// Reads a text a byte at a time; every other read is interrupted.
+#[derive(Drop)]
+pub struct Trickle<'t> {
+    left: &'t [u8],
+    ending: Ending,
+    interrupts: bool,
+}
+
+impl<'t> Trickle<'t> {
+    pub fn new(left: &'t [u8], ending: Ending) -> Trickle<'t> {
+        Trickle {
+            left,
+            ending,
+            interrupts: false,
+        }
+    }
+}
+
+impl Read for Trickle<'_> {
+    fn read(&mut self, buf: &mut [u8]) -> io::Result<usize> {
+        self.interrupts = !self.interrupts;
+        if self.interrupts {
+            return Err(io::Error::from(ErrorKind::Interrupted));
+        }
+        let Some((first, rest)) = self.left.split_first() else {
+            return match self.ending {
+                Ending::End => Ok(0),
+                Ending::Failure => Err(io::Error::from(ErrorKind::BrokenPipe)),
+            };
+        };
+        if buf.is_empty() {
+            return Ok(0);
+        }
+        buf[0] = *first;
+        self.left = rest;
+        Ok(1)
+    }
+}
+
+/// Gives so many line feeds, one a read, and counts its reads.
+#[derive(Drop)]
+pub struct LineFeeds {
+    left: u64,
+    reads: u64,
+}
+
+impl LineFeeds {
+    pub fn new(left: u64) -> LineFeeds {
+        LineFeeds { left, reads: 0 }
+    }
+
+    /// How often it was read.
+    pub fn reads(&self) -> u64 {
+        self.reads
+    }
+}
+
+impl Read for LineFeeds {
+    fn read(&mut self, buf: &mut [u8]) -> io::Result<usize> {
+        self.reads = self.reads.saturating_add(1);
+        if self.left == 0 || buf.is_empty() {
+            return Ok(0);
+        }
+        self.left -= 1;
+        buf[0] = b'\n';
+        Ok(1)
+    }
+}
+
+/// Takes at most 1000 bytes a call, and fails at one of its calls. It counts the calls after that.
+#[derive(Drop)]
+pub struct FailingWriter {
+    before: u64,
+    has_failed: bool,
+    later: u64,
+}
+
+impl FailingWriter {
+    /// Fails at the call that comes after that many.
+    pub fn new(before: u64) -> FailingWriter {
+        FailingWriter {
+            before,
+            has_failed: false,
+            later: 0,
+        }
+    }
+
+    /// Whether it has failed.
+    pub fn has_failed(&self) -> bool {
+        self.has_failed
+    }
+
+    /// How many calls came after the one that failed.
+    pub fn later(&self) -> u64 {
+        self.later
+    }
+
+    // One more call.
+    fn turn(&mut self) -> io::Result<()> {
+        if self.has_failed {
+            self.later = self.later.saturating_add(1);
+            return Ok(());
+        }
+        if self.before == 0 {
+            self.has_failed = true;
+            return Err(io::Error::from(ErrorKind::BrokenPipe));
+        }
+        self.before -= 1;
+        Ok(())
+    }
+}
+
+impl Write for FailingWriter {
+    fn write(&mut self, buf: &[u8]) -> io::Result<usize> {
+        self.turn()?;
+        Ok(buf.len().min(1000))
+    }
+
+    fn flush(&mut self) -> io::Result<()> {
+        self.turn()
+    }
+}

@@ -1,0 +1,6 @@
+use Rattle.std.proofs.Common.{rules}
+use Rattle.revtool.proofs.PlainNumbers.{IsNumber-plain}
+use Rattle.revtool.proofs.fields.read_number.Goals as goal
+
+pub returns-in_err-text_of-clause-some : goal.returns-in_err-text_of-clause-some
+returns-in_err-text_of-clause-some c = (λ some. search rules, λ h. let plain = IsNumber-plain _ h in search rules)

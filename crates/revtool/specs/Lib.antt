@@ -1,0 +1,6 @@
+pub mod Reads
+pub mod Fields
+pub mod Left
+pub mod Numbers
+pub mod Stops
+pub mod Recorder

@@ -1,0 +1,117 @@
+//! The answers to the commands of a session, printed in order.
+
+ghost use Rattle.std.specs.Prelude.{IfErr};
+ghost use Rattle.revtool.specs.Stops.{IsUnreadable};
+
+mod bases;
+mod described;
+mod parsed;
+
+use crate::answers::bases::BaseGraph;
+use crate::answers::described::DescribeGraph;
+use crate::lines::Command;
+use crate::session::Session;
+use crate::stop::Stop;
+use gix_revision::describe::Options;
+use gix_revision::graph::Graph;
+use std::alloc::{Allocator, Global};
+use std::io::{self, BufWriter, Write};
+
+/// Whether a command was answered; of several, whether each was.
+#[derive(Clone, Copy, Debug, PartialEq, Eq)]
+pub(crate) enum Outcome {
+    Answered,
+    Refused,
+}
+
+impl Outcome {
+    // The outcome of this one's commands and that one's.
+    fn and(self, other: Outcome) -> Outcome {
+        match self {
+            Outcome::Answered => other,
+            Outcome::Refused => Outcome::Refused,
+        }
+    }
+}
+
+// The graphs that the commands are answered on, one after another: `base` and `octopus` lines on one,
+// `describe` lines on the other.
+#[derive(Drop)]
+struct Graphs<'s, A: Allocator> {
+    bases: BaseGraph<'s, A>,
+    descriptions: DescribeGraph<'s, A>,
+}
+
+/// Writes a line for each command, in order. After a write that failed nothing more is written.
+pub(crate) fn answer_all<W: Write, A: Allocator + Copy>(
+    alloc: A,
+    refusals: Global,
+    session: Session<'_, A>,
+    output: &mut W,
+) -> Result<Outcome, Stop>
+    ensures { IfErr result (λ stop. ¬ IsUnreadable stop) }
+{
+    let Session {
+        source,
+        options,
+        commands,
+    } = session;
+    let mut graphs = Graphs {
+        bases: Graph::new(alloc, &source),
+        descriptions: Graph::new(alloc, &source),
+    };
+    let mut output = match BufWriter::new(alloc, output) {
+        Ok(output) => output,
+        Err(_) => return Err(Stop::OutOfMemory),
+    };
+    match answer_each(
+        alloc,
+        refusals,
+        &commands,
+        &options,
+        &mut graphs,
+        &mut output,
+    ) {
+        Ok(outcome) => Ok(outcome),
+        Err(_) => {
+            // Dropped as a whole, the writer would try once more to write what it holds.
+            let _ = output.into_parts();
+            Err(Stop::UnwritableOutput)
+        }
+    }
+}
+
+// Each answer, and then whatever a buffer still holds.
+fn answer_each<W: Write, A: Allocator + Copy>(
+    alloc: A,
+    refusals: Global,
+    commands: &[Command<'_, A>],
+    options: &Options<'_, A>,
+    graphs: &mut Graphs<'_, A>,
+    output: &mut W,
+) -> io::Result<Outcome> {
+    let mut outcome = Outcome::Answered;
+    for command in commands {
+        outcome = outcome.and(answer(alloc, refusals, command, options, graphs, output)?);
+    }
+    output.flush()?;
+    Ok(outcome)
+}
+
+fn answer<W: Write, A: Allocator + Copy>(
+    alloc: A,
+    refusals: Global,
+    command: &Command<'_, A>,
+    options: &Options<'_, A>,
+    graphs: &mut Graphs<'_, A>,
+    output: &mut W,
+) -> io::Result<Outcome> {
+    match command {
+        Command::Base(heads) => bases::answer_base(alloc, heads, &mut graphs.bases, output),
+        Command::Octopus(heads) => bases::answer_octopus(alloc, heads, &mut graphs.bases, output),
+        Command::Describe(commit) => {
+            described::answer_describe(alloc, commit, options, &mut graphs.descriptions, output)
+        }
+        Command::Parse(text) => parsed::answer_parse(alloc, refusals, text, output),
+    }
+}

@@ -1,0 +1,220 @@
+//! A delegate that accepts every call, and writes each down as it is printed.
+
+ghost use Rattle.gix_spec.specs.Answer.{answer_of};
+ghost use Rattle.revtool.specs.Recorder.{IsNoRefusal};
+
+use gix_base::error::Exn;
+use gix_base::hash::Prefix;
+use gix_base::object;
+use gix_spec::spec;
+use gix_spec::spec::parse::Delegate;
+use gix_spec::spec::parse::delegate::{
+    Kind, Listener, Navigate, PeelTo, PrefixHint, ReflogLookup, Revision, SiblingBranch, Traversal,
+};
+use std::alloc::{Allocator, Global};
+use std::io::{self, Write};
+
+/// The calls of a parse so far, parted by a semicolon and a space.
+#[derive(Drop)]
+pub(crate) struct Recorder<A: Allocator> {
+    calls: Vec<u8, A>,
+    // Where a refusal would stand. The one for want of memory takes none.
+    refusals: Global,
+}
+
+/// A call with its arguments.
+#[derive(Clone, Copy)]
+enum Call<'a> {
+    FindRef(&'a [u8]),
+    Prefix(Prefix, Option<PrefixHint<'a>>),
+    Reflog(ReflogLookup),
+    Branch(usize),
+    Sibling(SiblingBranch),
+    Kind(spec::Kind),
+    Traverse(Traversal),
+    Peel(PeelTo<'a>),
+    Find { regex: &'a [u8], negated: bool },
+    Index { path: &'a [u8], stage: u8 },
+    Done,
+}
+
+impl<A: Allocator> Recorder<A> {
+    /// No call was heard yet.
+    pub(crate) fn new(alloc: A, refusals: Global) -> Recorder<A> {
+        Recorder {
+            calls: Vec::new(alloc),
+            refusals,
+        }
+    }
+
+    /// The calls, parted by a semicolon and a space.
+    pub(crate) fn calls(&self) -> &[u8] {
+        &self.calls
+    }
+
+    // One more call. One that memory is wanting for leaves no part of itself.
+    fn hear(&mut self, call: Call<'_>) -> Result<(), Exn>
+        ensures { IsNoRefusal (answer_of result) }
+    {
+        let before = self.calls.len();
+        match self.print(call) {
+            Ok(()) => Ok(()),
+            Err(_) => {
+                self.calls.truncate(before);
+                Err(Exn::out_of_memory(self.refusals))
+            }
+        }
+    }
+
+    fn print(&mut self, call: Call<'_>) -> io::Result<()> {
+        if !self.calls.is_empty() {
+            self.calls.write_all(b"; ")?;
+        }
+        print_call(call, &mut self.calls)
+    }
+}
+
+impl<A: Allocator> Listener for Recorder<A> {
+    ghost step = { λ before call answer after. IsNoRefusal answer };
+}
+
+impl<A: Allocator> Revision for Recorder<A> {
+    fn find_ref(&mut self, name: &[u8]) -> Result<(), Exn> {
+        self.hear(Call::FindRef(name))
+    }
+
+    fn disambiguate_prefix(
+        &mut self,
+        prefix: Prefix,
+        hint: Option<PrefixHint<'_>>,
+    ) -> Result<(), Exn> {
+        self.hear(Call::Prefix(prefix, hint))
+    }
+
+    fn reflog(&mut self, query: ReflogLookup) -> Result<(), Exn> {
+        self.hear(Call::Reflog(query))
+    }
+
+    fn nth_checked_out_branch(&mut self, branch_no: usize) -> Result<(), Exn> {
+        self.hear(Call::Branch(branch_no))
+    }
+
+    fn sibling_branch(&mut self, kind: SiblingBranch) -> Result<(), Exn> {
+        self.hear(Call::Sibling(kind))
+    }
+}
+
+impl<A: Allocator> Kind for Recorder<A> {
+    fn kind(&mut self, kind: spec::Kind) -> Result<(), Exn> {
+        self.hear(Call::Kind(kind))
+    }
+}
+
+impl<A: Allocator> Navigate for Recorder<A> {
+    fn traverse(&mut self, kind: Traversal) -> Result<(), Exn> {
+        self.hear(Call::Traverse(kind))
+    }
+
+    fn peel_until(&mut self, kind: PeelTo<'_>) -> Result<(), Exn> {
+        self.hear(Call::Peel(kind))
+    }
+
+    fn find(&mut self, regex: &[u8], negated: bool) -> Result<(), Exn> {
+        self.hear(Call::Find { regex, negated })
+    }
+
+    fn index_lookup(&mut self, path: &[u8], stage: u8) -> Result<(), Exn> {
+        self.hear(Call::Index { path, stage })
+    }
+}
+
+impl<A: Allocator> Delegate for Recorder<A> {
+    fn done(&mut self) -> Result<(), Exn> {
+        self.hear(Call::Done)
+    }
+}
+
+// A call as it is printed: texts as their bytes.
+fn print_call<W: Write>(call: Call<'_>, to: &mut W) -> io::Result<()> {
+    match call {
+        Call::FindRef(name) => print_text("find_ref(", name, to),
+        Call::Prefix(prefix, hint) => print_prefix(prefix, hint, to),
+        Call::Reflog(ReflogLookup::Entry(number)) => write!(to, "reflog(entry {number})"),
+        Call::Reflog(ReflogLookup::Date(time)) => {
+            write!(to, "reflog(date {} {})", time.seconds, time.offset)
+        }
+        Call::Branch(number) => write!(to, "branch({number})"),
+        Call::Sibling(SiblingBranch::Upstream) => to.write_all(b"sibling(upstream)"),
+        Call::Sibling(SiblingBranch::Push) => to.write_all(b"sibling(push)"),
+        Call::Kind(kind) => print_text("kind(", name_of_kind(kind).as_bytes(), to),
+        Call::Traverse(Traversal::NthParent(number)) => write!(to, "parent({number})"),
+        Call::Traverse(Traversal::NthAncestor(number)) => write!(to, "ancestor({number})"),
+        Call::Peel(target) => print_target(target, to),
+        Call::Find { regex, negated } => {
+            print_text(if negated { "find_not(" } else { "find(" }, regex, to)
+        }
+        Call::Index { path, stage } => {
+            write!(to, "index({stage} ")?;
+            print_text("", path, to)
+        }
+        Call::Done => to.write_all(b"done"),
+    }
+}
+
+// What comes before a text, the text, and a closing bracket.
+fn print_text<W: Write>(before: &str, text: &[u8], to: &mut W) -> io::Result<()> {
+    to.write_all(before.as_bytes())?;
+    to.write_all(text)?;
+    to.write_all(b")")
+}
+
+fn print_prefix<W: Write>(
+    prefix: Prefix,
+    hint: Option<PrefixHint<'_>>,
+    to: &mut W,
+) -> io::Result<()> {
+    write!(to, "prefix({prefix}")?;
+    match hint {
+        None => to.write_all(b")"),
+        Some(PrefixHint::MustBeCommit) => to.write_all(b" commit)"),
+        Some(
+            PrefixHint::DescribeAnchor {
+                ref_name,
+                generation,
+            },
+        ) => {
+            to.write_all(b" ")?;
+            to.write_all(ref_name)?;
+            write!(to, " {generation})")
+        }
+    }
+}
+
+fn print_target<W: Write>(target: PeelTo<'_>, to: &mut W) -> io::Result<()> {
+    match target {
+        PeelTo::ObjectKind(kind) => print_text("peel(", name_of(kind).as_bytes(), to),
+        PeelTo::ValidObject => to.write_all(b"peel(object)"),
+        PeelTo::RecursiveTagObject => to.write_all(b"peel()"),
+        PeelTo::Path(path) => print_text("peel(:", path, to),
+    }
+}
+
+fn name_of_kind(kind: spec::Kind) -> &'static str {
+    match kind {
+        spec::Kind::IncludeReachable => "IncludeReachable",
+        spec::Kind::ExcludeReachable => "ExcludeReachable",
+        spec::Kind::RangeBetween => "RangeBetween",
+        spec::Kind::ReachableToMergeBase => "ReachableToMergeBase",
+        spec::Kind::IncludeReachableFromParents => "IncludeReachableFromParents",
+        spec::Kind::ExcludeReachableFromParents => "ExcludeReachableFromParents",
+    }
+}
+
+fn name_of(kind: object::Kind) -> &'static str {
+    match kind {
+        object::Kind::Tree => "tree",
+        object::Kind::Blob => "blob",
+        object::Kind::Commit => "commit",
+        object::Kind::Tag => "tag",
+    }
+}

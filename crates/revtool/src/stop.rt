@@ -1,0 +1,53 @@
+//! Why commands were not answered, or not all of them.
+
+ghost use Rattle.std.specs.Prelude.{◌≡◌, ◌≤◌, ◌<◌};
+
+use std::alloc::{AllocError, AllocFailed};
+use std::io::Write;
+
+/// What ended the program before its last answer.
+#[derive(Clone, Copy, Debug, PartialEq, Eq)]
+pub(crate) enum Stop {
+    /// The input could not be read, or had not ended after the last read that is made.
+    UnreadableInput,
+    /// The first unreadable line, counted from 1.
+    UnreadableLine(usize),
+    /// The output could not be written.
+    UnwritableOutput,
+    OutOfMemory,
+}
+
+impl From<AllocError> for Stop {
+    fn from(_error: AllocError) -> Stop {
+        Stop::OutOfMemory
+    }
+}
+
+impl<T: Drop> From<AllocFailed<T>> for Stop {
+    fn from(_error: AllocFailed<T>) -> Stop {
+        Stop::OutOfMemory
+    }
+}
+
+impl Stop {
+    /// The exit status.
+    pub(crate) fn status(self) -> u8
+        ensures least { 0 < result }
+        ensures most { result ≤ 2 }
+    {
+        match self {
+            Stop::OutOfMemory => 1,
+            Stop::UnreadableInput | Stop::UnreadableLine(_) | Stop::UnwritableOutput => 2,
+        }
+    }
+
+    /// Writes a line that says why; none where the output failed. A failed write is let go.
+    pub(crate) fn report<E: Write>(self, faults: &mut E) {
+        let _ = match self {
+            Stop::UnreadableInput => writeln!(faults, "cannot read standard input"),
+            Stop::UnreadableLine(number) => writeln!(faults, "line {number} is unreadable"),
+            Stop::OutOfMemory => writeln!(faults, "out of memory"),
+            Stop::UnwritableOutput => Ok(()),
+        };
+    }
+}
