@@ -1,5 +1,5 @@
 -- What is measured, as the answer of `describe`.
-use Rattle.std.proofs.Common.{◌≡◌, ℕ, Bool, true, false, ap, ◌∙◌, List, inl, inr, ◌≤◌, arith, not, Option, Some, None, Result, Ok, Err}
+use Rattle.std.proofs.Common.{◌≡◌, ℕ, Bool, true, false, ap, ◌∙◌, inl, inr, ◌≤◌, arith, not, Option, Some, None, Result, Ok, Err}
 use Rattle.std.specs.Prelude.{IfOk}
 use Rattle.std.specs.Option.{option_map}
 use Rattle.gix_base.specs.declared.hash.ObjectId.{ObjectId}

@@ -1,5 +1,5 @@
 -- Where every parent is strictly older, the two counts of a depth meet.
-use Rattle.std.proofs.Common.{◌≡◌, ℕ, refl, subst, List, ◌≤◌, ◌+◌, ◌-◌, arith}
+use Rattle.std.proofs.Common.{◌≡◌, ℕ, subst, List, ◌≤◌, ◌+◌, ◌-◌, arith}
 use Rattle.gix_base.specs.declared.hash.ObjectId.{ObjectId}
 use Rattle.gix_revision.specs.History.{History, IsAncestor}
 use Rattle.gix_revision.specs.History.IsAncestor.{itself, further}

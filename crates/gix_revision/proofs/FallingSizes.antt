@@ -1,5 +1,5 @@
 -- The commits ahead of one and those on falling paths can be counted.
-use Rattle.std.proofs.Common.{◌≡◌, ℕ, ℤ, Bool, true, false, refl, ap, sym, subst, ◌∙◌, List, [], length, is_some, Option, Some, None, IsTrue, not, arith}
+use Rattle.std.proofs.Common.{◌≡◌, ℕ, ℤ, true, false, refl, ap, sym, subst, ◌∙◌, [], is_some, Option, Some, None, IsTrue, not, arith}
 use Rattle.std.specs.Int.Signed.{◌<ℤ◌}
 use Rattle.std.proofs.lemmas.Int.{ints}
 use Rattle.std.specs.Prelude.{int_lt}
@@ -10,8 +10,8 @@ use Rattle.std.proofs.lemmas.Map.Made.{lookup-map_values}
 use Rattle.gix_base.specs.declared.hash.ObjectId.{ObjectId}
 use Rattle.gix_revision.specs.History.{History, Entry, entry_at, same_id, is_one_of, parents_in, time_in, time_of, Has, IsEdge, IsAncestor}
 use Rattle.gix_revision.specs.History.IsAncestor.{itself, further}
-use Rattle.gix_revision.specs.Sizes.{Lists, HasSize}
-use Rattle.gix_revision.specs.Ahead.{IsAheadOf, IsOlder, IsFallingEdge, IsFalling, IsPath}
+use Rattle.gix_revision.specs.Sizes.{HasSize}
+use Rattle.gix_revision.specs.Ahead.{IsAheadOf, IsFallingEdge, IsFalling, IsPath}
 use Rattle.gix_revision.specs.Ahead.IsPath.{stay, further as falls_on}
 use Rattle.gix_revision.proofs.Counts.{lists_apart}
 use Rattle.gix_revision.proofs.Members.{one_of-filter, one_of-filtered}

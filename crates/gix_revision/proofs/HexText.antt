@@ -1,6 +1,6 @@
 -- The digits that were written to the front of a buffer.
-use Rattle.std.proofs.Common.{◌≡◌, ℕ, refl, sym, ap, ◌∙◌, List, ◌++◌, ◌≤◌, ◌+◌, ◌-◌, min, take, drop, length, arith, length-append, length-drop}
-use Rattle.std.proofs.lemmas.List.{length-take, take-append-le, take_all}
+use Rattle.std.proofs.Common.{◌≡◌, ℕ, sym, ap, ◌∙◌, List, ◌++◌, ◌≤◌, ◌+◌, ◌-◌, min, take, drop, length, arith, length-append, length-drop}
+use Rattle.std.proofs.lemmas.List.{take-append-le, take_all}
 
 -- the front of the buffer is what was written to it
 pub front_written : (n len : ℕ) (text old new : List ℕ) → n ≡ min len 40 → new ≡ take n text ++ drop n old → length new ≡ 40 → length old ≡ 40 → take n new ≡ take (min len 40) text

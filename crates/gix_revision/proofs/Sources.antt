@@ -1,10 +1,10 @@
 -- The history of a source in memory.
-use Rattle.std.proofs.Common.{◌≡◌, Bool, true, false, cond, refl, ap, sym, ◌∙◌, Option, Some, None, is_some, List, [], ◌∷◌}
+use Rattle.std.proofs.Common.{◌≡◌, true, false, cond, refl, ap, sym, ◌∙◌, Option, Some, None, is_some, List, [], ◌∷◌}
 use Rattle.std.specs.Option.{option_map}
 use Rattle.std.specs.Map.{lookup}
 use Rattle.gix_base.specs.declared.hash.ObjectId.{ObjectId}
 use Rattle.gix_revision.specs.declared.graph.find.SourceCommit.{SourceCommit}
-use Rattle.gix_revision.specs.History.{Entry, same_id, entry_at, Has}
+use Rattle.gix_revision.specs.History.{same_id, entry_at, Has}
 use Rattle.gix_revision.specs.Held.{entry_of, history_of}
 
 pub entry_at-history_of : {A : Type 0} (es : List (ObjectId × SourceCommit A)) (id : ObjectId) → option_map entry_of (lookup (same_id id) es) ≡ entry_at (history_of es) id

@@ -1,5 +1,5 @@
 -- What a graph ends as, once the data that it lent is given back.
-use Rattle.std.specs.Prelude.{◌≡◌, ◌≤◌, Option, Some, None, Result, Ok, Err, if◌then◌else◌}
+use Rattle.std.specs.Prelude.{◌≡◌, ◌≤◌, Option, Result, Err, if◌then◌else◌}
 use Rattle.std.specs.Borrow.{LendsSo, RestsIfErr, MutBor, Fml, RattleType}
 use Rattle.gix_revision.specs.Data.{SameData}
 use Rattle.gix_revision.specs.Faults.{FaultSeen, faults_after}

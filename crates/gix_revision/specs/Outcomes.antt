@@ -9,7 +9,7 @@ use Rattle.gix_revision.specs.declared.describe.options.Options.{Options}
 use Rattle.gix_revision.specs.declared.describe.outcome.Outcome.{Outcome}
 use Rattle.gix_revision.specs.History.{History}
 use Rattle.gix_revision.specs.Followed.{followed}
-use Rattle.gix_revision.specs.Described.{Names, Description, IsDescribed, nothing_to_find}
+use Rattle.gix_revision.specs.Described.{Names, Description, IsDescribed}
 use Rattle.gix_revision.specs.DescribeRefusals.{NeedsWalk, IsRefused}
 
 -- the names by their bytes

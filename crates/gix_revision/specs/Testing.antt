@@ -1,5 +1,5 @@
 -- The sources for tests: what they stand before, and whose turn it is.
-use Rattle.std.specs.Prelude.{ℕ, ◌-◌, Bool, true, false, nat_eq, if◌then◌else◌}
+use Rattle.std.specs.Prelude.{ℕ, ◌-◌, Bool, false, nat_eq, if◌then◌else◌}
 use Rattle.gix_base.specs.declared.hash.ObjectId.{ObjectId}
 use Rattle.gix_revision.specs.History.{same_id}
 use Rattle.gix_revision.specs.declared.graph.testing.Turn.{Turn}

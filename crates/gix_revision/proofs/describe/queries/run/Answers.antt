@@ -1,6 +1,6 @@
-use Rattle.std.proofs.Common.{◌≡◌, ◌≤◌, ◌+◌, ◌∙◌, length, arith, sym, subst, rules}
+use Rattle.std.proofs.Common.{◌≤◌, ◌∙◌, length, arith, subst}
 use Rattle.std.proofs.lemmas.List.{take_all}
-use Rattle.gix_revision.specs.DescribeQueries.{AreCalls, FewRefused}
+use Rattle.gix_revision.specs.DescribeQueries.{AreCalls}
 use Rattle.gix_revision.proofs.DescribeCalls.{next_query, calls_more, few_more}
 use Rattle.gix_revision.proofs.describe.queries.run.Goals as goal
 
