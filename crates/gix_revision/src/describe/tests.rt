@@ -273,7 +273,7 @@ fn either_name_of_two_lies_between_the_counts(rt: HostRuntime) -> Result<(), Fai
 
 fn format_of(name: Option<&'static [u8]>, digit: u8) -> Format<'static> {
     Format {
-        name: name.map(CowSlice::Borrowed),
+        name: name.map(|name| CowSlice::Borrowed(name)),
         id: id(digit),
         hex_len: 7,
         depth: 0,
