@@ -146,9 +146,9 @@ mod tests {
         for (key, value) in [(2, 'b'), (9, 'i'), (2, 'B'), (5, 'e')] {
             assert!(rt; queue.insert(key, value).is_ok());
         }
-        let mut seen = 0;
+        let mut seen: usize = 0;
         for _ in queue.iter_unordered() {
-            seen += 1;
+            seen = seen.saturating_add(1);
         }
         assert_eq!(rt; seen, 4);
         assert_eq!(rt; queue.len(), 4);
