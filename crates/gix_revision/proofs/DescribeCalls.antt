@@ -1,7 +1,5 @@
 -- Calls of `describe` one after another.
-use Rattle.std.proofs.Common.{◌≡◌, ℕ, Bool, true, false, cond, refl, ap, sym, subst, min, ◌∙◌, List, [], ◌∷◌, ◌++◌, ◌⊎◌, inl, inr, ◌≤◌, ◌<◌, ◌+◌, ◌-◌, ◌^◌, length, take, get_or, arith, Option, Some, None}
-use Rattle.std.specs.List.{filter}
-use Rattle.std.proofs.lemmas.List.{take_more}
+use Rattle.std.proofs.Common.{◌≡◌, ℕ, true, false, ap, subst, min, ◌∙◌, ◌≤◌, Option, Some, None}
 use Rattle.gix_base.specs.declared.hash.ObjectId.{ObjectId}
 use Rattle.gix_base.specs.declared.error.message.Message.{Message}
 use Rattle.gix_base.specs.declared.error.message.Message.TheVariants.{ParentsOf, MissingStart, CounterFull, OutOfMemory}
@@ -11,7 +9,7 @@ use Rattle.gix_revision.specs.declared.describe.queries.Query.{Query}
 use Rattle.gix_revision.specs.declared.describe.queries.Answer.{Answer}
 use Rattle.gix_revision.specs.declared.describe.queries.Answer.TheVariants.{Described, Refused}
 use Rattle.gix_revision.specs.Copies.{IsSameOptions}
-use Rattle.gix_revision.specs.DescribeQueries.{IsRight, is_refused_by_source, FewRefused, IsCall, AreCalls, KeepsPairs}
+use Rattle.gix_revision.specs.DescribeQueries.{is_refused_by_source, IsCall, KeepsPairs}
 use Rattle.gix_revision.specs.Faults.{FaultSeen}
 use Rattle.gix_revision.specs.Graph.{Graphed}
 use Rattle.gix_revision.specs.History.{History}
@@ -49,49 +47,18 @@ module _ {A : Type 0} (m n : Options A) (same : IsSameOptions m n) (h : History)
       subst (λ x. IsRefused (followed m.first_parent h) s x (cap_of n) before after e) same.names first in
       subst (λ x. IsRefused (followed m.first_parent h) s (names_in m) (min x 32) before after e) same.candidates names
 
--- the queries so far and the next one
-pub next_query : {A : Type 0} (qs : List (Query A)) (i : ℕ) (q : Query A) → i < length qs → q ≡ get_or qs i q → take (i + 1) qs ≡ take i qs ++ q ∷ []
-next_query qs i q below is = take_more qs i q below ∙ ap (λ x. take i qs ++ x ∷ []) (sym is)
-
 module _ {S A : Type 0} (history : S → History) (faults : S → ℕ) where
-  -- one more call at the end
-  pub calls_more : (qs : List (Query A)) (rs : List (Answer A)) (before mid after : Graphed S ℕ) (q : Query A) (a : Answer A)
-      → AreCalls history faults qs rs before mid → IsCall history faults mid after q a → AreCalls history faults (qs ++ q ∷ []) (rs ++ a ∷ []) before after
-  calls_more [] [] before mid after q a calls call = (after, rw (← calls) call, refl)
-  calls_more [] (b ∷ rs) before mid after q a calls call = absurd calls
-  calls_more (p ∷ qs) [] before mid after q a calls call = absurd calls
-  calls_more (p ∷ qs) (b ∷ rs) before mid after q a calls call = (calls.0, calls.1, calls_more qs rs calls.0 mid after q a calls.2 call)
+  -- a call lowers no count, keeps the history, and is refused for the source only where that failed
+  pub rises : (s t : Graphed S ℕ) (q : Query A) (x : Answer A) → IsCall history faults s t q x → faults s.source ≤ faults t.source
+  rises s t q x call = call.count
 
-filter_more : {T : Type 0} (p : T → Bool) (xs : List T) (x : T) → length (filter p (xs ++ x ∷ [])) ≡ length (filter p xs) + cond (p x) 1 0
-filter_more {T} p [] x = by (p x)
-  where
-    by : (b : Bool) → length (cond b (x ∷ []) []) ≡ 0 + cond b 1 0
-    by true = refl
-    by false = refl
-filter_more p (y ∷ ys) x =
-    elim (p y) as (λ b. length (cond b (y ∷ filter p (ys ++ x ∷ [])) (filter p (ys ++ x ∷ []))) ≡ length (cond b (y ∷ filter p ys) (filter p ys)) + cond (p x) 1 0) [
-      | true ↦ let r = filter_more p ys x in omega arith
-      | false ↦ filter_more p ys x
-    ]
+  pub keeps : (s t : Graphed S ℕ) (q : Query A) (x : Answer A) → IsCall history faults s t q x → history t.source ≡ history s.source
+  keeps s t q x call = call.same_history
 
-few : (top a b c n k : ℕ) → (n + a ≤ b) ⊎ (top ≤ b) → b ≤ c → (k ≡ 0) ⊎ ((k ≡ 1) × ((b < c) ⊎ (top ≤ c))) → ((n + k) + a ≤ c) ⊎ (top ≤ c)
-few top a b c n k (inr full) le last = inr (omega arith)
-few top a b c n k (inl some) le (inl none) = inl (omega arith)
-few top a b c n k (inl some) le (inr (one, inl grew)) = inl (omega arith)
-few top a b c n k (inl some) le (inr (one, inr full)) = inr full
-
-abbrev count_of : {A : Type 0} → Answer A → ℕ
-count_of r = cond (is_refused_by_source r) 1 0
-
--- a refusal for the source has its fault
-faulted : {A : Type 0} (h : History) (b c : ℕ) (q : Query A) (r : Answer A) → IsRight h b c q r
-    → (count_of r ≡ 0) ⊎ ((count_of r ≡ 1) × FaultSeen b c)
-faulted h b c q (Described found) right = inl refl
-faulted h b c q (Refused (ParentsOf id)) right = inr (refl, right.2)
-faulted h b c q (Refused (MissingStart id)) right = inl refl
-faulted h b c q (Refused CounterFull) right = inl refl
-faulted h b c q (Refused OutOfMemory) right = inl refl
-
-pub few_more : {A : Type 0} (h : History) (a b c : ℕ) (q : Query A) (rs : List (Answer A)) (r : Answer A) → FewRefused a b rs → b ≤ c → IsRight h b c q r → FewRefused a c (rs ++ r ∷ [])
-few_more h a b c q rs r before le right =
-    rw (filter_more is_refused_by_source rs r) (few (2 ^ 64 - 1) a b c (length (filter is_refused_by_source rs)) (count_of r) before le (faulted h b c q r right))
+  pub seen : (s t : Graphed S ℕ) (q : Query A) (x : Answer A) → IsCall history faults s t q x
+      → is_refused_by_source x ≡ true → FaultSeen (faults s.source) (faults t.source)
+  seen s t q (Described found) call refused = absurd (let no : false ≡ true = refused in cc)
+  seen s t q (Refused (ParentsOf id)) call refused = call.right.2
+  seen s t q (Refused (MissingStart id)) call refused = absurd (let no : false ≡ true = refused in cc)
+  seen s t q (Refused CounterFull) call refused = absurd (let no : false ≡ true = refused in cc)
+  seen s t q (Refused OutOfMemory) call refused = absurd (let no : false ≡ true = refused in cc)

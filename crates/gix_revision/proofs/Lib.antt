@@ -18,6 +18,7 @@ pub mod Unreached
 pub mod Heads
 pub mod Results
 pub mod Calls
+pub mod BaseCalls
 pub mod OctopusLaws
 pub mod WalkFrom
 pub mod Follows

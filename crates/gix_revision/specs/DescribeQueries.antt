@@ -1,6 +1,5 @@
--- What a list of calls of `describe` on one graph answers.
-use Rattle.std.specs.Prelude.{◌≡◌, ◌⊎◌, ◌≤◌, ◌+◌, ◌-◌, ◌^◌, ℕ, List, [], ◌∷◌, length, Bool, true, false, Option, IfSome}
-use Rattle.std.specs.List.{filter}
+-- What a call of `describe` in a list answers.
+use Rattle.std.specs.Prelude.{◌≡◌, ◌≤◌, ℕ, Bool, true, false, Option, IfSome}
 use Rattle.gix_base.specs.declared.hash.ObjectId.{ObjectId}
 use Rattle.gix_base.specs.declared.error.message.Message.{Message}
 use Rattle.gix_base.specs.declared.error.message.Message.TheVariants.{ParentsOf, MissingStart, CounterFull, OutOfMemory}
@@ -35,10 +34,6 @@ abbrev pub is_refused_by_source : {A : Type 0} → Answer A → Bool
 is_refused_by_source (Described found) = false
 is_refused_by_source (Refused error) = is_source_fault error
 
--- at most as many answers are refused for the source as its count grew, unless that ends full
-abbrev pub FewRefused : {A : Type 0} → ℕ → ℕ → List (Answer A) → Type 0
-FewRefused before after rs = (length (filter is_refused_by_source rs) + before ≤ after) ⊎ (2 ^ 64 - 1 ≤ after)
-
 module _ {S A : Type 0} (history : S → History) (faults : S → ℕ) where
   -- one call: its answer over the graph as it was, and how the graph is left
   pub record IsCall (before after : Graphed S ℕ) (q : Query A) (a : Answer A) : Type 0 where
@@ -46,12 +41,3 @@ module _ {S A : Type 0} (history : S → History) (faults : S → ℕ) where
     pub untouched : (¬ Walks q.commit q.options) → after ≡ before
     pub same_history : history after.source ≡ history before.source
     pub count : faults before.source ≤ faults after.source
-
-  -- the calls one after another, each on the graph that the one before it left: one answer for each
-  -- query, in order
-  abbrev pub AreCalls : List (Query A) → List (Answer A) → Graphed S ℕ → Graphed S ℕ → Type 0
-  AreCalls [] [] before after = after ≡ before
-  AreCalls [] (a ∷ rs) before after = ⊥
-  AreCalls (q ∷ qs) [] before after = ⊥
-  AreCalls (q ∷ qs) (a ∷ rs) before after =
-      (next : Graphed S ℕ) × IsCall before next q a × AreCalls qs rs next after

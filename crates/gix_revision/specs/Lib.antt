@@ -4,7 +4,6 @@ pub mod History
 pub mod Bases
 pub mod Held
 pub mod Memory
-pub mod Testing
 pub mod Commit
 pub mod Lends
 pub mod Data
@@ -19,6 +18,7 @@ pub mod GraphError
 pub mod Flags
 pub mod GenThenTime
 pub mod OctopusSteps
+pub mod Calls
 pub mod Queries
 pub mod Followed
 pub mod Sizes

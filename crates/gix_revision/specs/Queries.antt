@@ -1,6 +1,6 @@
--- What a list of calls on one graph answers.
-use Rattle.std.specs.Prelude.{◌≡◌, ◌⊎◌, ◌≤◌, ◌+◌, ◌-◌, ◌^◌, ℕ, List, [], ◌∷◌, length, Bool, true, false, IsTrue, Option, Some}
-use Rattle.std.specs.List.{IsDistinct, filter, list_all}
+-- What a call of `merge_base` or `octopus` in a list answers.
+use Rattle.std.specs.Prelude.{◌≡◌, ◌≤◌, ℕ, List, [], ◌∷◌, Bool, true, false, IsTrue, Option, Some}
+use Rattle.std.specs.List.{IsDistinct, list_all}
 use Rattle.gix_base.specs.declared.hash.ObjectId.{ObjectId}
 use Rattle.gix_revision.specs.History.{History, same_id, IsAcyclic, GenerationsNeverRise}
 use Rattle.gix_revision.specs.Graph.{Graphed}
@@ -66,10 +66,6 @@ is_refused_by_source (MergeBase found) = false
 is_refused_by_source (Octopus r) = false
 is_refused_by_source (Refused e) = is_source_fault e
 
--- at most as many answers are refused for the source as its count grew, unless that ends full
-abbrev pub FewRefused : {A : Type 0} → ℕ → ℕ → List (Answer A) → Type 0
-FewRefused before after answers = (length (filter is_refused_by_source answers) + before ≤ after) ⊎ (2 ^ 64 - 1 ≤ after)
-
 module _ {S A : Type 0} (history : S → History) (faults : S → ℕ) where
   -- one call: its answer over the graph as it was, and how the graph is left
   pub record IsCall (before after : Graphed S (Commit Flags A)) (q : Query A) (a : Answer A) : Type 0 where
@@ -78,10 +74,3 @@ module _ {S A : Type 0} (history : S → History) (faults : S → ℕ) where
     pub same_history : history after.source ≡ history before.source
     pub cause : HasCauseIfRefused (faults before.source) (faults after.source) a
     pub count : faults before.source ≤ faults after.source
-
-  -- the calls one after another, each on the graph that the one before it left
-  abbrev pub AreCalls : List (Query A) → List (Answer A) → Graphed S (Commit Flags A) → Graphed S (Commit Flags A) → Type 0
-  AreCalls [] [] before after = after ≡ before
-  AreCalls [] (a ∷ rest) before after = ⊥
-  AreCalls (q ∷ qs) [] before after = ⊥
-  AreCalls (q ∷ qs) (a ∷ rest) before after = (next : Graphed S (Commit Flags A)) × IsCall before next q a × AreCalls qs rest next after

@@ -19,6 +19,3 @@ pub type Flags = u32;
 
 /// Why a commit is not described.
 pub type Error = gix_base::error::Message;
-
-#[cfg(test)]
-mod tests;

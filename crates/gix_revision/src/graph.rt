@@ -10,9 +10,6 @@ pub mod commit;
 pub mod find;
 pub mod marks;
 pub mod memory;
-pub mod testing;
-#[cfg(test)]
-pub(crate) mod tests;
 
 pub use commit::{Commit, FullCommit};
 pub use find::{Find, FindFault, SourceCommit};

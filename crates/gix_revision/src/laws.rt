@@ -16,8 +16,6 @@ use gix_base::laws::order_agrees;
 pub mod flags;
 pub mod formats;
 pub mod sizes;
-#[cfg(test)]
-mod tests;
 
 /// Edges lead from commit to commit: a parent that the history lacks is on no edge.
 pub fn edges_join_commits()

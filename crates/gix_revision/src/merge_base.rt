@@ -8,8 +8,6 @@ pub(crate) mod gather;
 pub mod gen_then_time;
 pub mod heads;
 pub mod queries;
-#[cfg(test)]
-mod tests;
 
 pub use error::{Error, Simple};
 pub use flags::Flags;

@@ -1,6 +1,7 @@
 -- The orders of specs, kinds and arguments: by case as they are declared, then by what the case holds.
 use Rattle.std.specs.Prelude.{ℕ, List, []}
 use Rattle.std.specs.declared.cmp.Ordering.{Ordering}
+use Rattle.std.specs.declared.cmp.Ordering.TheVariants.{Less, Equal, Greater}
 use Rattle.std.specs.Ordering.{nat_cmp, ordering_then}
 use Rattle.std.specs.Cmp.Lexicographic.{slice_cmp}
 use Rattle.gix_spec.specs.declared.spec.Kind.{Kind}
@@ -9,6 +10,14 @@ use Rattle.gix_spec.specs.declared.spec.Spec.{Spec}
 use Rattle.gix_spec.specs.declared.spec.Spec.TheVariants.{Include, Exclude, Range, Merge, IncludeOnlyParents, ExcludeParents}
 use Rattle.gix_spec.specs.declared.spec.parse.delegate.Traversal.{Traversal}
 use Rattle.gix_spec.specs.declared.spec.parse.delegate.Traversal.TheVariants.{NthParent, NthAncestor}
+use Rattle.gix_base.specs.Kind.{kind_order as object_order}
+use Rattle.gix_base.specs.Time.{time_order}
+use Rattle.gix_spec.specs.declared.spec.parse.delegate.PrefixHint.{PrefixHint}
+use Rattle.gix_spec.specs.declared.spec.parse.delegate.PrefixHint.TheVariants.{MustBeCommit, DescribeAnchor}
+use Rattle.gix_spec.specs.declared.spec.parse.delegate.ReflogLookup.{ReflogLookup}
+use Rattle.gix_spec.specs.declared.spec.parse.delegate.ReflogLookup.TheVariants.{Entry, Date}
+use Rattle.gix_spec.specs.declared.spec.parse.delegate.PeelTo.{PeelTo}
+use Rattle.gix_spec.specs.declared.spec.parse.delegate.PeelTo.TheVariants.{ObjectKind, ValidObject, RecursiveTagObject, Path}
 use Rattle.gix_spec.specs.declared.spec.parse.delegate.SiblingBranch.{SiblingBranch}
 use Rattle.gix_spec.specs.declared.spec.parse.delegate.SiblingBranch.TheVariants.{Upstream, Push}
 use Rattle.gix_spec.specs.Printed.{kind_of}
@@ -63,3 +72,29 @@ sibling_place Push = 1
 
 abbrev pub sibling_order : SiblingBranch → SiblingBranch → Ordering
 sibling_order a b = nat_cmp (sibling_place a) (sibling_place b)
+
+-- hints: that it is a commit, then anchors by the bytes of their names, then by generation
+abbrev pub hint_order : PrefixHint → PrefixHint → Ordering
+hint_order MustBeCommit MustBeCommit = Equal
+hint_order MustBeCommit (DescribeAnchor name generation) = Less
+hint_order (DescribeAnchor name generation) MustBeCommit = Greater
+hint_order (DescribeAnchor a m) (DescribeAnchor b n) = ordering_then (slice_cmp nat_cmp a.now b.now) (nat_cmp m n)
+
+-- look-ups in a reflog: entries by number, then dates by time
+abbrev pub lookup_order : ReflogLookup → ReflogLookup → Ordering
+lookup_order (Entry m) (Entry n) = nat_cmp m n
+lookup_order (Entry m) (Date t) = Less
+lookup_order (Date s) (Entry n) = Greater
+lookup_order (Date s) (Date t) = time_order s t
+
+-- targets: object kinds, any object, what a tag leads to, paths by their bytes
+abbrev pub target_place : PeelTo → ℕ
+target_place (ObjectKind k) = 0
+target_place ValidObject = 1
+target_place RecursiveTagObject = 2
+target_place (Path p) = 3
+
+abbrev pub target_order : PeelTo → PeelTo → Ordering
+target_order (ObjectKind j) (ObjectKind k) = object_order j k
+target_order (Path p) (Path q) = slice_cmp nat_cmp p.now q.now
+target_order a b = nat_cmp (target_place a) (target_place b)

@@ -3,7 +3,7 @@
 ghost use Rattle.gix_spec.specs.Ends.{DoneIsLast, EndsInDone, ReadsAll, TakesNoneWithoutBraces};
 ghost use Rattle.gix_base.specs.Laws.{OrderAgrees, HashAgrees, OrderIs};
 ghost use Rattle.std.specs.Prelude.{◌≡◌};
-ghost use Rattle.gix_spec.specs.Orders.{spec_order, kind_order, step_order, sibling_order};
+ghost use Rattle.gix_spec.specs.Orders.{spec_order, kind_order, step_order, sibling_order, hint_order, lookup_order, target_order};
 ghost use Rattle.gix_spec.specs.Heard.{PrintedReadsBack};
 
 use crate::spec::parse::Delegate;
@@ -140,4 +140,19 @@ pub fn traversals_are_ordered()
 /// Sibling branches are ordered as their cases stand.
 pub fn siblings_are_ordered()
     ensures { OrderIs ⟦<SiblingBranch as Ord>⟧.cmp sibling_order }
+{}
+
+/// Hints of prefixes are ordered by case, then by the bytes of the name, then by generation.
+pub fn hints_are_ordered()
+    ensures { OrderIs ⟦<PrefixHint<'static> as Ord>⟧.cmp hint_order }
+{}
+
+/// Look-ups in a reflog are ordered by case, then by number or time.
+pub fn lookups_are_ordered()
+    ensures { OrderIs ⟦<ReflogLookup as Ord>⟧.cmp lookup_order }
+{}
+
+/// What objects are peeled to is ordered by case, then by kind or by the bytes of the path.
+pub fn targets_are_ordered()
+    ensures { OrderIs ⟦<PeelTo<'static> as Ord>⟧.cmp target_order }
 {}

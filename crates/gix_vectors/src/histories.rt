@@ -5,19 +5,56 @@ use gix_revision::graph::memory::InsertError;
 use gix_revision::graph::{MemorySource, SourceCommit};
 use std::alloc::{AllocError, Allocator};
 
-/// A commit of a table: its id by its byte, its time, its generation and its parents by their bytes.
+/// A commit of a table: its digit, its time, its generation and the digits of its parents.
+#[derive(Clone, Copy)]
 pub struct Row<'t>(pub u8, pub i64, pub Option<u32>, pub &'t [u8]);
 
-/// The id that has this byte twenty times, so that 0x44 is forty digits 4.
-pub fn id(byte: u8) -> ObjectId {
-    ObjectId([byte; 20])
+/// Two merges of the same two commits:
+///
+/// ```text
+///   2---4
+///  / \ /
+/// 1   X
+///  \ / \
+///   3---5
+/// ```
+pub const CRISS_CROSS: [Row<'static>; 5] = [
+    Row(1, 1, None, &[]),
+    Row(2, 2, None, &[1]),
+    Row(3, 2, None, &[1]),
+    Row(4, 3, None, &[2, 3]),
+    Row(5, 3, None, &[2, 3]),
+];
+
+/// The parent 1 is newer than its child 2.
+pub const OLDER_CHILD: [Row<'static>; 4] = [
+    Row(1, 50, None, &[]),
+    Row(2, 1, None, &[1]),
+    Row(3, 100, None, &[2, 1]),
+    Row(4, 90, None, &[2, 1]),
+];
+
+/// The commits between 5 and 2 are older than 2.
+pub const OLD_PATH: [Row<'static>; 7] = [
+    Row(9, 0, None, &[]),
+    Row(2, 50, None, &[9]),
+    Row(3, 0, None, &[2]),
+    Row(4, 0, None, &[9, 3]),
+    Row(5, 1, None, &[4]),
+    Row(6, 100, None, &[5, 2]),
+    Row(7, 90, None, &[5, 2]),
+];
+
+/// The id of forty hex digits that are all this one, which is less than 16.
+pub fn id(digit: u8) -> ObjectId {
+    ObjectId([digit % 16 * 17; 20])
 }
 
-/// The ids of some bytes.
-pub fn ids<A: Allocator>(alloc: A, bytes: &[u8]) -> Result<Vec<ObjectId, A>, AllocError> {
+/// The ids of some digits.
+pub fn ids<A: Allocator>(alloc: A, digits: &[u8]) -> Result<Vec<ObjectId, A>, AllocError> {
     let mut all = Vec::new(alloc);
-    for byte in bytes {
-        all.push(id(*byte))?;
+    for digit in digits {
+        all.push(id(*digit))?;
     }
     Ok(all)
 }
@@ -28,13 +65,13 @@ pub fn source_of<A: Allocator + Copy>(
     rows: &[Row<'_>],
 ) -> Result<MemorySource<A>, AllocError> {
     let mut source = MemorySource::new(alloc);
-    for Row(byte, time, generation, parents) in rows {
+    for Row(digit, time, generation, parents) in rows {
         let commit = SourceCommit {
             parents: ids(alloc, parents)?,
             time: *time,
             generation: *generation,
         };
-        if let Err(InsertError::OutOfMemory(_)) = source.insert(id(*byte), commit) {
+        if let Err(InsertError::OutOfMemory(_)) = source.insert(id(*digit), commit) {
             return Err(AllocError);
         }
     }

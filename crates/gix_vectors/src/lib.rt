@@ -1,9 +1,30 @@
-//! Worked rows, and hostile input, memory and streams, over all crates at once.
+//! All tests of the library and of `revtool`: worked rows, each public call once, and hostile sources,
+//! delegates, streams and memory. They stand above all crates, so that no other crate is proved twice.
 #![tactic(auto)]
 
+pub mod delegate;
 #[cfg(test)]
-mod bases;
+mod descriptions;
+#[cfg(test)]
+mod errors;
+#[cfg(test)]
+mod graphs;
 pub mod histories;
 #[cfg(test)]
+mod ids;
+#[cfg(test)]
 mod lines;
+#[cfg(test)]
+mod lists;
+#[cfg(test)]
+mod merge_bases;
+#[cfg(test)]
+mod octopus;
+#[cfg(test)]
+mod queue;
+#[cfg(test)]
+mod sets;
+pub mod sources;
 pub mod streams;
+#[cfg(test)]
+mod texts;

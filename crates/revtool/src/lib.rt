@@ -12,7 +12,7 @@ mod answers;
 mod fields;
 mod input;
 mod lines;
-mod recorder;
+pub mod recorder;
 mod session;
 mod stop;
 

@@ -16,7 +16,7 @@ use std::io::{self, Write};
 
 /// The calls of a parse so far, parted by a semicolon and a space.
 #[derive(Drop)]
-pub(crate) struct Recorder<A: Allocator> {
+pub struct Recorder<A: Allocator> {
     calls: Vec<u8, A>,
     // Where a refusal would stand. The one for want of memory takes none.
     refusals: Global,
@@ -40,7 +40,7 @@ enum Call<'a> {
 
 impl<A: Allocator> Recorder<A> {
     /// No call was heard yet.
-    pub(crate) fn new(alloc: A, refusals: Global) -> Recorder<A> {
+    pub fn new(alloc: A, refusals: Global) -> Recorder<A> {
         Recorder {
             calls: Vec::new(alloc),
             refusals,
@@ -48,7 +48,7 @@ impl<A: Allocator> Recorder<A> {
     }
 
     /// The calls, parted by a semicolon and a space.
-    pub(crate) fn calls(&self) -> &[u8] {
+    pub fn calls(&self) -> &[u8] {
         &self.calls
     }
 

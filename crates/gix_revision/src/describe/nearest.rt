@@ -21,13 +21,8 @@ fn larger(best: Option<(ObjectId, usize)>, id: ObjectId, below: usize) -> Option
 {
     match best {
         None => Some((id, below)),
-        Some((other, more)) => {
-            if more < below {
-                Some((id, below))
-            } else {
-                Some((other, more))
-            }
-        }
+        Some((_, more)) if more < below => Some((id, below)),
+        Some(nearest) => Some(nearest),
     }
 }
 
@@ -49,10 +44,8 @@ fn nearer<'name, S: Find, A: Allocator + Copy>(
     if !names.contains_key(&commit) {
         return Ok(best);
     }
-    match count_ancestors(alloc, commit, first_parent, graph) {
-        Ok(below) => Ok(larger(best, commit, below)),
-        Err(refused) => Err(refused),
-    }
+    let below = count_ancestors(alloc, commit, first_parent, graph)?;
+    Ok(larger(best, commit, below))
 }
 
 /// The named one of some commits that has the most ancestors, and how many those are.
@@ -80,7 +73,7 @@ fn nearest<'name, S: Find, A: Allocator + Copy>(
 }
 
 /// How many ancestors a commit has, and the nearest named one with its depth.
-pub fn measure<'name, S: Find, A: Allocator + Copy>(
+pub(crate) fn measure<'name, S: Find, A: Allocator + Copy>(
     alloc: A,
     start: ObjectId,
     names: &Names<'name, A>,
@@ -93,15 +86,12 @@ pub fn measure<'name, S: Find, A: Allocator + Copy>(
     ensures history { S.history graph.new.source ≡ S.history graph.old.source }
     ensures count { S.fault_count graph.old.source ≤ S.fault_count graph.new.source }
 {
-    let all = match ancestors(alloc, start, first_parent, graph) {
-        Ok(all) => all,
-        Err(refused) => return Err(refused),
-    };
+    let all = ancestors(alloc, start, first_parent, graph)?;
     let total = all.len();
     if total == 0 {
         return Err(Message::MissingStart(start));
     }
-    if total > 4294967295 {
+    if total > u32::MAX as usize {
         return Err(Message::CounterFull);
     }
     let found = match nearest(alloc, &all, names, first_parent, graph) {

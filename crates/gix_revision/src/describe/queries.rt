@@ -1,7 +1,8 @@
 //! Lists of calls of `describe` on one graph.
 
 ghost use Rattle.std.specs.Prelude.{◌≡◌, ◌≤◌, length, IfOk, IfErr};
-ghost use Rattle.gix_revision.specs.DescribeQueries.{AreCalls, FewRefused, IsCall};
+ghost use Rattle.gix_revision.specs.Calls.{AreCalls, FewRefused};
+ghost use Rattle.gix_revision.specs.DescribeQueries.{IsCall, is_refused_by_source};
 
 use crate::describe::function::describe;
 use crate::describe::options::Options;
@@ -63,10 +64,10 @@ pub fn run<'name, S: Find, A: Allocator + Copy>(
     queries: &[Query<'name, A>],
 ) -> Result<Vec<Answer<'name, A>, A>, Message>
     ensures calls { IfOk result (λ answers.
-        AreCalls S.history S.fault_count queries.now answers.items graph.old graph.new) }
+        AreCalls (IsCall S.history S.fault_count) queries.now answers.items graph.old graph.new) }
     ensures one_each { IfOk result (λ answers. length answers.items ≡ length queries.now) }
-    ensures few_refused { IfOk result (λ answers.
-        FewRefused (S.fault_count graph.old.source) (S.fault_count graph.new.source) answers.items) }
+    ensures few_refused { IfOk result (λ answers. FewRefused is_refused_by_source
+        (S.fault_count graph.old.source) (S.fault_count graph.new.source) answers.items) }
     ensures room { IfErr result (λ error. (error ≡ Message.OutOfMemory) × (graph.new ≡ graph.old)) }
     ensures history { S.history graph.new.source ≡ S.history graph.old.source }
     ensures count { S.fault_count graph.old.source ≤ S.fault_count graph.new.source }

@@ -23,9 +23,6 @@ use gix_base::hash::ObjectId;
 use std::alloc::Allocator;
 use std::cmp::Ordering;
 
-#[cfg(test)]
-pub(crate) mod tests;
-
 /// Whether each of `ids` is `id`.
 fn all_are(ids: &[ObjectId], id: ObjectId) -> bool
     ensures { result ≡ list_all (same_id id) ids.now }

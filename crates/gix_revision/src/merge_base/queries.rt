@@ -1,7 +1,8 @@
 //! Lists of calls on one graph.
 
 ghost use Rattle.std.specs.Prelude.{◌≡◌, ◌≤◌, length, IfOk, IfErr};
-ghost use Rattle.gix_revision.specs.Queries.{AreRight, FewRefused, IsCall, AreCalls};
+ghost use Rattle.gix_revision.specs.Calls.{AreCalls, FewRefused};
+ghost use Rattle.gix_revision.specs.Queries.{AreRight, IsCall, is_refused_by_source};
 
 use crate::graph::Graph;
 use crate::graph::commit::Commit;
@@ -13,9 +14,6 @@ use crate::merge_base::heads::octopus;
 use gix_base::error::NonEmpty;
 use gix_base::hash::ObjectId;
 use std::alloc::{Allocator, Global};
-
-#[cfg(test)]
-mod tests;
 
 /// A call of [`merge_base`] or of [`octopus`].
 #[derive(Drop)]
@@ -83,8 +81,8 @@ pub fn run<S: Find, A: Allocator + Copy>(
         AreRight (S.history graph.old.source) queries.now answers.items) }
     ensures one_each { IfOk result (λ answers. length answers.items ≡ length queries.now) }
     ensures calls { IfOk result (λ answers.
-        AreCalls S.history S.fault_count queries.now answers.items graph.old graph.new) }
-    ensures few_refused { IfOk result (λ answers. FewRefused
+        AreCalls (IsCall S.history S.fault_count) queries.now answers.items graph.old graph.new) }
+    ensures few_refused { IfOk result (λ answers. FewRefused is_refused_by_source
         (S.fault_count graph.old.source) (S.fault_count graph.new.source) answers.items) }
     ensures room { IfErr result (λ error. (error ≡ Error.OutOfMemory) × (graph.new ≡ graph.old)) }
     ensures history { S.history graph.new.source ≡ S.history graph.old.source }

@@ -11,10 +11,6 @@ pub(crate) mod context;
 pub mod delegate;
 pub(crate) mod fault;
 pub(crate) mod function;
-#[cfg(test)]
-mod recorder;
-#[cfg(test)]
-mod tests;
 
 pub use delegate::Delegate;
 pub use fault::Fault;

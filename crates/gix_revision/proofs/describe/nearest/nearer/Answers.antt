@@ -9,7 +9,7 @@ returns-then-not-contains_key-clause-nearest g c = λ xs near.
     nearest_skip (followed c.args.first_parent (g.S.Find.history c.args.graph.now.source)) (names_of c.args.names.now.entries) xs c.args.commit c.args.best near
     (unnamed_from c.args.names.now.entries c.args.commit (sym c.contains_key.ensures ∙ c.if-not-contains_key.true))
 
-pub returns-in-Ok-clause-nearest : goal.returns-in-Ok-clause-nearest
-returns-in-Ok-clause-nearest g c = λ xs near. rw c.larger.ensures
-    (nearest_more (followed c.args.first_parent (g.S.Find.history c.args.graph.now.source)) (names_of c.args.names.now.entries) xs c.args.commit c.args.best c.in-Ok.below near
-    (named_from c.args.names.now.entries c.args.commit (sym c.contains_key.ensures ∙ c.if-not-contains_key.false)) c.in-Ok.ensures.size)
+pub returns-clause-nearest : goal.returns-clause-nearest
+returns-clause-nearest g c = λ xs near. rw c.larger.ensures
+    (nearest_more (followed c.args.first_parent (g.S.Find.history c.args.graph.now.source)) (names_of c.args.names.now.entries) xs c.args.commit c.args.best c.in_ok-below.below near
+    (named_from c.args.names.now.entries c.args.commit (sym c.contains_key.ensures ∙ c.if-not-contains_key.false)) c.in_ok-below.ensures.size)

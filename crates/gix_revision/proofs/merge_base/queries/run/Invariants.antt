@@ -1,11 +1,12 @@
 use Rattle.std.proofs.Common.{◌≡◌, ◌≤◌, take, length, vec_len}
 use Rattle.std.specs.Vec.{vec_capacity}
-use Rattle.gix_revision.specs.Queries.{AreCalls}
+use Rattle.gix_revision.specs.Calls.{AreCalls}
+use Rattle.gix_revision.specs.Queries.{IsCall}
 use Rattle.gix_revision.proofs.merge_base.queries.run.Given as goal
 
 abbrev pub invariant-loop-query : goal.invariant-loop-query
 invariant-loop-query g l = record {
-  calls : AreCalls g.S.Find.history g.S.Find.fault_count (take l.query-index l.queries) l.answers.items l.fn.graph l.graph;
+  calls : AreCalls (IsCall g.S.Find.history g.S.Find.fault_count) (take l.query-index l.queries) l.answers.items l.fn.graph l.graph;
   len : vec_len l.answers ≡ l.query-index;
   room : length l.queries ≤ vec_capacity l.answers;
 }

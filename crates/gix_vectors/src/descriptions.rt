@@ -1,10 +1,12 @@
 //! Worked rows of `describe`, printed texts, and refusals.
 
-use super::*;
-use crate::graph::testing::{Failing, Turn};
-use crate::graph::tests::{Row, id, source_of};
-use crate::graph::{Find, FindFault, Graph, MemorySource};
+use crate::histories::{Row, id, source_of};
 use gix_base::error::Message;
+use gix_revision::describe::{
+    Answer, Error, Flags, Format, Options, Outcome, Query, describe, run,
+};
+use crate::sources::{Failing, Turn};
+use gix_revision::graph::{Find, FindFault, Graph, MemorySource};
 use refusing::Refusing;
 use std::alloc::{AllocError, Allocator};
 use std::borrow::CowSlice;
@@ -36,27 +38,47 @@ enum Want {
     },
 }
 
-/// The ids are forty digits 1, 2 and 3.
-const LINE: &[Row<'static>] = &[(0x11, 1, &[]), (0x22, 2, &[0x11]), (0x33, 3, &[0x22])];
+const LINE: &[Row<'static>] = &[
+    Row(1, 1, None, &[]),
+    Row(2, 2, None, &[1]),
+    Row(3, 3, None, &[2]),
+];
 
-const FORK: &[Row<'static>] = &[(1, 1, &[]), (2, 9, &[1]), (3, 8, &[1]), (4, 10, &[2, 3])];
+const FORK: &[Row<'static>] = &[
+    Row(1, 1, None, &[]),
+    Row(2, 9, None, &[1]),
+    Row(3, 8, None, &[1]),
+    Row(4, 10, None, &[2, 3]),
+];
 
 /// The older name is nearer: it is met last.
 const OLDER_IS_NEARER: &[Row<'static>] = &[
-    (1, 1, &[]),
-    (2, 8, &[1]),
-    (3, 9, &[]),
-    (4, 10, &[3, 2]),
+    Row(1, 1, None, &[]),
+    Row(2, 8, None, &[1]),
+    Row(3, 9, None, &[]),
+    Row(4, 10, None, &[3, 2]),
 ];
 
 /// The named commit is older than its parent.
-const SKEWED: &[Row<'static>] = &[(1, 5, &[]), (2, 1, &[1]), (3, 10, &[2, 1])];
+const SKEWED: &[Row<'static>] = &[
+    Row(1, 5, None, &[]),
+    Row(2, 1, None, &[1]),
+    Row(3, 10, None, &[2, 1]),
+];
 
-const MISSING_PARENT: &[Row<'static>] = &[(1, 1, &[]), (2, 2, &[9, 1])];
+const MISSING_PARENT: &[Row<'static>] = &[Row(1, 1, None, &[]), Row(2, 2, None, &[9, 1])];
 
-const FAR_TIMES: &[Row<'static>] = &[(1, i64::MIN, &[]), (2, i64::MAX, &[1]), (3, 0, &[2])];
+const FAR_TIMES: &[Row<'static>] = &[
+    Row(1, i64::MIN, None, &[]),
+    Row(2, i64::MAX, None, &[1]),
+    Row(3, 0, None, &[2]),
+];
 
-const CYCLE: &[Row<'static>] = &[(1, 1, &[2]), (2, 2, &[1]), (3, 2, &[1])];
+const CYCLE: &[Row<'static>] = &[
+    Row(1, 1, None, &[2]),
+    Row(2, 2, None, &[1]),
+    Row(3, 2, None, &[1]),
+];
 
 fn options_of<A: Allocator + Copy>(
     alloc: A,
@@ -104,8 +126,8 @@ fn rows_are_described(rt: HostRuntime) -> Result<(), Fail> {
     let cases = [
         Case {
             history: LINE,
-            names: &[(0x11, "v1")],
-            start: 0x33,
+            names: &[(1, "v1")],
+            start: 3,
             max_candidates: 10,
             fallback_to_oid: false,
             first_parent: false,
@@ -285,7 +307,7 @@ fn format_of(name: Option<&'static [u8]>, digit: u8) -> Format<'static> {
 #[test]
 fn formats_are_printed(rt: HostRuntime) -> Result<(), Fail> {
     let alloc = rt.alloc();
-    let mut format = format_of(Some(b"v1"), 0x11);
+    let mut format = format_of(Some(b"v1"), 1);
     format.dirty_suffix = Some(format!(in alloc; "dirty")?);
     assert_eq!(rt; format!(in alloc; "{format}")?.as_str(), "v1-dirty");
     format.long(true);
@@ -293,9 +315,9 @@ fn formats_are_printed(rt: HostRuntime) -> Result<(), Fail> {
         format!(in alloc; "{format}")?.as_str(),
         "v1-0-g1111111-dirty"
     );
-    let id_alone = format_of(None, 0x44);
+    let id_alone = format_of(None, 4);
     assert_eq!(rt; format!(in alloc; "{id_alone}")?.as_str(), "4444444");
-    let lossy = format_of(Some(b"v\xff"), 0x44);
+    let lossy = format_of(Some(b"v\xff"), 4);
     assert_eq!(rt; format!(in alloc; "{lossy}")?.as_str(), "v\u{fffd}");
     Ok(())
 }
@@ -304,10 +326,10 @@ fn formats_are_printed(rt: HostRuntime) -> Result<(), Fail> {
 fn an_outcome_is_printed_and_copied(rt: HostRuntime) -> Result<(), Fail> {
     let alloc = rt.alloc();
     let mut graph = Graph::new(alloc, source_of(alloc, LINE)?);
-    let options = options_of(alloc, &[(0x11, "v1")])?;
+    let options = options_of(alloc, &[(1, "v1")])?;
     let copy = options.clone()?;
     assert!(rt; copy.name_by_oid == options.name_by_oid);
-    let Ok(Some(outcome)) = describe(alloc, &id(0x33), &mut graph, copy) else {
+    let Ok(Some(outcome)) = describe(alloc, &id(3), &mut graph, copy) else {
         assert!(rt; false);
         return Ok(());
     };
@@ -336,9 +358,9 @@ fn a_list_of_queries_is_answered_in_order(rt: HostRuntime) -> Result<(), Fail> {
     );
     let mut queries = Vec::new(alloc);
     for _ in 0..3 {
-        let options = options_of(alloc, &[(0x11, "v1")])?;
+        let options = options_of(alloc, &[(1, "v1")])?;
         queries.push(Query {
-            commit: id(0x33),
+            commit: id(3),
             options,
         })?;
     }
@@ -357,7 +379,7 @@ fn a_list_of_queries_is_answered_in_order(rt: HostRuntime) -> Result<(), Fail> {
             Answer::Described(None) => assert!(rt; false),
             Answer::Refused(refused) => {
                 assert_eq!(rt; i, 0);
-                assert!(rt; *refused == Message::ParentsOf(id(0x33)));
+                assert!(rt; *refused == Message::ParentsOf(id(3)));
             }
         }
     }
@@ -370,7 +392,7 @@ fn line_is_described<A: Allocator + Copy>(
     alloc: A,
     graph: &mut Graph<MemorySource, Flags, A>,
 ) -> Result<bool, Error> {
-    let options = match options_of(alloc, &[(0x11, "v1")]) {
+    let options = match options_of(alloc, &[(1, "v1")]) {
         Ok(options) => options,
         Err(_) => return Err(Message::OutOfMemory),
     };
@@ -379,10 +401,10 @@ fn line_is_described<A: Allocator + Copy>(
         depth: (2, 2),
         seen: (3, 3),
     };
-    let found = describe(alloc, &id(0x33), graph, options);
+    let found = describe(alloc, &id(3), graph, options);
     match found {
         Err(refused) => Err(refused),
-        found => Ok(is_wanted(&found, 0x33, &want)),
+        found => Ok(is_wanted(&found, 3, &want)),
     }
 }
 

@@ -1,8 +1,8 @@
 //! Merge bases against a slow plain program over sets, on the worked histories.
 
-use crate::graph::tests::{Row, id, source_of};
-use crate::graph::{Commit, Graph, MemorySource};
-use crate::merge_base::{Flags, merge_base};
+use crate::histories::{CRISS_CROSS, OLD_PATH, OLDER_CHILD, Row, id, source_of};
+use gix_revision::graph::{Commit, Graph, MemorySource};
+use gix_revision::merge_base::{Flags, merge_base};
 use std::alloc::Global;
 use std::test::Fail;
 
@@ -14,7 +14,7 @@ fn has(rows: &[Row<'_>], n: u8) -> bool {
 fn add_parents(rows: &[Row<'_>], found: &mut Vec<u8>) -> Result<(), Fail> {
     for row in rows {
         if found.contains(&row.0) {
-            for parent in row.2 {
+            for parent in row.3 {
                 if has(rows, *parent) && !found.contains(parent) {
                     found.push(*parent)?;
                 }
@@ -108,48 +108,20 @@ fn agrees_with_sets(rt: &HostRuntime, rows: &[Row<'_>]) -> Result<bool, Fail> {
 }
 
 #[test]
-fn criss_cross_by_sets(rt: HostRuntime) -> Result<(), Fail> {
-    let rows: [Row<'_>; 5] = [
-        (1, 1, &[]),
-        (2, 2, &[1]),
-        (3, 2, &[1]),
-        (4, 3, &[2, 3]),
-        (5, 3, &[2, 3]),
+fn bases_are_those_of_the_sets(rt: HostRuntime) -> Result<(), Fail> {
+    let alloc = rt.alloc();
+    let cases: [(&[Row<'static>], u8, u8, &[u8]); 3] = [
+        (&CRISS_CROSS, 4, 5, &[2, 3]),
+        (&OLDER_CHILD, 3, 4, &[2]),
+        (&OLD_PATH, 6, 7, &[5]),
     ];
-    assert_eq!(rt;
-        slow_bases(rt.alloc(), &rows, 4, 5)?.as_slice(),
-        [2, 3].as_slice()
-    );
-    assert!(rt; agrees_with_sets(&rt, &rows)?);
-    Ok(())
-}
-
-#[test]
-fn skewed_times_by_sets(rt: HostRuntime) -> Result<(), Fail> {
-    let newer_parent: [Row<'_>; 4] = [
-        (1, 50, &[]),
-        (2, 1, &[1]),
-        (3, 100, &[2, 1]),
-        (4, 90, &[2, 1]),
-    ];
-    assert_eq!(rt;
-        slow_bases(rt.alloc(), &newer_parent, 3, 4)?.as_slice(),
-        [2].as_slice()
-    );
-    assert!(rt; agrees_with_sets(&rt, &newer_parent)?);
-    let hidden_path: [Row<'_>; 7] = [
-        (9, 0, &[]),
-        (2, 50, &[9]),
-        (3, 0, &[2]),
-        (4, 0, &[9, 3]),
-        (5, 1, &[4]),
-        (6, 100, &[5, 2]),
-        (7, 90, &[5, 2]),
-    ];
-    assert_eq!(rt;
-        slow_bases(rt.alloc(), &hidden_path, 6, 7)?.as_slice(),
-        [5].as_slice()
-    );
-    assert!(rt; agrees_with_sets(&rt, &hidden_path)?);
+    for (rows, first, other, bases) in cases {
+        assert_eq!(rt;
+            slow_bases(alloc, rows, first, other)?.as_slice(),
+            bases,
+            "{first} and {other}"
+        );
+        assert!(rt; agrees_with_sets(&rt, rows)?, "{first} and {other}");
+    }
     Ok(())
 }

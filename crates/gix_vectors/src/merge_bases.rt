@@ -1,75 +1,15 @@
 //! Merge bases of worked histories, failing look-ups, and memory refused at each request.
 
-use crate::graph::testing::{Counting, Failing, Turn};
-use crate::graph::tests::{Row, id, source_of};
-use crate::graph::{Find, FindFault, Graph, MemorySource};
-use crate::merge_base::{Error, Flags, Simple, merge_base};
+use crate::histories::{CRISS_CROSS, OLD_PATH, OLDER_CHILD, Row, id, ids, source_of};
 use bitflags::Flags as BitFlags;
 use gix_base::error::NonEmpty;
 use gix_base::hash::ObjectId;
+use crate::sources::{Counting, Failing, Turn};
+use gix_revision::graph::{Find, FindFault, Graph};
+use gix_revision::merge_base::{Error, Flags, Simple, merge_base};
 use refusing::Refusing;
-use std::alloc::{Allocator, Global};
+use std::alloc::Allocator;
 use std::test::Fail;
-
-/// Two merges of the same two commits:
-///
-/// ```text
-///   2---4
-///  / \ /
-/// 1   X
-///  \ / \
-///   3---5
-/// ```
-const CRISS_CROSS: [Row<'static>; 5] = [
-    (1, 1, &[]),
-    (2, 2, &[1]),
-    (3, 2, &[1]),
-    (4, 3, &[2, 3]),
-    (5, 3, &[2, 3]),
-];
-
-/// The parent 1 is newer than its child 2.
-const OLDER_CHILD: [Row<'static>; 4] = [
-    (1, 50, &[]),
-    (2, 1, &[1]),
-    (3, 100, &[2, 1]),
-    (4, 90, &[2, 1]),
-];
-
-/// The commits between 5 and 2 are older than 2.
-const OLD_PATH: [Row<'static>; 7] = [
-    (9, 0, &[]),
-    (2, 50, &[9]),
-    (3, 0, &[2]),
-    (4, 0, &[9, 3]),
-    (5, 1, &[4]),
-    (6, 100, &[5, 2]),
-    (7, 90, &[5, 2]),
-];
-
-/// The history of a case.
-#[derive(Clone, Copy)]
-enum Table {
-    CrissCross,
-    OlderChild,
-    OldPath,
-}
-
-fn source(alloc: Global, table: Table) -> Result<MemorySource, Fail> {
-    match table {
-        Table::CrissCross => source_of(alloc, &CRISS_CROSS),
-        Table::OlderChild => source_of(alloc, &OLDER_CHILD),
-        Table::OldPath => source_of(alloc, &OLD_PATH),
-    }
-}
-
-fn ids(alloc: Global, numbers: &[u8]) -> Result<Vec<ObjectId>, Fail> {
-    let mut ids = Vec::new(alloc);
-    for n in numbers {
-        ids.push(id(*n))?;
-    }
-    Ok(ids)
-}
 
 /// Whether the answer is these bases, in any order.
 fn is_set<A: Allocator>(found: &Option<NonEmpty<ObjectId, A>>, bases: &[u8]) -> bool {
@@ -87,27 +27,30 @@ fn is_set<A: Allocator>(found: &Option<NonEmpty<ObjectId, A>>, bases: &[u8]) -> 
 #[test]
 fn bases_of_worked_histories(rt: HostRuntime) -> Result<(), Fail> {
     let alloc = rt.alloc();
-    let cases: [(Table, u8, &[u8], &[u8]); 12] = [
+    let cases: [(&[Row<'static>], u8, &[u8], &[u8]); 15] = [
         // Nothing is looked up: there are no others, or the first is among them.
-        (Table::CrissCross, 9, &[], &[9]),
-        (Table::CrissCross, 9, &[1, 9], &[9]),
-        (Table::CrissCross, 4, &[5, 4, 4], &[4]),
+        (&CRISS_CROSS, 9, &[], &[9]),
+        (&CRISS_CROSS, 9, &[1, 9], &[9]),
+        (&CRISS_CROSS, 4, &[5, 4, 4], &[4]),
         // Both sides, several others, an ancestor, repeated others.
-        (Table::CrissCross, 4, &[5], &[2, 3]),
-        (Table::CrissCross, 5, &[4], &[2, 3]),
-        (Table::CrissCross, 4, &[2], &[2]),
-        (Table::CrissCross, 4, &[1, 3], &[3]),
-        (Table::CrissCross, 4, &[5, 5, 9, 5], &[2, 3]),
+        (&CRISS_CROSS, 4, &[5], &[2, 3]),
+        (&CRISS_CROSS, 5, &[4], &[2, 3]),
+        (&CRISS_CROSS, 4, &[2], &[2]),
+        (&CRISS_CROSS, 1, &[4], &[1]),
+        (&CRISS_CROSS, 2, &[3], &[1]),
+        (&CRISS_CROSS, 4, &[2, 3], &[2, 3]),
+        (&CRISS_CROSS, 4, &[1, 3], &[3]),
+        (&CRISS_CROSS, 4, &[5, 5, 9, 5], &[2, 3]),
         // One of the others is not in the source, or the first is not.
-        (Table::CrissCross, 4, &[9, 5], &[2, 3]),
-        (Table::CrissCross, 9, &[4], &[]),
+        (&CRISS_CROSS, 4, &[9, 5], &[2, 3]),
+        (&CRISS_CROSS, 9, &[4], &[]),
         // Wrong clocks.
-        (Table::OlderChild, 3, &[4], &[2]),
-        (Table::OldPath, 6, &[7], &[5]),
+        (&OLDER_CHILD, 3, &[4], &[2]),
+        (&OLD_PATH, 6, &[7], &[5]),
     ];
-    for (table, first, numbers, bases) in cases {
+    for (rows, first, numbers, bases) in cases {
         let others = ids(alloc, numbers)?;
-        let mut graph = Graph::new(alloc, Counting::new(source(alloc, table)?));
+        let mut graph = Graph::new(alloc, Counting::new(source_of(alloc, rows)?));
         for _ in 0..2u8 {
             let found = merge_base(alloc, id(first), &others, &mut graph)?;
             assert!(rt; is_set(&found, bases), "{first} and {numbers:?}");
@@ -123,7 +66,11 @@ fn bases_of_worked_histories(rt: HostRuntime) -> Result<(), Fail> {
 fn each_id_is_asked_for_once(rt: HostRuntime) -> Result<(), Fail> {
     let alloc = rt.alloc();
     // 1 and 2 have a parent that the source lacks.
-    let rows: [Row<'static>; 3] = [(1, 1, &[9]), (2, 1, &[9]), (3, 2, &[1, 2])];
+    let rows = [
+        Row(1, 1, None, &[9]),
+        Row(2, 1, None, &[9]),
+        Row(3, 2, None, &[1, 2]),
+    ];
     let mut graph = Graph::new(alloc, Counting::new(source_of(alloc, &rows)?));
     let found = merge_base(alloc, id(3), &[id(9), id(2), id(9)], &mut graph)?;
     assert!(rt; is_set(&found, &[2]));
@@ -144,7 +91,7 @@ fn a_failing_look_up_is_answered_with_its_cause(rt: HostRuntime) -> Result<(), F
         (4, parent),
     ] {
         let failing = Failing::new(
-            source(alloc, Table::CrissCross)?,
+            source_of(alloc, &CRISS_CROSS)?,
             Turn::After(turn),
             FindFault::Failed,
             0,
@@ -164,7 +111,7 @@ fn a_failing_look_up_is_answered_with_its_cause(rt: HostRuntime) -> Result<(), F
         assert_eq!(rt; graph.source().faults(), 1);
     }
     let late = Failing::new(
-        source(alloc, Table::CrissCross)?,
+        source_of(alloc, &CRISS_CROSS)?,
         Turn::After(5),
         FindFault::Failed,
         0,
@@ -180,7 +127,7 @@ fn a_failing_look_up_is_answered_with_its_cause(rt: HostRuntime) -> Result<(), F
 fn each_request_is_refused(rt: HostRuntime) -> Result<(), Fail> {
     for before in 0..200u64 {
         let refusing = Refusing::new(rt.alloc(), before);
-        let mut graph = Graph::new(&refusing, source(rt.alloc(), Table::CrissCross)?);
+        let mut graph = Graph::new(&refusing, source_of(rt.alloc(), &CRISS_CROSS)?);
         let found = merge_base(&refusing, id(4), &[id(5)], &mut graph);
         if !refusing.has_refused() {
             assert!(rt; before > 5, "too few requests");

@@ -1,26 +1,19 @@
 //! Lists of calls on one graph: reused, over a failing source, and with memory refused in turn.
 
-use crate::graph::testing::{Failing, Turn};
-use crate::graph::tests::{id, source_of};
-use crate::graph::{Find, FindFault, Graph};
-use crate::merge_base::heads::tests::CRISS_CROSS;
-use crate::merge_base::{Answer, Error, Query, run};
-use gix_base::hash::ObjectId;
+use crate::histories::{CRISS_CROSS, id, ids, source_of};
+use crate::sources::{Failing, Turn};
+use gix_revision::graph::{Find, FindFault, Graph};
+use gix_revision::merge_base::{Answer, Error, Query, run};
 use refusing::Refusing;
 use std::alloc::{AllocError, Allocator};
 use std::test::Fail;
-
-/// One id.
-fn one<A: Allocator>(alloc: A, n: u8) -> Result<Vec<ObjectId, A>, AllocError> {
-    Vec::from_slice(alloc, &[id(n)])
-}
 
 /// The bases of [4] and [5], their octopus base, and the bases again.
 fn queries<A: Allocator + Copy>(alloc: A) -> Result<Vec<Query<A>, A>, AllocError> {
     let mut queries = Vec::with_capacity(alloc, 3)?;
     for octopus in [false, true, false] {
         let first = id(4);
-        let others = one(alloc, 5)?;
+        let others = ids(alloc, &[5])?;
         let query = if octopus {
             Query::Octopus { first, others }
         } else {

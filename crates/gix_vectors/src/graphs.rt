@@ -1,28 +1,12 @@
 //! Sources and graphs at work: each call once, failing look-ups, and memory refused at each request.
 
-use crate::graph::memory::InsertError;
-use crate::graph::testing::{Counting, Failing, Turn};
-use crate::graph::{Commit, Error, Find, FindFault, Graph, MemorySource, SourceCommit};
-use gix_base::hash::ObjectId;
+use crate::histories::{Row, id, ids, source_of};
+use gix_revision::graph::memory::InsertError;
+use crate::sources::{Counting, Failing, Turn};
+use gix_revision::graph::{Commit, Error, Find, FindFault, Graph, MemorySource, SourceCommit};
 use refusing::Refusing;
-use std::alloc::{Allocator, Global};
+use std::alloc::{AllocError, Allocator, Global};
 use std::test::Fail;
-
-/// A commit of a table: its number, its time and the numbers of its parents.
-pub(crate) type Row<'a> = (u8, i64, &'a [u8]);
-
-/// The id whose bytes are all `n`.
-pub(crate) fn id(n: u8) -> ObjectId {
-    ObjectId([n; 20])
-}
-
-fn ids(alloc: Global, numbers: &[u8]) -> Result<Vec<ObjectId>, Fail> {
-    let mut ids = Vec::new(alloc);
-    for n in numbers {
-        ids.push(id(*n))?;
-    }
-    Ok(ids)
-}
 
 /// A commit without a generation.
 fn commit(alloc: Global, time: i64, parents: &[u8]) -> Result<SourceCommit, Fail> {
@@ -33,18 +17,16 @@ fn commit(alloc: Global, time: i64, parents: &[u8]) -> Result<SourceCommit, Fail
     })
 }
 
-/// A source of the commits of a table.
-pub(crate) fn source_of(alloc: Global, rows: &[Row<'_>]) -> Result<MemorySource, Fail> {
-    let mut source = MemorySource::new(alloc);
-    for row in rows {
-        source.insert(id(row.0), commit(alloc, row.1, row.2)?)?;
-    }
-    Ok(source)
-}
-
 /// [3] of [2], [2] of [1], [1] of a commit that the source lacks.
-fn line(alloc: Global) -> Result<MemorySource, Fail> {
-    source_of(alloc, &[(1, 10, &[9]), (2, 20, &[1]), (3, 30, &[2])])
+fn line(alloc: Global) -> Result<MemorySource, AllocError> {
+    source_of(
+        alloc,
+        &[
+            Row(1, 10, None, &[9]),
+            Row(2, 20, None, &[1]),
+            Row(3, 30, None, &[2]),
+        ],
+    )
 }
 
 #[test]

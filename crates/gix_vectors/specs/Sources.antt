@@ -2,10 +2,10 @@
 use Rattle.std.specs.Prelude.{ℕ, ◌-◌, Bool, false, nat_eq, if◌then◌else◌}
 use Rattle.gix_base.specs.declared.hash.ObjectId.{ObjectId}
 use Rattle.gix_revision.specs.History.{same_id}
-use Rattle.gix_revision.specs.declared.graph.testing.Turn.{Turn}
-use Rattle.gix_revision.specs.declared.graph.testing.Turn.TheVariants.{After, For, Never}
-use Rattle.gix_revision.specs.declared.graph.testing.Failing.{Failing}
-use Rattle.gix_revision.specs.declared.graph.testing.Counting.{Counting}
+use Rattle.gix_vectors.specs.declared.sources.Turn.{Turn}
+use Rattle.gix_vectors.specs.declared.sources.Turn.TheVariants.{After, For, Never}
+use Rattle.gix_vectors.specs.declared.sources.Failing.{Failing}
+use Rattle.gix_vectors.specs.declared.sources.Counting.{Counting}
 
 -- the source that answers where nothing is refused
 abbrev pub source_behind : {F : Type 0} → Failing F → F

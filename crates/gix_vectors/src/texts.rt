@@ -1,12 +1,12 @@
 //! Texts and the calls that they make, refusals of each call, and printed faults.
 
-use super::delegate::{SiblingBranch, Traversal};
-use super::recorder::{Answers, MESSAGES, Recorder};
-use super::{Error, Fault, parse};
-use crate::spec::{Kind, Spec};
+use crate::delegate::{Answers, MESSAGES, Told};
 use gix_base::date::Time;
 use gix_base::error::Exn;
 use gix_base::hash::ObjectId;
+use gix_spec::spec::parse::delegate::{SiblingBranch, Traversal};
+use gix_spec::spec::parse::{Error, Fault, parse};
+use gix_spec::spec::{Kind, Spec};
 use std::test::Fail;
 
 const NOW: Time = Time {
@@ -71,28 +71,29 @@ const ROWS: [(&str, &str); 21] = [
 
 #[test]
 fn texts_make_their_calls(rt: HostRuntime) -> Result<(), Fail> {
+    let alloc = rt.alloc();
     for (text, want) in ROWS {
-        let mut recorder = Recorder::new(rt.alloc(), Answers::Accepts);
-        let answer = parse(rt.alloc(), text.as_bytes(), NOW, &mut recorder);
-        let number = match answer {
-            Ok(()) => 0,
-            Err(Error::Refused { fault, .. }) => fault.number(),
-            Err(Error::OutOfMemory) => 99,
+        let mut told = Told::new(alloc, Answers::Accepts);
+        let number = match parse(alloc, text.as_bytes(), NOW, &mut told) {
+            Ok(()) => None,
+            Err(Error::OutOfMemory) => Some(0),
+            Err(Error::Refused { fault, .. }) => Some(fault.number()),
         };
-        let heard = recorder.heard.as_str();
-        let line = match (number, recorder.count) {
-            (0, _) => format!(in rt.alloc(); "{heard}")?,
-            (_, 0) => format!(in rt.alloc(); "refused P{number}")?,
-            _ => format!(in rt.alloc(); "{heard}; refused P{number}")?,
-        };
-        assert_eq!(rt; line.as_str(), want, "{text}");
+        let mut line = told.calls().to_vec(alloc)?;
+        if let Some(number) = number {
+            if !line.is_empty() {
+                line.extend_from_slice(b"; ")?;
+            }
+            line.extend_from_slice(format!(in alloc; "refused P{number}")?.as_bytes())?;
+        }
+        assert_eq!(rt; line.as_slice(), want.as_bytes(), "{text}");
     }
     Ok(())
 }
 
 #[test]
 fn a_text_that_is_not_read_is_named_whole(rt: HostRuntime) {
-    let mut recorder = Recorder::new(rt.alloc(), Answers::Accepts);
+    let mut told = Told::new(rt.alloc(), Answers::Accepts);
     let Err(
         Error::Refused {
             fault,
@@ -100,7 +101,7 @@ fn a_text_that_is_not_read_is_named_whole(rt: HostRuntime) {
             first,
             second,
         },
-    ) = parse(rt.alloc(), b"^main", NOW, &mut recorder)
+    ) = parse(rt.alloc(), b"^main", NOW, &mut told)
     else {
         assert!(rt; false);
         return;
@@ -108,7 +109,7 @@ fn a_text_that_is_not_read_is_named_whole(rt: HostRuntime) {
     assert_eq!(rt; fault, Fault::NotYet);
     assert_eq!(rt; input, Some(b"^main".as_slice()));
     assert!(rt; first.is_none() && second.is_none());
-    assert_eq!(rt; recorder.count, 0);
+    assert_eq!(rt; told.count(), 0);
 }
 
 /// A text, the calls that are refused, and the number of the fault, its input and the two refusals; 0 is no fault.
@@ -218,8 +219,8 @@ fn is_of(refusal: &Option<Exn>, number: usize) -> bool {
 #[test]
 fn refused_calls_are_faults(rt: HostRuntime) {
     for (text, calls, number, named, one, two) in REFUSALS {
-        let mut recorder = Recorder::new(rt.alloc(), Answers::Refuses(calls));
-        match parse(rt.alloc(), text.as_bytes(), NOW, &mut recorder) {
+        let mut told = Told::new(rt.alloc(), Answers::Refuses(calls));
+        match parse(rt.alloc(), text.as_bytes(), NOW, &mut told) {
             Ok(()) => assert_eq!(rt; 0, number, "{text}"),
             Err(Error::OutOfMemory) => assert!(rt; false, "{text}"),
             Err(
@@ -241,17 +242,14 @@ fn refused_calls_are_faults(rt: HostRuntime) {
 #[test]
 fn no_call_follows_one_without_memory(rt: HostRuntime) {
     for (text, _) in ROWS {
-        let mut all = Recorder::new(rt.alloc(), Answers::Accepts);
+        let mut all = Told::new(rt.alloc(), Answers::Accepts);
         let _ = parse(rt.alloc(), text.as_bytes(), NOW, &mut all);
-        for number in 1..all.count.saturating_add(1) {
-            let mut recorder = Recorder::new(rt.alloc(), Answers::WantsMemory(number));
-            let answer = parse(rt.alloc(), text.as_bytes(), NOW, &mut recorder);
+        for number in 1..all.count().saturating_add(1) {
+            let mut told = Told::new(rt.alloc(), Answers::WantsMemory(number));
+            let answer = parse(rt.alloc(), text.as_bytes(), NOW, &mut told);
             assert!(rt; matches!(answer, Err(Error::OutOfMemory)), "{text}");
-            assert_eq!(rt; recorder.count, number, "{text}");
-            assert!(rt;
-                all.heard.as_str().starts_with(recorder.heard.as_str()),
-                "{text}"
-            );
+            assert_eq!(rt; told.count(), number, "{text}");
+            assert!(rt; all.calls().starts_with(told.calls()), "{text}");
         }
     }
 }

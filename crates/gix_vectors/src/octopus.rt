@@ -8,40 +8,31 @@
 //!     1
 //! ```
 
-use crate::graph::testing::Counting;
-use crate::graph::tests::{Row, id, source_of};
-use crate::graph::{Graph, MemorySource, SourceCommit};
-use crate::merge_base::{Error, Flags, octopus};
+use crate::histories::{CRISS_CROSS, Row, id, ids, source_of};
 use gix_base::hash::ObjectId;
+use gix_revision::graph::Graph;
+use crate::sources::Counting;
+use gix_revision::merge_base::{Error, octopus};
 use refusing::Refusing;
 use std::alloc::Global;
 use std::test::Fail;
 
-/// The criss-cross on the left, with times that do not tell [2] from [3].
-pub(crate) const CRISS_CROSS: [Row<'static>; 5] = [
-    (1, 1, &[]),
-    (2, 2, &[1]),
-    (3, 2, &[1]),
-    (4, 3, &[2, 3]),
-    (5, 3, &[2, 3]),
-];
-
-/// The same, where [3] is younger than [2].
+/// The criss-cross on the left, where [3] is younger than [2].
 const YOUNGER_THIRD: [Row<'static>; 5] = [
-    (1, 1, &[]),
-    (2, 2, &[1]),
-    (3, 3, &[1]),
-    (4, 4, &[2, 3]),
-    (5, 4, &[2, 3]),
+    Row(1, 1, None, &[]),
+    Row(2, 2, None, &[1]),
+    Row(3, 3, None, &[1]),
+    Row(4, 4, None, &[2, 3]),
+    Row(5, 4, None, &[2, 3]),
 ];
 
 /// The history on the right: only [2] is common to [3], [4] and [5].
 const THREE_HEADS: [Row<'static>; 5] = [
-    (1, 1, &[]),
-    (2, 1, &[]),
-    (3, 2, &[1, 2]),
-    (4, 2, &[1, 2]),
-    (5, 2, &[2]),
+    Row(1, 1, None, &[]),
+    Row(2, 1, None, &[]),
+    Row(3, 2, None, &[1, 2]),
+    Row(4, 2, None, &[1, 2]),
+    Row(5, 2, None, &[2]),
 ];
 
 /// What [`octopus`] answers, and how many look-ups it made.
@@ -51,12 +42,8 @@ fn answer(
     first: u8,
     others: &[u8],
 ) -> Result<(Option<ObjectId>, u64), Fail> {
-    let mut ids = Vec::new(alloc);
-    for n in others {
-        ids.push(id(*n))?;
-    }
     let mut graph = Graph::new(alloc, Counting::new(source_of(alloc, rows)?));
-    let found = octopus(alloc, id(first), &ids, &mut graph)?;
+    let found = octopus(alloc, id(first), &ids(alloc, others)?, &mut graph)?;
     Ok((found, graph.source().questions()))
 }
 
@@ -107,27 +94,6 @@ fn the_order_of_the_heads_does_not_matter(rt: HostRuntime) -> Result<(), Fail> {
     Ok(())
 }
 
-/// A root.
-fn root(alloc: Global, time: i64, generation: Option<u32>) -> SourceCommit {
-    SourceCommit {
-        parents: Vec::new(alloc),
-        time,
-        generation,
-    }
-}
-
-/// A commit of the roots [1] and [2].
-fn merge(alloc: Global, generation: Option<u32>) -> Result<SourceCommit, Fail> {
-    let mut parents = Vec::new(alloc);
-    parents.push(id(1))?;
-    parents.push(id(2))?;
-    Ok(SourceCommit {
-        parents,
-        time: 9,
-        generation,
-    })
-}
-
 #[test]
 fn the_generation_counts_before_the_time(rt: HostRuntime) -> Result<(), Fail> {
     let alloc = rt.alloc();
@@ -140,12 +106,13 @@ fn the_generation_counts_before_the_time(rt: HostRuntime) -> Result<(), Fail> {
         ((Some(1), 5), (Some(1), 5), 1),
     ];
     for (one, two, want) in cases {
-        let mut source = MemorySource::new(alloc);
-        source.insert(id(1), root(alloc, one.1, one.0))?;
-        source.insert(id(2), root(alloc, two.1, two.0))?;
-        source.insert(id(3), merge(alloc, None)?)?;
-        source.insert(id(4), merge(alloc, None)?)?;
-        let mut graph = Graph::new(alloc, source);
+        let rows = [
+            Row(1, one.1, one.0, &[]),
+            Row(2, two.1, two.0, &[]),
+            Row(3, 9, None, &[1, 2]),
+            Row(4, 9, None, &[1, 2]),
+        ];
+        let mut graph = Graph::new(alloc, source_of(alloc, &rows)?);
         let found = octopus(alloc, id(3), &[id(4)], &mut graph)?;
         assert!(rt; found == Some(id(want)), "base {want}");
     }

@@ -1,9 +1,9 @@
-//! Sources for tests: one that refuses a chosen look-up, and one that counts the look-ups.
+//! Sources over another source: one that refuses a chosen look-up, and one that counts the look-ups.
 
 ghost use Rattle.std.specs.Prelude.{◌≡◌};
 
-use crate::graph::find::{Find, FindFault, SourceCommit};
 use gix_base::hash::ObjectId;
+use gix_revision::graph::{Find, FindFault, SourceCommit};
 use std::alloc::Allocator;
 
 /// Which look-up is refused.
@@ -27,7 +27,7 @@ pub struct Failing<F: Find> {
 }
 
 impl<F: Find> Failing<F> {
-    ghost use Rattle.gix_revision.specs.Testing.{source_behind, failing_count, is_turn, next_turn};
+    ghost use Rattle.gix_vectors.specs.Sources.{source_behind, failing_count, is_turn, next_turn};
 
     /// Refuses by `fault` where it is the turn, and begins its count of faults at `faults`.
     pub fn new(inner: F, turn: Turn, fault: FindFault, faults: u64) -> Self
@@ -65,7 +65,7 @@ impl<F: Find> Failing<F> {
 }
 
 impl<F: Find> Find for Failing<F> {
-    ghost use Rattle.gix_revision.specs.Testing.{source_behind, failing_count};
+    ghost use Rattle.gix_vectors.specs.Sources.{source_behind, failing_count};
 
     ghost history = { λ s. F.history (source_behind s) };
 
@@ -100,7 +100,7 @@ pub struct Counting<F: Find> {
 }
 
 impl<F: Find> Counting<F> {
-    ghost use Rattle.gix_revision.specs.Testing.{source_counted, questions_of};
+    ghost use Rattle.gix_vectors.specs.Sources.{source_counted, questions_of};
 
     /// No look-up was made yet.
     pub fn new(inner: F) -> Self
@@ -122,7 +122,7 @@ impl<F: Find> Counting<F> {
 }
 
 impl<F: Find> Find for Counting<F> {
-    ghost use Rattle.gix_revision.specs.Testing.{source_counted};
+    ghost use Rattle.gix_vectors.specs.Sources.{source_counted};
 
     ghost history = { λ s. F.history (source_counted s) };
 

@@ -1,0 +1,147 @@
+//! A delegate that answers some of its calls as it is told, and writes all of them down.
+
+use gix_base::error::Exn;
+use gix_base::hash::Prefix;
+use gix_spec::spec;
+use gix_spec::spec::parse::Delegate;
+use gix_spec::spec::parse::delegate::{
+    Kind, Listener, Navigate, PeelTo, PrefixHint, ReflogLookup, Revision, SiblingBranch, Traversal,
+};
+use revtool::recorder::Recorder;
+use std::alloc::Global;
+
+/// Which calls are not accepted, by their numbers from 1 on.
+#[derive(Clone, Copy)]
+pub enum Answers {
+    /// None of them.
+    Accepts,
+    /// These are refused.
+    Refuses(&'static [usize]),
+    /// This one wants memory.
+    WantsMemory(usize),
+}
+
+/// The messages of refusals, by the number of the call.
+pub const MESSAGES: [&str; 6] = ["call 1", "call 2", "call 3", "call 4", "call 5", "call 6"];
+
+/// Writes down each call, as `revtool` prints it, and answers as it was told.
+#[derive(Drop)]
+pub struct Told {
+    recorder: Recorder<Global>,
+    alloc: Global,
+    answers: Answers,
+    count: usize,
+}
+
+impl Told {
+    /// No call was made yet.
+    pub fn new(alloc: Global, answers: Answers) -> Told {
+        Told {
+            recorder: Recorder::new(alloc, alloc),
+            alloc,
+            answers,
+            count: 0,
+        }
+    }
+
+    /// The calls, parted by a semicolon and a space.
+    pub fn calls(&self) -> &[u8] {
+        self.recorder.calls()
+    }
+
+    /// How many calls were made.
+    pub fn count(&self) -> usize {
+        self.count
+    }
+
+    // The answer to the next call, which the recorder has heard.
+    fn answer(&mut self, heard: Result<(), Exn>) -> Result<(), Exn> {
+        heard?;
+        let before = self.count;
+        self.count = before.saturating_add(1);
+        let message = match MESSAGES.get(before) {
+            Some(message) => *message,
+            None => "a later call",
+        };
+        match self.answers {
+            Answers::Refuses(numbers) if numbers.contains(&self.count) => {
+                Err(Exn::new(self.alloc, message))
+            }
+            Answers::WantsMemory(number) if number == self.count => {
+                Err(Exn::out_of_memory(self.alloc))
+            }
+            _ => Ok(()),
+        }
+    }
+}
+
+impl Listener for Told {
+    ghost step = { λ before call answer after. Unit {0} };
+}
+
+impl Revision for Told {
+    fn find_ref(&mut self, name: &[u8]) -> Result<(), Exn> {
+        let heard = self.recorder.find_ref(name);
+        self.answer(heard)
+    }
+
+    fn disambiguate_prefix(
+        &mut self,
+        prefix: Prefix,
+        hint: Option<PrefixHint<'_>>,
+    ) -> Result<(), Exn> {
+        let heard = self.recorder.disambiguate_prefix(prefix, hint);
+        self.answer(heard)
+    }
+
+    fn reflog(&mut self, query: ReflogLookup) -> Result<(), Exn> {
+        let heard = self.recorder.reflog(query);
+        self.answer(heard)
+    }
+
+    fn nth_checked_out_branch(&mut self, branch_no: usize) -> Result<(), Exn> {
+        let heard = self.recorder.nth_checked_out_branch(branch_no);
+        self.answer(heard)
+    }
+
+    fn sibling_branch(&mut self, kind: SiblingBranch) -> Result<(), Exn> {
+        let heard = self.recorder.sibling_branch(kind);
+        self.answer(heard)
+    }
+}
+
+impl Kind for Told {
+    fn kind(&mut self, kind: spec::Kind) -> Result<(), Exn> {
+        let heard = self.recorder.kind(kind);
+        self.answer(heard)
+    }
+}
+
+impl Navigate for Told {
+    fn traverse(&mut self, kind: Traversal) -> Result<(), Exn> {
+        let heard = self.recorder.traverse(kind);
+        self.answer(heard)
+    }
+
+    fn peel_until(&mut self, kind: PeelTo<'_>) -> Result<(), Exn> {
+        let heard = self.recorder.peel_until(kind);
+        self.answer(heard)
+    }
+
+    fn find(&mut self, regex: &[u8], negated: bool) -> Result<(), Exn> {
+        let heard = self.recorder.find(regex, negated);
+        self.answer(heard)
+    }
+
+    fn index_lookup(&mut self, path: &[u8], stage: u8) -> Result<(), Exn> {
+        let heard = self.recorder.index_lookup(path, stage);
+        self.answer(heard)
+    }
+}
+
+impl Delegate for Told {
+    fn done(&mut self) -> Result<(), Exn> {
+        let heard = self.recorder.done();
+        self.answer(heard)
+    }
+}
