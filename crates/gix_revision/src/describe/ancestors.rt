@@ -39,7 +39,8 @@ fn parents_of<S: Find, A: Allocator + Copy>(
     first_parent: bool,
     graph: &mut Graph<S, u32, A>,
 ) -> Result<Option<Vec<(ObjectId, i64), A>>, Message>
-    ensures parents { IfOk result (λ found. option_map (λ v. v.items) found ≡ followed_at first_parent (S.history graph.old.source) id) }
+    ensures parents { IfOk result (λ found. option_map (λ v. v.items) found
+        ≡ followed_at first_parent (S.history graph.old.source) id) }
     ensures refused { IfErr result (IsWalkRefused (λ c. c ≡ id)
         (S.fault_count graph.old.source) (S.fault_count graph.new.source)) }
     ensures history { S.history graph.new.source ≡ S.history graph.old.source }
@@ -60,7 +61,9 @@ fn add_parents<S: Find, A: Allocator + Copy>(
     seen: &mut Seen<A>,
     graph: &mut Graph<S, u32, A>,
 ) -> Result<(), Message>
-    ensures seen { OnOk result (seen.new ≡ all_visited (followed first_parent (S.history graph.old.source)) seen.old (parents_in (entry_at (followed first_parent (S.history graph.old.source)) id))) }
+    ensures seen { OnOk result (seen.new
+        ≡ all_visited (followed first_parent (S.history graph.old.source)) seen.old
+        (parents_in (entry_at (followed first_parent (S.history graph.old.source)) id))) }
     ensures refused { IfErr result (IsWalkRefused (λ c. c ≡ id)
         (S.fault_count graph.old.source) (S.fault_count graph.new.source)) }
     ensures history { S.history graph.new.source ≡ S.history graph.old.source }
@@ -79,7 +82,8 @@ fn is_known<S: Find, A: Allocator + Copy>(
     first_parent: bool,
     graph: &mut Graph<S, u32, A>,
 ) -> Result<bool, Message>
-    ensures known { IfOk result (λ b. b ≡ is_some (entry_at (followed first_parent (S.history graph.old.source)) id)) }
+    ensures known { IfOk result (λ b. b
+        ≡ is_some (entry_at (followed first_parent (S.history graph.old.source)) id)) }
     ensures refused { IfErr result (IsWalkRefused (λ c. c ≡ id)
         (S.fault_count graph.old.source) (S.fault_count graph.new.source)) }
     ensures history { S.history graph.new.source ≡ S.history graph.old.source }
@@ -89,14 +93,16 @@ fn is_known<S: Find, A: Allocator + Copy>(
 }
 
 /// The ancestors of a commit along followed edges, each once; none where the source lacks it.
-pub fn ancestors<S: Find, A: Allocator + Copy>(
+pub(crate) fn ancestors<S: Find, A: Allocator + Copy>(
     alloc: A,
     start: ObjectId,
     first_parent: bool,
     graph: &mut Graph<S, u32, A>,
 ) -> Result<Vec<ObjectId, A>, Message>
-    ensures all { IfOk result (λ v. Lists v.items (IsAncestor (followed first_parent (S.history graph.old.source)) start)) }
-    ensures refused { IfErr result (IsWalkRefused (λ c. (c ≡ start) ⊎ IsAncestor (followed first_parent (S.history graph.old.source)) start c)
+    ensures all { IfOk result (λ v. Lists v.items
+        (IsAncestor (followed first_parent (S.history graph.old.source)) start)) }
+    ensures refused { IfErr result (IsWalkRefused
+        (λ c. (c ≡ start) ⊎ IsAncestor (followed first_parent (S.history graph.old.source)) start c)
         (S.fault_count graph.old.source) (S.fault_count graph.new.source)) }
     ensures history { S.history graph.new.source ≡ S.history graph.old.source }
     ensures count { S.fault_count graph.old.source ≤ S.fault_count graph.new.source }
@@ -118,14 +124,16 @@ pub fn ancestors<S: Find, A: Allocator + Copy>(
 }
 
 /// How many ancestors a commit has.
-pub fn count_ancestors<S: Find, A: Allocator + Copy>(
+pub(crate) fn count_ancestors<S: Find, A: Allocator + Copy>(
     alloc: A,
     start: ObjectId,
     first_parent: bool,
     graph: &mut Graph<S, u32, A>,
 ) -> Result<usize, Message>
-    ensures size { IfOk result (λ n. HasSize (IsAncestor (followed first_parent (S.history graph.old.source)) start) n) }
-    ensures refused { IfErr result (IsWalkRefused (λ c. (c ≡ start) ⊎ IsAncestor (followed first_parent (S.history graph.old.source)) start c)
+    ensures size { IfOk result
+        (HasSize (IsAncestor (followed first_parent (S.history graph.old.source)) start)) }
+    ensures refused { IfErr result (IsWalkRefused
+        (λ c. (c ≡ start) ⊎ IsAncestor (followed first_parent (S.history graph.old.source)) start c)
         (S.fault_count graph.old.source) (S.fault_count graph.new.source)) }
     ensures history { S.history graph.new.source ≡ S.history graph.old.source }
     ensures count { S.fault_count graph.old.source ≤ S.fault_count graph.new.source }

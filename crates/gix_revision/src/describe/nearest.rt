@@ -35,8 +35,12 @@ fn nearer<'name, S: Find, A: Allocator + Copy>(
     first_parent: bool,
     graph: &mut Graph<S, u32, A>,
 ) -> Result<Option<(ObjectId, usize)>, Message>
-    ensures nearest { IfOk result (λ r. (xs : List ObjectId) → IsNearest (followed first_parent (S.history graph.old.source)) (names_of names.now.entries) xs best → IsNearest (followed first_parent (S.history graph.old.source)) (names_of names.now.entries) (xs ++ commit ∷ []) r) }
-    ensures refused { IfErr result (IsWalkRefused (λ c. (c ≡ commit) ⊎ IsAncestor (followed first_parent (S.history graph.old.source)) commit c)
+    ensures nearest { IfOk result (λ r. (xs : List ObjectId)
+        → IsNearest (followed first_parent (S.history graph.old.source)) (names_of names.now.entries) xs best
+        → IsNearest (followed first_parent (S.history graph.old.source)) (names_of names.now.entries)
+        (xs ++ commit ∷ []) r) }
+    ensures refused { IfErr result (IsWalkRefused
+        (λ c. (c ≡ commit) ⊎ IsAncestor (followed first_parent (S.history graph.old.source)) commit c)
         (S.fault_count graph.old.source) (S.fault_count graph.new.source)) }
     ensures history { S.history graph.new.source ≡ S.history graph.old.source }
     ensures count { S.fault_count graph.old.source ≤ S.fault_count graph.new.source }
@@ -56,8 +60,10 @@ fn nearest<'name, S: Find, A: Allocator + Copy>(
     first_parent: bool,
     graph: &mut Graph<S, u32, A>,
 ) -> Result<Option<(ObjectId, usize)>, Message>
-    ensures nearest { IfOk result (λ best. IsNearest (followed first_parent (S.history graph.old.source)) (names_of names.now.entries) commits.now best) }
-    ensures refused { IfErr result (IsWalkRefused (IsOneOrBelow (followed first_parent (S.history graph.old.source)) commits.now)
+    ensures nearest { IfOk result
+        (IsNearest (followed first_parent (S.history graph.old.source)) (names_of names.now.entries) commits.now) }
+    ensures refused { IfErr result (IsWalkRefused
+        (IsOneOrBelow (followed first_parent (S.history graph.old.source)) commits.now)
         (S.fault_count graph.old.source) (S.fault_count graph.new.source)) }
     ensures history { S.history graph.new.source ≡ S.history graph.old.source }
     ensures count { S.fault_count graph.old.source ≤ S.fault_count graph.new.source }
@@ -80,8 +86,10 @@ pub(crate) fn measure<'name, S: Find, A: Allocator + Copy>(
     first_parent: bool,
     graph: &mut Graph<S, u32, A>,
 ) -> Result<(u32, Option<(ObjectId, u32)>), Message>
-    ensures measured { IfOk result (λ r. IsMeasured (followed first_parent (S.history graph.old.source)) start (names_of names.now.entries) r.0 r.1) }
-    ensures refused { IfErr result (IsMeasureRefused (followed first_parent (S.history graph.old.source)) start
+    ensures measured { IfOk result (λ r. IsMeasured (followed first_parent (S.history graph.old.source)) start
+        (names_of names.now.entries) r.0 r.1) }
+    ensures refused { IfErr result (IsMeasureRefused
+        (followed first_parent (S.history graph.old.source)) start
         (S.fault_count graph.old.source) (S.fault_count graph.new.source)) }
     ensures history { S.history graph.new.source ≡ S.history graph.old.source }
     ensures count { S.fault_count graph.old.source ≤ S.fault_count graph.new.source }
