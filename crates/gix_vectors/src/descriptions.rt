@@ -1,11 +1,11 @@
 //! Worked rows of `describe`, printed texts, and refusals.
 
 use crate::histories::{Row, id, source_of};
+use crate::sources::{Failing, Turn};
 use gix_base::error::Message;
 use gix_revision::describe::{
     Answer, Error, Flags, Format, Options, Outcome, Query, describe, run,
 };
-use crate::sources::{Failing, Turn};
 use gix_revision::graph::{Find, FindFault, Graph, MemorySource};
 use refusing::Refusing;
 use std::alloc::{AllocError, Allocator};

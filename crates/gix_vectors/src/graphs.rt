@@ -1,8 +1,8 @@
 //! Sources and graphs at work: each call once, failing look-ups, and memory refused at each request.
 
 use crate::histories::{Row, id, ids, source_of};
-use gix_revision::graph::memory::InsertError;
 use crate::sources::{Counting, Failing, Turn};
+use gix_revision::graph::memory::InsertError;
 use gix_revision::graph::{Commit, Error, Find, FindFault, Graph, MemorySource, SourceCommit};
 use refusing::Refusing;
 use std::alloc::{AllocError, Allocator, Global};

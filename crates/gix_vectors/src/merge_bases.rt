@@ -1,10 +1,10 @@
 //! Merge bases of worked histories, failing look-ups, and memory refused at each request.
 
 use crate::histories::{CRISS_CROSS, OLD_PATH, OLDER_CHILD, Row, id, ids, source_of};
+use crate::sources::{Counting, Failing, Turn};
 use bitflags::Flags as BitFlags;
 use gix_base::error::NonEmpty;
 use gix_base::hash::ObjectId;
-use crate::sources::{Counting, Failing, Turn};
 use gix_revision::graph::{Find, FindFault, Graph};
 use gix_revision::merge_base::{Error, Flags, Simple, merge_base};
 use refusing::Refusing;

@@ -9,9 +9,9 @@
 //! ```
 
 use crate::histories::{CRISS_CROSS, Row, id, ids, source_of};
+use crate::sources::Counting;
 use gix_base::hash::ObjectId;
 use gix_revision::graph::Graph;
-use crate::sources::Counting;
 use gix_revision::merge_base::{Error, octopus};
 use refusing::Refusing;
 use std::alloc::Global;
