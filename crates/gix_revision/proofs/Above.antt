@@ -5,11 +5,11 @@ use Rattle.std.proofs.lemmas.List.{length_push}
 use Rattle.std.proofs.lemmas.Map.Keys.{IsDistinct-push}
 use Rattle.std.proofs.lemmas.Map.Made.{length-le_from_is_member}
 use Rattle.gix_base.specs.declared.hash.ObjectId.{ObjectId}
-use Rattle.gix_revision.specs.History.{History, same_id, is_one_of, Has, IsEdge, IsAncestor, IsAcyclic}
+use Rattle.gix_revwalk.specs.History.{History, same_id, is_one_of, Has, IsEdge, IsAncestor, IsAcyclic}
 use Rattle.gix_revision.specs.Bases.{IsMaximal}
-use Rattle.gix_revision.specs.History.IsAncestor.{itself, further}
+use Rattle.gix_revwalk.specs.History.IsAncestor.{itself, further}
 use Rattle.gix_revision.specs.Walks.{parents_of_all}
-use Rattle.gix_revision.proofs.Ids.{same_id-laws}
+use Rattle.gix_revwalk.proofs.Ids.{same_id-laws}
 use Rattle.gix_revision.proofs.Members.{one_of-cases, one_of-single, one_of-filtered}
 use Rattle.gix_revision.proofs.Maximal.{one_with_parent, maximal_ones, GoesDown}
 

@@ -4,10 +4,10 @@ use Rattle.std.proofs.lemmas.List.Folds.{list_any-append}
 use Rattle.std.proofs.Math.Bool.{or-true}
 use Rattle.std.specs.List.{filter}
 use Rattle.gix_base.specs.declared.hash.ObjectId.{ObjectId}
-use Rattle.gix_revision.specs.History.{History, same_id, is_one_of, entry_at, parents_in, IsAncestorOfOne, IsAcyclic}
+use Rattle.gix_revwalk.specs.History.{History, same_id, is_one_of, entry_at, parents_in, IsAncestorOfOne, IsAcyclic}
 use Rattle.gix_revision.specs.Bases.{IsBase, is_empty}
 use Rattle.gix_revision.specs.Walks.{added, all_added, parents_added, parents_of_all}
-use Rattle.gix_revision.proofs.Ids.{same_id-true}
+use Rattle.gix_revwalk.proofs.Ids.{same_id-true}
 use Rattle.gix_revision.proofs.Members.{or_none}
 use Rattle.gix_revision.proofs.Maximal.{bases_are}
 

@@ -5,11 +5,11 @@ use Rattle.std.proofs.lemmas.List.{length_push}
 use Rattle.std.proofs.lemmas.Map.Keys.{IsDistinct-push}
 use Rattle.std.proofs.lemmas.Map.Made.{length-le_from_is_member}
 use Rattle.gix_base.specs.declared.hash.ObjectId.{ObjectId}
-use Rattle.gix_revision.specs.History.{History, same_id, is_one_of, Has, IsAncestor, IsAcyclic}
-use Rattle.gix_revision.specs.History.IsAncestor.{itself, further}
+use Rattle.gix_revwalk.specs.History.{History, same_id, is_one_of, Has, IsAncestor, IsAcyclic}
+use Rattle.gix_revwalk.specs.History.IsAncestor.{itself, further}
 use Rattle.gix_revision.specs.Bases.{IsMaximal, is_empty}
 use Rattle.gix_revision.specs.Laws.{Among}
-use Rattle.gix_revision.proofs.Ids.{same_id-true, same_id-equal, same_id-laws}
+use Rattle.gix_revwalk.proofs.Ids.{same_id-true, same_id-equal, same_id-laws}
 use Rattle.gix_revision.proofs.Members.{one_of-cases, one_of-single, one_of-head, one_of-tail, one_of-cons_cases}
 use Rattle.gix_revision.proofs.Above.{anc-trans}
 use Rattle.gix_revision.proofs.Octopus.{Listed, listed}

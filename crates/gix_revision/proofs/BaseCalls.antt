@@ -1,11 +1,11 @@
 -- Lists of calls of `merge_base` and `octopus`.
 use Rattle.std.proofs.Common.{◌≡◌, ℕ, true, false, subst, List, [], ◌∷◌, ◌≤◌}
-use Rattle.gix_revision.specs.History.{History}
-use Rattle.gix_revision.specs.Graph.{Graphed}
-use Rattle.gix_revision.specs.Faults.{FaultSeen}
+use Rattle.gix_revwalk.specs.History.{History}
+use Rattle.gix_revwalk.specs.Graph.{Graphed}
+use Rattle.gix_revwalk.specs.Faults.{FaultSeen}
 use Rattle.gix_revision.specs.Calls.{AreCalls}
 use Rattle.gix_revision.specs.Queries.{AreRight, is_refused_by_source, IsCall}
-use Rattle.gix_revision.specs.declared.graph.commit.Commit.{Commit}
+use Rattle.gix_revwalk.specs.declared.graph.commit.Commit.{Commit}
 use Rattle.gix_revision.specs.declared.merge_base.flags.Flags.{Flags}
 use Rattle.gix_revision.specs.declared.merge_base.error.Error.TheVariants.{Source, OutOfMemory}
 use Rattle.gix_revision.specs.declared.merge_base.queries.Query.{Query}

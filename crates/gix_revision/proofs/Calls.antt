@@ -4,7 +4,7 @@ use Rattle.std.proofs.Common.{add-one}
 use Rattle.std.proofs.Math.Seq.{take-suc}
 use Rattle.std.specs.List.{filter}
 use Rattle.gix_revision.specs.Calls.{AreCalls, FewRefused}
-use Rattle.gix_revision.specs.Faults.{FaultSeen}
+use Rattle.gix_revwalk.specs.Faults.{FaultSeen}
 
 counted : {R : Type 0} (bad : R → Bool) (x : R) (xs : List R) → length (filter bad (x ∷ xs)) ≡ cond (bad x) 1 0 + length (filter bad xs)
 counted bad x xs = elim (bad x) as (λ b. length (cond b (x ∷ filter bad xs) (filter bad xs)) ≡ cond b 1 0 + length (filter bad xs)) [ true ↦ omega arith | false ↦ omega arith ]

@@ -1,6 +1,6 @@
 -- The order of choice, and the first choice of a list.
 use Rattle.std.proofs.Common.{◌≡◌, ℕ, Bool, true, false, cond, refl, ap, sym, subst, ◌∙◌, List, [], ◌∷◌, ◌++◌, inl, inr, IsTrue, Option, Some, None, ◌<◌, ◌+◌, take, length, get_or}
-use Rattle.std.specs.Option.{MatchOption, option_map}
+use Rattle.std.specs.Option.{MatchOption}
 use Rattle.std.specs.declared.cmp.Ordering.{Ordering}
 use Rattle.std.specs.declared.cmp.Ordering.TheVariants.{Less, Equal, Greater}
 use Rattle.std.specs.Ordering.{nat_cmp, int_cmp, is_gt, is_eq, ordering_then, ordering_reverse}
@@ -8,11 +8,11 @@ use Rattle.std.specs.Cmp.{IsTotalOrder, upto, tied_itself}
 use Rattle.std.specs.Cmp.Lexicographic.{slice_cmp, texts_ties}
 use Rattle.std.proofs.lemmas.Cmp.{then_total, back_total, on_total, nat_cmp_total, int_cmp_total, nat_list_cmp_total}
 use Rattle.gix_base.specs.declared.hash.ObjectId.{ObjectId}
-use Rattle.gix_revision.specs.History.{History, generation_of, time_of}
+use Rattle.gix_revwalk.specs.History.{History, generation_of, time_of}
 use Rattle.gix_revision.specs.Octopus.{choice}
-use Rattle.gix_revision.specs.OctopusSteps.{IsFirstChoice, IsBestOf, candidate_at, preference, better_of}
+use Rattle.gix_revision.specs.OctopusSteps.{IsFirstChoice, candidate_at, preference, better_of}
 use Rattle.gix_revision.specs.declared.merge_base.heads.Candidate.{Candidate}
-use Rattle.gix_revision.proofs.Ids.{same_id-true}
+use Rattle.gix_revwalk.proofs.Ids.{same_id-true}
 use Rattle.gix_revision.proofs.Members.{one_of-left, one_of-right, one_of-cases, one_of-single, one_of-head, take_next}
 
 pub choice_total : (h : History) → IsTotalOrder (choice h)
@@ -109,8 +109,3 @@ chosen_more h ids x (Some c) was = chosen_next h ids x c was
 pub chosen_step : (h : History) (ids : List ObjectId) (i : ℕ) (d : ObjectId) (best : Option Candidate) → i < length ids → IsChosenOf h (take i ids) best
     → IsChosen h (take (i + 1) ids) (better_of best (candidate_at h (get_or ids i d)))
 chosen_step h ids i d best lt was = rw (take_next ids i d lt) (chosen_more h (take i ids) (get_or ids i d) best was)
-
--- the id of the candidate after the last
-pub chosen_id : (h : History) (ids : List ObjectId) (best : Option Candidate) → IsChosenOf h ids best → IsBestOf h ids (option_map (λ c. c.id) best)
-chosen_id h ids None e = e
-chosen_id h ids (Some c) was = was.first

@@ -3,13 +3,13 @@ use Rattle.std.proofs.Common.{◌≡◌, ℕ, Bool, true, false, cond, refl, Lis
 use Rattle.std.specs.List.{IsDistinct, filter, AllByRecursion}
 use Rattle.std.proofs.lemmas.Map.Made.{length-le_from_is_member}
 use Rattle.gix_base.specs.declared.hash.ObjectId.{ObjectId}
-use Rattle.gix_revision.specs.History.{History, same_id, is_one_of, Has, IsAncestor}
-use Rattle.gix_revision.specs.History.IsAncestor.{itself, further}
+use Rattle.gix_revwalk.specs.History.{History, same_id, is_one_of, Has, IsAncestor}
+use Rattle.gix_revwalk.specs.History.IsAncestor.{itself, further}
 use Rattle.gix_revision.specs.Sizes.{Lists, HasSize}
 use Rattle.gix_revision.specs.Ahead.{IsAheadOf, IsFalling, IsFallingEdge, IsPath}
 use Rattle.gix_revision.specs.Ahead.IsPath.{stay, further as falls_on}
 use Rattle.gix_revision.proofs.Above.{anc-trans}
-use Rattle.gix_revision.proofs.Ids.{same_id-laws}
+use Rattle.gix_revwalk.proofs.Ids.{same_id-laws}
 use Rattle.gix_revision.proofs.Members.{one_of-filter, one_of-filtered}
 use Rattle.gix_revision.proofs.Walk.{has_ancestor}
 

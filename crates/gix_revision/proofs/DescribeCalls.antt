@@ -10,13 +10,13 @@ use Rattle.gix_revision.specs.declared.describe.queries.Answer.{Answer}
 use Rattle.gix_revision.specs.declared.describe.queries.Answer.TheVariants.{Described, Refused}
 use Rattle.gix_revision.specs.Copies.{IsSameOptions}
 use Rattle.gix_revision.specs.DescribeQueries.{is_refused_by_source, IsCall, KeepsPairs}
-use Rattle.gix_revision.specs.Faults.{FaultSeen}
-use Rattle.gix_revision.specs.Graph.{Graphed}
-use Rattle.gix_revision.specs.History.{History}
+use Rattle.gix_revwalk.specs.Faults.{FaultSeen}
+use Rattle.gix_revwalk.specs.Graph.{Graphed}
+use Rattle.gix_revwalk.specs.History.{History}
 use Rattle.gix_revision.specs.Outcomes.{names_of, names_in, cap_of, description_of, Describes, Keeps, Walks, Refuses}
 use Rattle.gix_revision.specs.Described.{IsDescribed}
 use Rattle.gix_revision.specs.DescribeRefusals.{NeedsWalk, IsRefused}
-use Rattle.gix_revision.specs.Followed.{followed}
+use Rattle.gix_revwalk.specs.Followed.{followed}
 use Rattle.std.specs.Option.{option_map}
 
 module _ {A : Type 0} (m n : Options A) (same : IsSameOptions m n) (h : History) (s : ObjectId) where

@@ -5,7 +5,7 @@ use Rattle.std.specs.Option.{option_map}
 use Rattle.gix_base.specs.declared.hash.ObjectId.{ObjectId}
 use Rattle.gix_base.specs.declared.error.message.Message.{Message}
 use Rattle.gix_base.specs.declared.error.message.Message.TheVariants.{ParentsOf, MissingStart, CounterFull, OutOfMemory}
-use Rattle.gix_revision.specs.History.{History, IsAncestor}
+use Rattle.gix_revwalk.specs.History.{History, IsAncestor}
 use Rattle.gix_revision.specs.Described.{Names, Description, name_at, IsNamed, named, unnamed, nothing_to_find, IsNamedBy, IsDescribed}
 use Rattle.gix_revision.specs.Nearest.{IsAtDepth, IsMeasured, IsMeasureRefused}
 use Rattle.gix_revision.specs.Sizes.{HasSize}

@@ -1,8 +1,8 @@
 -- Where every parent is strictly older, the two counts of a depth meet.
 use Rattle.std.proofs.Common.{◌≡◌, ℕ, subst, List, ◌≤◌, ◌+◌, ◌-◌, arith}
 use Rattle.gix_base.specs.declared.hash.ObjectId.{ObjectId}
-use Rattle.gix_revision.specs.History.{History, IsAncestor}
-use Rattle.gix_revision.specs.History.IsAncestor.{itself, further}
+use Rattle.gix_revwalk.specs.History.{History, IsAncestor}
+use Rattle.gix_revwalk.specs.History.IsAncestor.{itself, further}
 use Rattle.gix_revision.specs.Sizes.{HasSize}
 use Rattle.gix_revision.specs.Ahead.{IsAheadOf, IsFallingEdge, IsFalling, IsPath, ParentsAreOlder}
 use Rattle.gix_revision.specs.Ahead.IsPath.{stay, further as falls_on}

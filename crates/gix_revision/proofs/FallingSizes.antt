@@ -8,8 +8,8 @@ use Rattle.std.specs.List.{filter}
 use Rattle.std.specs.Prelude.{map}
 use Rattle.std.proofs.lemmas.Map.Made.{lookup-map_values}
 use Rattle.gix_base.specs.declared.hash.ObjectId.{ObjectId}
-use Rattle.gix_revision.specs.History.{History, Entry, entry_at, same_id, is_one_of, parents_in, time_in, time_of, Has, IsEdge, IsAncestor}
-use Rattle.gix_revision.specs.History.IsAncestor.{itself, further}
+use Rattle.gix_revwalk.specs.History.{History, Entry, entry_at, same_id, is_one_of, parents_in, time_in, time_of, Has, IsEdge, IsAncestor}
+use Rattle.gix_revwalk.specs.History.IsAncestor.{itself, further}
 use Rattle.gix_revision.specs.Sizes.{HasSize}
 use Rattle.gix_revision.specs.Ahead.{IsAheadOf, IsFallingEdge, IsFalling, IsPath}
 use Rattle.gix_revision.specs.Ahead.IsPath.{stay, further as falls_on}

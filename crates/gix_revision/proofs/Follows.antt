@@ -3,8 +3,8 @@ use Rattle.std.proofs.Common.{◌≡◌, ℤ, Bool, true, false, cond, refl, ap,
 use Rattle.std.specs.Option.{option_map}
 use Rattle.std.proofs.lemmas.Map.Made.{lookup-map_values}
 use Rattle.gix_base.specs.declared.hash.ObjectId.{ObjectId}
-use Rattle.gix_revision.specs.History.{History, Entry, entry_at, same_id, is_one_of, parents_in}
-use Rattle.gix_revision.specs.Followed.{first_alone, followed, with_time, timed, timed_parents, followed_at, ids_alone}
+use Rattle.gix_revwalk.specs.History.{History, Entry, entry_at, same_id, is_one_of, parents_in}
+use Rattle.gix_revwalk.specs.Followed.{first_alone, followed, with_time, timed, timed_parents, followed_at, ids_alone}
 use Rattle.gix_revision.specs.Walks.{visited, all_visited, all_added}
 
 pub entry_at-followed : (first : Bool) (h : History) (id : ObjectId) → entry_at (followed first h) id ≡ cond first (option_map first_alone (entry_at h id)) (entry_at h id)

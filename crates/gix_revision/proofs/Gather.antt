@@ -5,11 +5,11 @@ use Rattle.std.proofs.lemmas.Map.Keys.{IsDistinct-push}
 use Rattle.std.proofs.lemmas.Map.Made.{length-le_from_is_member}
 use Rattle.std.proofs.lemmas.List.{take-append-le}
 use Rattle.gix_base.specs.declared.hash.ObjectId.{ObjectId}
-use Rattle.gix_revision.specs.History.{History, entry_at, same_id, is_one_of, parents_in, Has, IsEdge, IsAncestor}
-use Rattle.gix_revision.specs.History.IsAncestor.{itself, further}
-use Rattle.gix_revision.specs.Graph.{Graphed}
+use Rattle.gix_revwalk.specs.History.{History, entry_at, same_id, is_one_of, parents_in, Has, IsEdge, IsAncestor}
+use Rattle.gix_revwalk.specs.History.IsAncestor.{itself, further}
+use Rattle.gix_revwalk.specs.Graph.{Graphed}
 use Rattle.gix_revision.specs.Walks.{added, all_added, parents_added, named_parents, Holds, HoldsAncestors, KeepsHeld}
-use Rattle.gix_revision.proofs.Ids.{same_id-laws}
+use Rattle.gix_revwalk.proofs.Ids.{same_id-laws}
 use Rattle.gix_revision.proofs.Members.{one_of-left, one_of-right, one_of-cases, one_of-take_cases}
 use Rattle.gix_revision.proofs.Added.{one_of-all_added, one_of-parents_added}
 use Rattle.gix_revision.proofs.Maximal.{one_with_parent}

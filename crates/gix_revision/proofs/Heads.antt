@@ -1,17 +1,16 @@
 -- How an octopus goes from head to head.
-use Rattle.std.proofs.Common.{◌≡◌, ℕ, Bool, true, false, refl, ap, sym, subst, ◌∙◌, List, [], ◌∷◌, ◌++◌, ◌⊎◌, inl, inr, ◌||◌, ◌&&◌, IsTrue, ◌↔◌, Option, Some, None, ◌<◌, ◌+◌, take, length, get_or}
+use Rattle.std.proofs.Common.{◌≡◌, ℕ, Bool, true, false, refl, ap, sym, subst, ◌∙◌, List, [], ◌∷◌, ◌++◌, ◌⊎◌, inl, inr, ◌||◌, ◌&&◌, IsTrue, ◌↔◌, ◌<◌, ◌+◌, take, length, get_or}
 use Rattle.std.specs.Bool.{MatchBool}
 use Rattle.std.specs.List.{list_all}
 use Rattle.std.proofs.lemmas.Bool.{or_cases}
 use Rattle.std.proofs.Math.Bool.{or-true}
 use Rattle.std.proofs.lemmas.List.Folds.{list_all-append}
 use Rattle.gix_base.specs.declared.hash.ObjectId.{ObjectId}
-use Rattle.gix_revision.specs.History.{History, same_id, is_one_of, Has, IsAncestor, IsAncestorOfOne, IsAncestorOfAll, IsAcyclic}
-use Rattle.gix_revision.specs.History.IsAncestor.{itself}
+use Rattle.gix_revwalk.specs.History.{History, same_id, is_one_of, Has, IsAncestor, IsAncestorOfOne, IsAncestorOfAll, IsAcyclic}
+use Rattle.gix_revwalk.specs.History.IsAncestor.{itself}
 use Rattle.gix_revision.specs.Bases.{IsCommon, CoverBases, is_plain}
-use Rattle.gix_revision.specs.Octopus.{IsOctopusBase, IsCommonToAll}
-use Rattle.gix_revision.specs.OctopusSteps.{IsCommonWith, AddsBases, CoversEach, AreApart, AreUnreached, IsStep, AreOctopusBases, IsBestOf}
-use Rattle.gix_revision.proofs.Ids.{same_id-equal}
+use Rattle.gix_revision.specs.OctopusSteps.{IsCommonWith, AddsBases, CoversEach, AreApart, AreUnreached, IsStep, AreOctopusBases}
+use Rattle.gix_revwalk.proofs.Ids.{same_id-equal}
 use Rattle.gix_revision.proofs.Members.{one_of-left, one_of-right, one_of-cases, one_of-single, one_of-head, take_next}
 use Rattle.gix_revision.proofs.Walk.{has_ancestor}
 use Rattle.gix_revision.proofs.Above.{anc-trans}
@@ -43,10 +42,6 @@ module _ (h : History) (b o : ObjectId) (ids : List ObjectId) (acyclic : IsAcycl
     ];
     below = λ c p q. let r = answer_below c p q in (r.0, both r.0 ∙ ap (λ t. is_one_of xs r.0 || t) r.1 ∙ or-true (is_one_of xs r.0), r.2);
   }
-
--- no bases, no ids
-pub covers_none : (h : History) (o : ObjectId) → CoversEach h [] o []
-covers_none h o = record { from = λ c m. cc; below = λ c a p. let none = a.1 in cc }
 
 -- the bases with one more
 covers_more : (h : History) (bs : List ObjectId) (b o : ObjectId) (xs ys : List ObjectId) → CoversEach h bs o xs → AddsBases h b o xs ys → CoversEach h (bs ++ b ∷ []) o ys
@@ -164,15 +159,3 @@ module _ (h : History) (f : ObjectId) (os us : List ObjectId) (acyclic : IsAcycl
     );
     cover = λ c s. (stand.below c).1 s;
   }
-
-none_below : (h : History) (ids : List ObjectId) (c : ObjectId) → ids ≡ [] → IsAncestorOfOne h ids c → ⊥
-none_below h ids c e a = let none = ap (λ l. is_one_of l a.0) (sym e) ∙ a.1 in cc
-
--- the first choice among the maximal ones is the octopus base
-pub chosen_base : (h : History) (f : ObjectId) (os ids : List ObjectId) (r : Option ObjectId) → list_all (same_id f) os ≡ false → AreOctopusBases h f os ids → IsBestOf h ids r → IsOctopusBase h f os r
-chosen_base h f os ids None differ are best = rw differ (λ c s. none_below h ids c best (are.cover c s))
-chosen_base h f os ids (Some x) differ are best = rw differ ((are.maximal x).0 best.member, λ y s. best.first y ((are.maximal y).1 s))
-
-pub chosen_common : (h : History) (f : ObjectId) (os ids : List ObjectId) (r : Option ObjectId) → AreOctopusBases h f os ids → IsBestOf h ids r → IsCommonToAll h f os r
-chosen_common h f os ids None are best = λ c s. none_below h ids c best (are.cover c s)
-chosen_common h f os ids (Some x) are best = ((are.maximal x).0 best.member).0

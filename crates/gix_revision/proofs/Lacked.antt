@@ -2,9 +2,9 @@
 use Rattle.std.proofs.Common.{◌≡◌, true, false, refl, sym, subst, ◌∙◌, List, [], ◌∷◌, ◌++◌, inl, inr, IsTrue, ◌↔◌, not, MatchBool, ◌||◌, ap}
 use Rattle.std.proofs.lemmas.List.Folds.{list_any-append}
 use Rattle.gix_base.specs.declared.hash.ObjectId.{ObjectId}
-use Rattle.gix_revision.specs.History.{History, same_id, is_one_of, Has}
+use Rattle.gix_revwalk.specs.History.{History, same_id, is_one_of, Has}
 use Rattle.gix_revision.specs.Bases.{IsCommon, IsMaximal, IsBase, is_empty, is_plain}
-use Rattle.gix_revision.proofs.Ids.{same_id-true}
+use Rattle.gix_revwalk.proofs.Ids.{same_id-true}
 use Rattle.gix_revision.proofs.Members.{one_of-left, one_of-right, one_of-cases, one_of-tail, one_of-cons_cases}
 use Rattle.gix_revision.proofs.Least.{ancestor-has}
 

@@ -1,8 +1,8 @@
 -- What follows from edges joining commits, and the ancestors being the least set.
 use Rattle.std.proofs.Common.{Bool, IsTrue, Option, Some, None, refl, is_some}
 use Rattle.gix_base.specs.declared.hash.ObjectId.{ObjectId}
-use Rattle.gix_revision.specs.History.{History, Entry, entry_at, is_one_of, parents_in, Has, IsEdge, IsAncestor}
-use Rattle.gix_revision.specs.History.IsAncestor.{itself, further}
+use Rattle.gix_revwalk.specs.History.{History, Entry, entry_at, is_one_of, parents_in, Has, IsEdge, IsAncestor}
+use Rattle.gix_revwalk.specs.History.IsAncestor.{itself, further}
 use Rattle.gix_revision.specs.Laws.{Passes}
 
 has_parents : (o : Option Entry) (b : ObjectId) → IsTrue (is_one_of (parents_in o) b) → IsTrue (is_some o)

@@ -1,12 +1,8 @@
-pub mod Ids
-pub mod Kept
 pub mod Maximal
 pub mod Members
 pub mod Walk
 pub mod Added
-pub mod Sources
 pub mod Above
-pub mod Queues
 pub mod Octopus
 pub mod AmongOnes
 pub mod Lacked

@@ -1,14 +1,11 @@
 -- The common ancestors that are a parent of no common one are the maximal ones.
-use Rattle.std.proofs.Common.{◌≡◌, Bool, true, false, cond, refl, sym, subst, ◌∙◌, List, [], ◌∷◌, inl, inr, ◌||◌, IsTrue, ◌↔◌, not, Option, Some, None, length, ◌==◌, ap}
+use Rattle.std.proofs.Common.{◌≡◌, Bool, true, false, cond, refl, sym, subst, ◌∙◌, List, [], ◌∷◌, inl, inr, ◌||◌, IsTrue, ◌↔◌, not, ap}
 use Rattle.std.specs.List.{filter, IsDistinct, AllByRecursion}
-use Rattle.std.specs.Option.{IfSome, IsNone}
-use Rattle.gix_base.specs.NonEmpty.{all_of}
-use Rattle.gix_base.specs.declared.error.NonEmpty.{NonEmpty}
 use Rattle.gix_base.specs.declared.hash.ObjectId.{ObjectId}
-use Rattle.gix_revision.specs.History.{History, entry_at, same_id, is_one_of, Has, IsEdge, parents_in, IsAncestor, IsAncestorOfOne, IsAcyclic}
-use Rattle.gix_revision.specs.Bases.{IsCommon, IsMaximal, IsBase, AreBases, CoverBases, is_empty, is_plain, ids_of}
-use Rattle.gix_revision.specs.History.IsAncestor.{itself, further}
-use Rattle.gix_revision.specs.Graph.{Graphed}
+use Rattle.gix_revwalk.specs.History.{History, entry_at, same_id, is_one_of, Has, IsEdge, parents_in, IsAncestor, IsAncestorOfOne, IsAcyclic}
+use Rattle.gix_revision.specs.Bases.{IsCommon, IsMaximal, IsBase, AreBases, CoverBases, is_empty, is_plain}
+use Rattle.gix_revwalk.specs.History.IsAncestor.{itself, further}
+use Rattle.gix_revwalk.specs.Graph.{Graphed}
 use Rattle.gix_revision.specs.Walks.{parents_of_all, HoldsEach, HoldsAncestors}
 use Rattle.gix_revision.proofs.Members.{one_of-left, one_of-right, one_of-cases, one_of-single, one_of-head, one_of-tail, one_of-cons_cases, one_of-filter, one_of-filtered}
 
@@ -91,11 +88,6 @@ pub bases_are : (h : History) (f : ObjectId) (os xs ys : List ObjectId) → IsAc
 bases_are h f os xs ys acyclic plain first others c =
     rw plain (maximal_ones h (IsCommon h f os) (filter (is_one_of ys) xs) acyclic (common_goes_down h f os) (common_has h f os) (common_ones h f os xs ys first others) c)
 
--- an answer made of a list holds the list's ids
-pub ids_of-from_vec : {A : Type 0} (items : List ObjectId) (r : Option (NonEmpty ObjectId A)) → IsNone r ↔ (items ≡ []) → IfSome r (λ list. all_of list ≡ items) → ids_of r ≡ items
-ids_of-from_vec items None none same = sym (none.0 refl)
-ids_of-from_vec items (Some list) none same = same
-
 pub one_is_distinct : (x : ObjectId) → IsDistinct same_id (x ∷ [])
 unfolding IsDistinct
 one_is_distinct x = (tt, tt)
@@ -112,10 +104,6 @@ distinct_filter p (x ∷ xs) d =
       | true ↦ (all_filter (λ y. same_id x y ≡ false) p xs d.0, distinct_filter p xs d.1)
       | false ↦ distinct_filter p xs d.1
     ]
-
-pub not_trivial : (os : List ObjectId) (f : ObjectId) (a b : Bool) → a ≡ (length os == 0) → a ≡ false → b ≡ is_one_of os f → b ≡ false → (is_empty os || is_one_of os f) ≡ false
-not_trivial [] f a b h i j k = cc
-not_trivial (x ∷ xs) f a b h i j k = sym j ∙ k
 
 -- exact bases cover the bases
 pub covers : (h : History) (f : ObjectId) (os ids : List ObjectId) → is_plain f os ≡ false → AreBases h f os ids → CoverBases h f os ids

@@ -3,9 +3,9 @@ use Rattle.std.proofs.Common.{◌≡◌, ℕ, refl, sym, subst, List, [], ◌∷
 use Rattle.gix_base.specs.declared.hash.ObjectId.{ObjectId}
 use Rattle.gix_base.specs.declared.error.message.Message.{Message}
 use Rattle.gix_base.specs.declared.error.message.Message.TheVariants.{ParentsOf, MissingStart, CounterFull, OutOfMemory}
-use Rattle.gix_revision.specs.History.{History, is_one_of, Has, IsAncestor}
-use Rattle.gix_revision.specs.History.IsAncestor.{itself}
-use Rattle.gix_revision.specs.Sizes.{Lists, HasSize, AtLeast}
+use Rattle.gix_revwalk.specs.History.{History, is_one_of, Has, IsAncestor}
+use Rattle.gix_revwalk.specs.History.IsAncestor.{itself}
+use Rattle.gix_revision.specs.Sizes.{Lists, HasSize}
 use Rattle.gix_revision.specs.Ahead.{IsAheadOf}
 use Rattle.gix_revision.specs.Described.{Names}
 use Rattle.gix_revision.specs.Nearest.{IsNearest, IsMeasured, IsOneOrBelow}
@@ -32,9 +32,6 @@ module _ (h : History) (s : ObjectId) (all : List ObjectId) (lists : Lists all (
 
   all_size : HasSize (IsAncestor h s) (length all)
   all_size = (all, lists, refl)
-
-  pub too_many : (n : ℕ) → n ≤ length all → AtLeast n (IsAncestor h s)
-  too_many n le = (all, lists.0, (λ c m. (lists.1 c).0 m), le)
 
   module _ (names : Names) where
     pub measured_none : 0 < length all → IsNearest h names all None → IsMeasured h s names (length all) None

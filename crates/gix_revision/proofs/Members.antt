@@ -6,8 +6,8 @@ use Rattle.std.proofs.lemmas.List.Folds.{list_any-append}
 use Rattle.std.proofs.Math.Seq.{take-suc}
 use Rattle.std.specs.List.{filter}
 use Rattle.gix_base.specs.declared.hash.ObjectId.{ObjectId}
-use Rattle.gix_revision.specs.History.{same_id, is_one_of}
-use Rattle.gix_revision.proofs.Ids.{same_id-true, same_id-itself, same_id-equal}
+use Rattle.gix_revwalk.specs.History.{same_id, is_one_of}
+use Rattle.gix_revwalk.proofs.Ids.{same_id-true, same_id-itself, same_id-equal}
 
 pub one_of-left : (xs ys : List ObjectId) (q : ObjectId) → IsTrue (is_one_of xs q) → IsTrue (is_one_of (xs ++ ys) q)
 one_of-left xs ys q h = list_any-append (same_id q) xs ys ∙ ap (λ b. b || is_one_of ys q) h

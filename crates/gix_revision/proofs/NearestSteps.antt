@@ -8,7 +8,7 @@ use Rattle.std.proofs.lemmas.Bool.{ltb-true, ltb-false}
 use Rattle.std.specs.Cow.{cow_slice_items}
 use Rattle.std.specs.declared.borrow.CowSlice.{CowSlice}
 use Rattle.gix_base.specs.declared.hash.ObjectId.{ObjectId}
-use Rattle.gix_revision.specs.History.{History, same_id, IsAncestor}
+use Rattle.gix_revwalk.specs.History.{History, same_id, IsAncestor}
 use Rattle.gix_revision.specs.Sizes.{HasSize}
 use Rattle.gix_revision.specs.Described.{Names, name_at, IsNamed}
 use Rattle.gix_revision.specs.Nearest.{IsNearest, larger_of}

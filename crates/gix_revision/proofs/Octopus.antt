@@ -4,11 +4,11 @@ use Rattle.std.specs.List.{filter}
 use Rattle.std.specs.Bool.{MatchBool}
 use Rattle.std.proofs.lemmas.List.{take_all}
 use Rattle.gix_base.specs.declared.hash.ObjectId.{ObjectId}
-use Rattle.gix_revision.specs.History.{History, entry_at, is_one_of, parents_in, IsAncestor, IsAncestorOfOne, IsAcyclic}
+use Rattle.gix_revwalk.specs.History.{History, entry_at, is_one_of, parents_in, IsAncestor, IsAncestorOfOne, IsAcyclic}
 use Rattle.gix_revision.specs.Bases.{IsCommon, IsMaximal, IsBase}
 use Rattle.gix_revision.specs.Walks.{all_visited}
 use Rattle.gix_revision.proofs.Members.{one_of-single, one_of-head}
-use Rattle.gix_revision.specs.History.IsAncestor.{further}
+use Rattle.gix_revwalk.specs.History.IsAncestor.{further}
 use Rattle.gix_revision.proofs.Walk.{has_ancestor, Walked, walk_starts, walk_goes, walk_bounded, walk_ends}
 use Rattle.gix_revision.proofs.Maximal.{common_goes_down, common_has, common_ones}
 use Rattle.gix_revision.proofs.Above.{anc-trans, base_above}
@@ -64,15 +64,3 @@ bases_cover h b o acyclic c =
         (λ r. let m = best_above h b (o ∷ []) acyclic c (r.0, (o, one_of-head o [], r.1)) in (m.0, m.1, m.2)),
       )
     ] refl
-
--- one step of an octopus
-pub octopus_step : (h : History) (bs us : List ObjectId) (o : ObjectId) → IsAcyclic h
-    → ((x : ObjectId) → IsTrue (is_one_of us x) ↔ ((b : ObjectId) × IsTrue (is_one_of bs b) × IsBase h b (o ∷ []) x))
-    → (c : ObjectId) → IsAncestorOfOne h us c ↔ (IsAncestorOfOne h bs c × IsAncestor h o c)
-octopus_step h bs us o acyclic are c = (
-  (λ a. let r = (are a.0).0 a.1 in
-      let both = (bases_cover h r.0 o acyclic c).0 (a.0, r.2, a.2) in
-      ((r.0, r.1, both.0), both.1)),
-  (λ a. let r = (bases_cover h a.0.0 o acyclic c).1 (a.0.2, a.1) in
-      (r.0, (are r.0).1 (a.0.0, a.0.1, r.1), r.2)),
-)

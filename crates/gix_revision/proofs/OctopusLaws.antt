@@ -5,10 +5,10 @@ use Rattle.std.specs.Option.{MatchOption}
 use Rattle.std.specs.List.{list_all}
 use Rattle.std.specs.Ordering.{is_gt}
 use Rattle.gix_base.specs.declared.hash.ObjectId.{ObjectId}
-use Rattle.gix_revision.specs.History.{History, same_id, is_one_of, IsAncestorOfAll}
+use Rattle.gix_revwalk.specs.History.{History, same_id, is_one_of, IsAncestorOfAll}
 use Rattle.gix_revision.specs.Bases.{IsMaximal}
 use Rattle.gix_revision.specs.Octopus.{IsOctopusBase, choice}
-use Rattle.gix_revision.proofs.Ids.{same_id-true, same_id-equal}
+use Rattle.gix_revwalk.proofs.Ids.{same_id-true, same_id-equal}
 use Rattle.gix_revision.proofs.Members.{one_of-head, one_of-tail, one_of-cons_cases}
 use Rattle.gix_revision.proofs.Choice.{choice-unique}
 

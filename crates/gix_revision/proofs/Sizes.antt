@@ -3,7 +3,7 @@ use Rattle.std.proofs.Common.{◌≡◌, ℕ, zero, suc, true, false, refl, List
 use Rattle.std.proofs.lemmas.Bool.{cases_lt}
 use Rattle.std.proofs.lemmas.List.{take_all}
 use Rattle.gix_base.specs.declared.hash.ObjectId.{ObjectId}
-use Rattle.gix_revision.specs.History.{History, entry_at, IsAncestor, parents_in}
+use Rattle.gix_revwalk.specs.History.{History, entry_at, IsAncestor, parents_in}
 use Rattle.gix_revision.specs.Sizes.{Lists, HasSize}
 use Rattle.gix_revision.specs.Walks.{all_visited}
 use Rattle.gix_revision.proofs.Walk.{Walked, walk_goes, walk_bounded}

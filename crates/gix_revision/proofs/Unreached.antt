@@ -2,8 +2,8 @@
 use Rattle.std.proofs.Common.{◌≡◌, Bool, true, false, refl, ap, sym, subst, ◌∙◌, List, [], ◌⊎◌, inl, inr, IsTrue, ◌↔◌, not, Some, None, is_some}
 use Rattle.std.specs.List.{filter}
 use Rattle.gix_base.specs.declared.hash.ObjectId.{ObjectId}
-use Rattle.gix_revision.specs.History.{History, entry_at, parents_in, is_one_of, Has, IsEdge, IsAncestor, IsAncestorOfOne, IsAcyclic}
-use Rattle.gix_revision.specs.History.IsAncestor.{itself, further}
+use Rattle.gix_revwalk.specs.History.{History, entry_at, parents_in, is_one_of, Has, IsEdge, IsAncestor, IsAncestorOfOne, IsAcyclic}
+use Rattle.gix_revwalk.specs.History.IsAncestor.{itself, further}
 use Rattle.gix_revision.specs.OctopusSteps.{AreApart, AreUnreached}
 use Rattle.gix_revision.specs.Walks.{parents_added}
 use Rattle.gix_revision.proofs.Members.{one_of-filter, one_of-filtered}

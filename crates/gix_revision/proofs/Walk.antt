@@ -5,11 +5,11 @@ use Rattle.std.proofs.lemmas.Map.Keys.{IsDistinct-push}
 use Rattle.std.proofs.lemmas.Map.Steps.{length-le_from_keys}
 use Rattle.std.proofs.lemmas.List.{take-append-le}
 use Rattle.gix_base.specs.declared.hash.ObjectId.{ObjectId}
-use Rattle.gix_revision.specs.History.{History, entry_at, same_id, is_one_of, Has, IsEdge, parents_in, IsAncestor, IsAncestorOfOne}
-use Rattle.gix_revision.specs.History.IsAncestor.{itself, further}
-use Rattle.gix_revision.specs.Graph.{Graphed}
+use Rattle.gix_revwalk.specs.History.{History, entry_at, same_id, is_one_of, Has, IsEdge, parents_in, IsAncestor, IsAncestorOfOne}
+use Rattle.gix_revwalk.specs.History.IsAncestor.{itself, further}
+use Rattle.gix_revwalk.specs.Graph.{Graphed}
 use Rattle.gix_revision.specs.Walks.{visited, all_visited, Holds, HoldsEach, HoldsAncestors}
-use Rattle.gix_revision.proofs.Ids.{same_id-laws}
+use Rattle.gix_revwalk.proofs.Ids.{same_id-laws}
 use Rattle.gix_revision.proofs.Members.{one_of-left, one_of-right, one_of-cases, one_of-single, one_of-head, one_of-tail, one_of-cons_cases, one_of-at, one_of-take_cases}
 
 -- what one visit does

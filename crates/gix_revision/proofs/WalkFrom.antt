@@ -1,7 +1,7 @@
 -- The walk that collects the ancestors of one commit.
 use Rattle.std.proofs.Common.{◌≡◌, ℕ, cond, ap, subst, List, [], ◌∷◌, ◌<◌, take, length, get_or, is_some, false}
 use Rattle.gix_base.specs.declared.hash.ObjectId.{ObjectId}
-use Rattle.gix_revision.specs.History.{History, entry_at, Has, IsAncestor}
+use Rattle.gix_revwalk.specs.History.{History, entry_at, Has, IsAncestor}
 use Rattle.gix_revision.specs.Sizes.{Lists}
 use Rattle.gix_revision.proofs.Members.{one_of-at, one_of-head, one_of-single}
 use Rattle.gix_revision.proofs.Walk.{Walked, walk_starts, walk_ends, has_ancestor, nothing}

@@ -4,7 +4,7 @@ use Rattle.std.specs.Prelude.{Option, Some, None}
 use Rattle.gix_base.specs.NonEmpty.{all_of}
 use Rattle.gix_base.specs.declared.error.NonEmpty.{NonEmpty}
 use Rattle.gix_base.specs.declared.hash.ObjectId.{ObjectId}
-use Rattle.gix_revision.specs.History.{History, is_one_of, IsAncestor, IsAncestorOfOne}
+use Rattle.gix_revwalk.specs.History.{History, is_one_of, IsAncestor, IsAncestorOfOne}
 
 -- the ancestors of f that are ancestors of one of os
 abbrev pub IsCommon : History → ObjectId → List ObjectId → ObjectId → Type 0

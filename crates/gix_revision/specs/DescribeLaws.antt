@@ -1,7 +1,7 @@
 -- Laws of the definitions of `describe`, each of them the contract of a function of the module `laws`.
 use Rattle.std.specs.Prelude.{◌≡◌, ℕ, List}
 use Rattle.gix_base.specs.declared.hash.ObjectId.{ObjectId}
-use Rattle.gix_revision.specs.History.{History, IsAncestor}
+use Rattle.gix_revwalk.specs.History.{History, IsAncestor}
 use Rattle.gix_revision.specs.Sizes.{HasSize}
 use Rattle.gix_revision.specs.Ahead.{IsAheadOf, IsFalling, ParentsAreOlder}
 use Rattle.gix_revision.specs.Described.{Names, IsNamedBy}

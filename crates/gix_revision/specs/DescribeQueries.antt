@@ -8,8 +8,8 @@ use Rattle.gix_revision.specs.declared.describe.outcome.Outcome.{Outcome}
 use Rattle.gix_revision.specs.declared.describe.queries.Query.{Query}
 use Rattle.gix_revision.specs.declared.describe.queries.Answer.{Answer}
 use Rattle.gix_revision.specs.declared.describe.queries.Answer.TheVariants.{Described, Refused}
-use Rattle.gix_revision.specs.Graph.{Graphed}
-use Rattle.gix_revision.specs.History.{History}
+use Rattle.gix_revwalk.specs.Graph.{Graphed}
+use Rattle.gix_revwalk.specs.History.{History}
 use Rattle.gix_revision.specs.Outcomes.{names_of, names_in, Describes, Walks, Refuses}
 
 -- the outcome is of s, and has the names that were handed in, by their pairs

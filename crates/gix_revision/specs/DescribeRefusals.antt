@@ -3,8 +3,8 @@ use Rattle.std.specs.Prelude.{◌≡◌, ℕ, ◌^◌, ◌⊎◌, IsTrue, None, 
 use Rattle.gix_base.specs.declared.hash.ObjectId.{ObjectId}
 use Rattle.gix_base.specs.declared.error.message.Message.{Message}
 use Rattle.gix_base.specs.declared.error.message.Message.TheVariants.{ParentsOf, MissingStart, CounterFull, OutOfMemory}
-use Rattle.gix_revision.specs.Faults.{FaultSeen}
-use Rattle.gix_revision.specs.History.{History, Has, IsAncestor}
+use Rattle.gix_revwalk.specs.Faults.{FaultSeen}
+use Rattle.gix_revwalk.specs.History.{History, Has, IsAncestor}
 use Rattle.gix_revision.specs.Sizes.{AtLeast}
 use Rattle.gix_revision.specs.Described.{Names, name_at, nothing_to_find}
 

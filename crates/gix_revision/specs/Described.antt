@@ -3,7 +3,7 @@
 use Rattle.std.specs.Prelude.{◌≡◌, ℕ, nat_eq, ◌+◌, ◌<◌, ◌≤◌, ◌⊎◌, ◌||◌, Bool, cond, List, Option, Some, None, MatchOption, MatchBool}
 use Rattle.std.specs.Map.{lookup}
 use Rattle.gix_base.specs.declared.hash.ObjectId.{ObjectId}
-use Rattle.gix_revision.specs.History.{History, same_id, Has, IsAncestor}
+use Rattle.gix_revwalk.specs.History.{History, same_id, Has, IsAncestor}
 use Rattle.gix_revision.specs.Bases.{is_empty}
 use Rattle.gix_revision.specs.Sizes.{HasSize, AtMost}
 use Rattle.gix_revision.specs.Ahead.{IsAheadOf, IsFalling, ParentsAreOlder}

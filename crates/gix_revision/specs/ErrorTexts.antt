@@ -2,8 +2,8 @@
 use Rattle.std.specs.Prelude.{ℕ, List, codes}
 use Rattle.gix_revision.specs.declared.merge_base.error.Error.{Error}
 use Rattle.gix_revision.specs.declared.merge_base.error.Error.TheVariants.{Source, OutOfMemory}
-use Rattle.gix_revision.specs.declared.graph.Error.{Error as GraphError}
-use Rattle.gix_revision.specs.declared.graph.Error.TheVariants.{Source as SourceFailed, OutOfMemory as NoMemory}
+use Rattle.gix_revwalk.specs.declared.graph.Error.{Error as GraphError}
+use Rattle.gix_revwalk.specs.declared.graph.Error.TheVariants.{Source as SourceFailed, OutOfMemory as NoMemory}
 
 -- what an error of `merge_base` prints
 abbrev pub merge_base_error_text : Error → List ℕ

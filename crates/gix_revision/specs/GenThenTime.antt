@@ -3,7 +3,7 @@ use Rattle.std.specs.Prelude.{◌-◌, ◌^◌}
 use Rattle.std.specs.Option.{unwrap_or}
 use Rattle.std.specs.Ordering.{nat_cmp, int_cmp, ordering_then}
 use Rattle.std.specs.declared.cmp.Ordering.{Ordering}
-use Rattle.gix_revision.specs.declared.graph.commit.Commit.{Commit}
+use Rattle.gix_revwalk.specs.declared.graph.commit.Commit.{Commit}
 use Rattle.gix_revision.specs.declared.merge_base.gen_then_time.GenThenTime.{GenThenTime}
 
 -- the key of a commit; an absent generation is the greatest u32 (git-commit-graph: infinity)

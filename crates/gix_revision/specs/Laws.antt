@@ -2,7 +2,7 @@
 use Rattle.std.specs.Prelude.{◌≡◌, ◌↔◌, List, [], ◌∷◌, ◌++◌, Bool, IsTrue, not, Option}
 use Rattle.std.specs.List.Sorted.{IsPermutation}
 use Rattle.gix_revision.specs.Octopus.{IsOctopusBase}
-use Rattle.gix_revision.specs.History.{History, Has, is_one_of, IsEdge, IsAcyclic, IsAncestor}
+use Rattle.gix_revwalk.specs.History.{History, Has, is_one_of, IsEdge, IsAcyclic, IsAncestor}
 use Rattle.gix_revision.specs.Bases.{IsMaximal, IsBase, is_empty}
 use Rattle.gix_base.specs.declared.hash.ObjectId.{ObjectId}
 

@@ -3,8 +3,8 @@ use Rattle.std.specs.Prelude.{◌≡◌, ℕ, ◌^◌, ◌≤◌, ◌<◌, ◌+�
 use Rattle.gix_base.specs.declared.hash.ObjectId.{ObjectId}
 use Rattle.gix_base.specs.declared.error.message.Message.{Message}
 use Rattle.gix_base.specs.declared.error.message.Message.TheVariants.{ParentsOf, MissingStart, CounterFull, OutOfMemory}
-use Rattle.gix_revision.specs.Faults.{FaultSeen}
-use Rattle.gix_revision.specs.History.{History, is_one_of, Has, IsAncestor}
+use Rattle.gix_revwalk.specs.Faults.{FaultSeen}
+use Rattle.gix_revwalk.specs.History.{History, is_one_of, Has, IsAncestor}
 use Rattle.gix_revision.specs.Sizes.{HasSize, AtLeast}
 use Rattle.gix_revision.specs.Ahead.{IsAheadOf, IsFalling}
 use Rattle.gix_revision.specs.Described.{Names, name_at, IsNamed, IsNamedAncestor}

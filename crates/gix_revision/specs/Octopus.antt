@@ -5,7 +5,7 @@ use Rattle.std.specs.Ordering.{nat_cmp, int_cmp, ordering_then, is_gt}
 use Rattle.std.specs.Cmp.Lexicographic.{slice_cmp}
 use Rattle.std.specs.declared.cmp.Ordering.{Ordering}
 use Rattle.gix_base.specs.declared.hash.ObjectId.{ObjectId}
-use Rattle.gix_revision.specs.History.{History, same_id, generation_of, time_of, IsAncestorOfAll}
+use Rattle.gix_revwalk.specs.History.{History, same_id, generation_of, time_of, IsAncestorOfAll}
 use Rattle.gix_revision.specs.Bases.{IsMaximal}
 
 -- `Less` where x is chosen before y: the greater generation, then the greater time, then the smaller id

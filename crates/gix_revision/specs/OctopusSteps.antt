@@ -4,7 +4,7 @@ use Rattle.std.specs.Ordering.{nat_cmp, int_cmp, ordering_then, is_gt}
 use Rattle.std.specs.Cmp.Lexicographic.{slice_cmp}
 use Rattle.std.specs.declared.cmp.Ordering.{Ordering}
 use Rattle.gix_base.specs.declared.hash.ObjectId.{ObjectId}
-use Rattle.gix_revision.specs.History.{History, is_one_of, generation_of, time_of, IsAncestor, IsAncestorOfOne, IsAncestorOfAll}
+use Rattle.gix_revwalk.specs.History.{History, is_one_of, generation_of, time_of, IsAncestor, IsAncestorOfOne, IsAncestorOfAll}
 use Rattle.gix_revision.specs.Bases.{IsCommon, IsMaximal, is_plain}
 use Rattle.gix_revision.specs.Octopus.{choice}
 use Rattle.gix_revision.specs.declared.merge_base.heads.Candidate.{Candidate}

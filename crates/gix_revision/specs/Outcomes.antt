@@ -7,8 +7,8 @@ use Rattle.gix_base.specs.declared.hash.ObjectId.{ObjectId}
 use Rattle.gix_base.specs.declared.error.message.Message.{Message}
 use Rattle.gix_revision.specs.declared.describe.options.Options.{Options}
 use Rattle.gix_revision.specs.declared.describe.outcome.Outcome.{Outcome}
-use Rattle.gix_revision.specs.History.{History}
-use Rattle.gix_revision.specs.Followed.{followed}
+use Rattle.gix_revwalk.specs.History.{History}
+use Rattle.gix_revwalk.specs.Followed.{followed}
 use Rattle.gix_revision.specs.Described.{Names, Description, IsDescribed}
 use Rattle.gix_revision.specs.DescribeRefusals.{NeedsWalk, IsRefused}
 

@@ -2,12 +2,12 @@
 use Rattle.std.specs.Prelude.{◌≡◌, ◌≤◌, ℕ, List, [], ◌∷◌, Bool, true, false, IsTrue, Option, Some}
 use Rattle.std.specs.List.{IsDistinct, list_all}
 use Rattle.gix_base.specs.declared.hash.ObjectId.{ObjectId}
-use Rattle.gix_revision.specs.History.{History, same_id, IsAcyclic, GenerationsNeverRise}
-use Rattle.gix_revision.specs.Graph.{Graphed}
+use Rattle.gix_revwalk.specs.History.{History, same_id, IsAcyclic, GenerationsNeverRise}
+use Rattle.gix_revwalk.specs.Graph.{Graphed}
 use Rattle.gix_revision.specs.Bases.{AreBases, CoverBases, ids_of, is_plain}
 use Rattle.gix_revision.specs.Octopus.{IsOctopusBase, IsCommonToAll}
 use Rattle.gix_revision.specs.Refusals.{HasCause}
-use Rattle.gix_revision.specs.declared.graph.commit.Commit.{Commit}
+use Rattle.gix_revwalk.specs.declared.graph.commit.Commit.{Commit}
 use Rattle.gix_revision.specs.declared.merge_base.flags.Flags.{Flags}
 use Rattle.gix_revision.specs.declared.merge_base.error.Error.{Error}
 use Rattle.gix_revision.specs.declared.merge_base.error.Error.TheVariants.{Source, OutOfMemory}

@@ -1,6 +1,6 @@
 -- Why the calls of `merge_base` refuse.
 use Rattle.std.specs.Prelude.{◌≡◌, ◌⊎◌, ℕ, List, codes}
-use Rattle.gix_revision.specs.Faults.{FaultSeen}
+use Rattle.gix_revwalk.specs.Faults.{FaultSeen}
 use Rattle.gix_revision.specs.declared.merge_base.error.Error.{Error}
 use Rattle.gix_revision.specs.declared.merge_base.error.Error.TheVariants.{Source, OutOfMemory}
 

@@ -2,7 +2,7 @@
 use Rattle.std.specs.Prelude.{◌≡◌, ℕ, ◌≤◌, List, length, IsTrue, ◌↔◌}
 use Rattle.std.specs.List.{IsDistinct}
 use Rattle.gix_base.specs.declared.hash.ObjectId.{ObjectId}
-use Rattle.gix_revision.specs.History.{same_id, is_one_of}
+use Rattle.gix_revwalk.specs.History.{same_id, is_one_of}
 
 -- xs has the members of S, each once
 abbrev pub Lists : List ObjectId → (ObjectId → Type 0) → Type 0

@@ -8,14 +8,13 @@
 #![tactic(auto)]
 
 pub mod describe;
-pub mod graph;
 pub mod laws;
 pub mod merge_base;
-pub mod queue;
 mod seen;
 
 pub use gix_base::{date, error, hash, object};
+pub use gix_revwalk::graph::Graph;
+pub use gix_revwalk::queue::PriorityQueue;
+pub use gix_revwalk::{graph, queue};
 pub use gix_spec::spec;
 pub use gix_spec::spec::Spec;
-pub use graph::Graph;
-pub use queue::PriorityQueue;

@@ -1,7 +1,7 @@
 //! Ids in the order in which they came, each looked up by its hash.
 
 ghost use Rattle.std.specs.Prelude.{◌≡◌, ◌∷◌, ◌++◌, [], List, OnOk, OnErr, length, ◌<◌, slice_index_or};
-ghost use Rattle.gix_revision.specs.History.{is_one_of};
+ghost use Rattle.gix_revwalk.specs.History.{is_one_of};
 ghost use Rattle.gix_base.specs.declared.hash.ObjectId.{ObjectId};
 ghost use Rattle.gix_revision.specs.Walks.{added, all_added};
 
@@ -20,7 +20,7 @@ pub(crate) struct Seen<A: Allocator> {
 
 impl<A: Allocator> Model for Seen<A> {
     ghost use Rattle.std.specs.Prelude.{◌≡◌, List};
-    ghost use Rattle.gix_revision.specs.History.{is_one_of};
+    ghost use Rattle.gix_revwalk.specs.History.{is_one_of};
     ghost use Rattle.gix_base.specs.declared.hash.ObjectId.{ObjectId};
 
     ghost Value = { List ObjectId };

@@ -46,14 +46,6 @@ module _ {S : Type 0} (by : S → Call → Answer → S → Type 0) where
   performs_err {out = Ok y} h q = absurd q
   performs_err {out = Err y} h q = record { performs = λ more. rw q (h.performs more) }
 
-  -- no piece, no call
-  pub performs_none : {X : Type 0} (x : X) {m : Context} {s : S} → Performs by [] s m s m (Ok x)
-  performs_none x = record { performs = λ more w o r. r }
-
-  -- the value of a part that went well doesn't matter
-  pub performs_as : {X Y : Type 0} {ps : List Piece} {m n : Context} {s u : S} {x : X} (y : Y) → Performs by ps s m u n (Ok x) → Performs by ps s m u n (Ok y)
-  performs_as y h = record { performs = h.performs }
-
   goes_then : {X Y : Type 0} (s u w : S) (t v z : Tree) (x : X) (out : Result Y Error) → Leads by s t u v → GoesTo by u v w out z → GoesTo by s t w out z
   goes_then s u w t v z x (Ok y) f g = λ k o r. f k o (g k o r)
   goes_then s u w t v z x (Err e) f g = fails_after s u w t v e f g

@@ -57,21 +57,24 @@ impl Told {
     // The answer to the next call, which the recorder has heard.
     fn answer(&mut self, heard: Result<(), Exn>) -> Result<(), Exn> {
         heard?;
-        let before = self.count;
-        self.count = before.saturating_add(1);
-        let message = match MESSAGES.get(before) {
-            Some(message) => *message,
-            None => "a later call",
-        };
+        self.count = self.count.saturating_add(1);
         match self.answers {
             Answers::Refuses(numbers) if numbers.contains(&self.count) => {
-                Err(Exn::new(self.alloc, message))
+                Err(Exn::new(self.alloc, message_of(self.count)))
             }
             Answers::WantsMemory(number) if number == self.count => {
                 Err(Exn::out_of_memory(self.alloc))
             }
             _ => Ok(()),
         }
+    }
+}
+
+// What the refusal of a call says.
+fn message_of(number: usize) -> &'static str {
+    match MESSAGES.get(number.saturating_sub(1)) {
+        Some(message) => *message,
+        None => "a later call",
     }
 }
 

@@ -8,7 +8,7 @@ use gix_revision::describe::{
 };
 use gix_revision::graph::{Find, FindFault, Graph, MemorySource};
 use refusing::Refusing;
-use std::alloc::{AllocError, Allocator};
+use std::alloc::{AllocError, Allocator, Global};
 use std::borrow::CowSlice;
 use std::test::Fail;
 
@@ -322,105 +322,135 @@ fn formats_are_printed(rt: HostRuntime) -> Result<(), Fail> {
     Ok(())
 }
 
-#[test]
-fn an_outcome_is_printed_and_copied(rt: HostRuntime) -> Result<(), Fail> {
-    let alloc = rt.alloc();
+/// [3] of the line, named after [1].
+fn two_back(alloc: Global) -> Result<Outcome<'static>, Fail> {
     let mut graph = Graph::new(alloc, source_of(alloc, LINE)?);
     let options = options_of(alloc, &[(1, "v1")])?;
-    let copy = options.clone()?;
-    assert!(rt; copy.name_by_oid == options.name_by_oid);
-    let Ok(Some(outcome)) = describe(alloc, &id(3), &mut graph, copy) else {
-        assert!(rt; false);
-        return Ok(());
-    };
+    match describe(alloc, &id(3), &mut graph, options) {
+        Ok(Some(outcome)) => Ok(outcome),
+        _ => Err(Fail::from("not described")),
+    }
+}
+
+#[test]
+fn the_names_are_copied_and_come_back(rt: HostRuntime) -> Result<(), Fail> {
+    let options = options_of(rt.alloc(), &[(1, "v1")])?;
+    let outcome = two_back(rt.alloc())?;
+    assert!(rt; options.clone()?.name_by_oid == options.name_by_oid);
     assert!(rt; outcome.name_by_oid == options.name_by_oid);
+    Ok(())
+}
+
+#[test]
+fn an_outcome_is_printed(rt: HostRuntime) -> Result<(), Fail> {
+    let alloc = rt.alloc();
     for (hex_len, want) in [
         (7, "v1-2-g3333333"),
         (0, "v1-2-g"),
         (99, "v1-2-g3333333333333333333333333333333333333333"),
     ] {
-        let format = outcome.clone()?.into_format(hex_len);
+        let format = two_back(alloc)?.into_format(hex_len);
         assert_eq!(rt; format!(in alloc; "{format}")?.as_str(), want);
-        assert!(rt; !format.is_exact_match());
-        assert!(rt; format.clone()? == format);
     }
     Ok(())
+}
+
+#[test]
+fn outcomes_and_formats_are_copied(rt: HostRuntime) -> Result<(), Fail> {
+    let outcome = two_back(rt.alloc())?;
+    let format = outcome.clone()?.into_format(7);
+    assert!(rt; !format.is_exact_match());
+    assert!(rt; format.clone()? == format);
+    Ok(())
+}
+
+/// A query for [3] of the line, named after [1].
+fn query(alloc: Global) -> Result<Query<'static>, AllocError> {
+    Ok(Query {
+        commit: id(3),
+        options: options_of(alloc, &[(1, "v1")])?,
+    })
+}
+
+/// Whether the answer is a commit two commits ahead of the named one.
+fn is_two_back<A: Allocator>(answer: &Answer<'static, A>) -> bool {
+    match answer {
+        Answer::Described(Some(outcome)) => outcome.depth == 2 && outcome.commits_seen == 3,
+        _ => false,
+    }
+}
+
+/// Whether the parents of [3] could not be had.
+fn lacks_parents<A: Allocator>(answer: &Answer<'static, A>) -> bool {
+    match answer {
+        Answer::Refused(refused) => *refused == Message::ParentsOf(id(3)),
+        Answer::Described(_) => false,
+    }
 }
 
 #[test]
 fn a_list_of_queries_is_answered_in_order(rt: HostRuntime) -> Result<(), Fail> {
     let alloc = rt.alloc();
     // The first query meets a failure of the source.
-    let line = source_of(alloc, LINE)?;
-    let mut graph = Graph::new(
-        alloc,
-        Failing::new(line, Turn::After(0), FindFault::Failed, 0),
+    let source = Failing::new(
+        source_of(alloc, LINE)?,
+        Turn::After(0),
+        FindFault::Failed,
+        0,
     );
-    let mut queries = Vec::new(alloc);
-    for _ in 0..3 {
-        let options = options_of(alloc, &[(1, "v1")])?;
-        queries.push(Query {
-            commit: id(3),
-            options,
-        })?;
-    }
-    let answers = match run(alloc, &mut graph, &queries) {
-        Ok(answers) => answers,
-        Err(_) => return Err(Fail::from(AllocError)),
+    let mut graph = Graph::new(alloc, source);
+    let queries = [query(alloc)?, query(alloc)?, query(alloc)?];
+    let Ok(answers) = run(alloc, &mut graph, &queries) else {
+        return Err(Fail::from("no answers"));
     };
-    assert_eq!(rt; answers.len(), 3);
-    for (i, answer) in answers.iter().enumerate() {
-        match answer {
-            Answer::Described(Some(outcome)) => {
-                assert!(rt; i > 0);
-                assert_eq!(rt; outcome.depth, 2);
-                assert_eq!(rt; outcome.commits_seen, 3);
-            }
-            Answer::Described(None) => assert!(rt; false),
-            Answer::Refused(refused) => {
-                assert_eq!(rt; i, 0);
-                assert!(rt; *refused == Message::ParentsOf(id(3)));
-            }
-        }
-    }
+    let [first, second, third] = answers.as_slice() else {
+        return Err(Fail::from("not three answers"));
+    };
+    assert!(rt; lacks_parents(first) && is_two_back(second) && is_two_back(third));
     assert_eq!(rt; graph.source().faults(), 1);
     Ok(())
 }
 
-/// Whether row 7's answer came, and want of memory in its place.
+/// Whether [3] of the line is described after [1], or why it is not.
 fn line_is_described<A: Allocator + Copy>(
     alloc: A,
     graph: &mut Graph<MemorySource, Flags, A>,
 ) -> Result<bool, Error> {
-    let options = match options_of(alloc, &[(1, "v1")]) {
-        Ok(options) => options,
-        Err(_) => return Err(Message::OutOfMemory),
+    let Ok(options) = options_of(alloc, &[(1, "v1")]) else {
+        return Err(Message::OutOfMemory);
     };
     let want = Want::Named {
         name: "v1",
         depth: (2, 2),
         seen: (3, 3),
     };
-    let found = describe(alloc, &id(3), graph, options);
-    match found {
-        Err(refused) => Err(refused),
-        found => Ok(is_wanted(&found, 3, &want)),
-    }
+    let found = describe(alloc, &id(3), graph, options)?;
+    Ok(is_wanted(&Ok(found), 3, &want))
+}
+
+/// Two calls with one request for memory refused, and whether that was in the first call.
+fn with_one_refused(
+    alloc: Global,
+    before: u64,
+) -> Result<(Result<bool, Error>, Result<bool, Error>, bool), AllocError> {
+    let refusing = Refusing::new(alloc, before);
+    let mut graph = Graph::new(&refusing, source_of(alloc, LINE)?);
+    let first = line_is_described(&refusing, &mut graph);
+    let has_refused = refusing.has_refused();
+    let again = line_is_described(&refusing, &mut graph);
+    Ok((first, again, has_refused))
 }
 
 #[test]
 fn each_request_for_memory_is_refused(rt: HostRuntime) -> Result<(), Fail> {
     for before in 0..200u64 {
-        let refusing = Refusing::new(rt.alloc(), before);
-        let mut graph = Graph::new(&refusing, source_of(rt.alloc(), LINE)?);
-        let found = line_is_described(&refusing, &mut graph);
-        if !refusing.has_refused() {
+        let (first, again, has_refused) = with_one_refused(rt.alloc(), before)?;
+        if !has_refused {
             assert!(rt; before > 5, "too few requests");
-            assert!(rt; found == Ok(true));
+            assert!(rt; first == Ok(true));
             return Ok(());
         }
-        assert!(rt; found == Err(Message::OutOfMemory), "request {before}");
-        let again = line_is_described(&refusing, &mut graph);
+        assert!(rt; first == Err(Message::OutOfMemory), "request {before}");
         assert!(rt; again == Ok(true), "after request {before}");
     }
     assert!(rt; false, "never enough");

@@ -130,53 +130,93 @@ fn take_all<S: Find, A: Allocator + Copy>(
     Ok(())
 }
 
+/// What came of two rounds of taking all in, with what was held and the faults counted after the first.
+#[derive(Clone, Copy, Debug, PartialEq)]
+struct Rounds {
+    first: Result<(), Error>,
+    held: usize,
+    faults: u64,
+    again: Result<(), Error>,
+    all: usize,
+}
+
+fn two_rounds<S: Find, A: Allocator + Copy>(
+    alloc: A,
+    graph: &mut Graph<S, Commit<u8, A>, A>,
+) -> Rounds {
+    let first = take_all(alloc, graph);
+    let held = graph.len();
+    let faults = graph.source().faults();
+    let again = take_all(alloc, graph);
+    Rounds {
+        first,
+        held,
+        faults,
+        again,
+        all: graph.len(),
+    }
+}
+
 #[test]
 fn a_failing_look_up_is_counted_and_leaves_the_graph(rt: HostRuntime) -> Result<(), Fail> {
     let alloc = rt.alloc();
-    for (fault, before, after) in [
-        (FindFault::Failed, 0, 1),
-        (FindFault::Failed, u64::MAX, u64::MAX),
-        (FindFault::OutOfMemory, 5, 5),
+    for (fault, error, before, after) in [
+        (FindFault::Failed, Error::Source, 0, 1),
+        (FindFault::Failed, Error::Source, u64::MAX, u64::MAX),
+        (FindFault::OutOfMemory, Error::OutOfMemory, 5, 5),
     ] {
-        for turn in 0..3u64 {
-            let source = Failing::new(line(alloc)?, Turn::After(turn), fault, before);
-            let mut graph = Graph::new(alloc, source);
-            match (take_all(alloc, &mut graph), fault) {
-                (Err(Error::Source), FindFault::Failed) => {}
-                (Err(Error::OutOfMemory), FindFault::OutOfMemory) => {}
-                _ => assert!(rt; false, "turn {turn}"),
-            }
-            assert_eq!(rt; graph.source().faults(), after);
-            assert_eq!(rt; graph.len() as u64, turn);
-            assert!(rt; take_all(alloc, &mut graph).is_ok(), "after turn {turn}");
-            assert_eq!(rt; graph.len(), 3);
+        for turn in 0..3u8 {
+            let source = Failing::new(line(alloc)?, Turn::After(turn as u64), fault, before);
+            let want = Rounds {
+                first: Err(error),
+                held: turn as usize,
+                faults: after,
+                again: Ok(()),
+                all: 3,
+            };
+            assert_eq!(rt;
+                two_rounds(alloc, &mut Graph::new(alloc, source)),
+                want,
+                "turn {turn}"
+            );
         }
     }
+    Ok(())
+}
+
+#[test]
+fn a_commit_that_fails_each_time_is_counted_each_time(rt: HostRuntime) -> Result<(), Fail> {
+    let alloc = rt.alloc();
     let bad = Failing::new(line(alloc)?, Turn::For(id(1)), FindFault::Failed, 0);
     let mut graph = Graph::new(alloc, bad);
-    assert!(rt; take_all(alloc, &mut graph).is_err());
-    assert!(rt; take_all(alloc, &mut graph).is_err());
+    let rounds = two_rounds(alloc, &mut graph);
+    assert!(rt; rounds.first == Err(Error::Source) && rounds.again == Err(Error::Source));
     assert_eq!(rt; graph.into_source().faults(), 2);
     Ok(())
+}
+
+/// Two rounds with one request for memory refused, and whether there was such a request.
+fn with_one_refused(alloc: Global, before: u64) -> Result<(Rounds, bool), AllocError> {
+    let refusing = Refusing::new(alloc, before);
+    let mut graph = Graph::new(&refusing, line(alloc)?);
+    let rounds = two_rounds(&refusing, &mut graph);
+    Ok((rounds, refusing.has_refused()))
 }
 
 #[test]
 fn each_request_is_refused(rt: HostRuntime) -> Result<(), Fail> {
     for before in 0..50u64 {
-        let refusing = Refusing::new(rt.alloc(), before);
-        let mut graph = Graph::new(&refusing, line(rt.alloc())?);
-        let taken = take_all(&refusing, &mut graph);
-        if !refusing.has_refused() {
-            assert!(rt; before > 3, "too few requests");
-            assert!(rt; taken.is_ok());
-            return Ok(());
-        }
-        assert!(rt; taken == Err(Error::OutOfMemory), "request {before}");
+        let (rounds, has_refused) = with_one_refused(rt.alloc(), before)?;
         assert!(rt;
-            take_all(&refusing, &mut graph).is_ok(),
+            rounds.again.is_ok() && rounds.all == 3,
             "after request {before}"
         );
-        assert_eq!(rt; graph.len(), 3);
+        if !has_refused {
+            assert!(rt; before > 3, "too few requests");
+            assert!(rt; rounds.first.is_ok());
+            return Ok(());
+        }
+        assert!(rt; rounds.first == Err(Error::OutOfMemory), "request {before}");
     }
     assert!(rt; false, "never enough");
     Ok(())

@@ -5,7 +5,7 @@ use crate::sources::{Failing, Turn};
 use gix_revision::graph::{Find, FindFault, Graph};
 use gix_revision::merge_base::{Answer, Error, Query, run};
 use refusing::Refusing;
-use std::alloc::{AllocError, Allocator};
+use std::alloc::{AllocError, Allocator, Global};
 use std::test::Fail;
 
 /// The bases of [4] and [5], their octopus base, and the bases again.
@@ -87,42 +87,63 @@ fn lacked_memory<A: Allocator>(answer: &Answer<A>) -> bool {
     }
 }
 
+/// What a list of calls came to.
+#[derive(Clone, Copy, Debug, PartialEq)]
+enum Came {
+    /// The whole call was refused, and the graph is empty.
+    Refused,
+    /// So many answers lacked memory, and all others came.
+    Lacking(usize),
+    Wrong,
+}
+
+fn came_of<A: Allocator>(answers: &[Answer<A>]) -> Came {
+    let [bases, base, again] = answers else {
+        return Came::Wrong;
+    };
+    let well = (are_both(bases) || lacked_memory(bases))
+        && (is_second(base) || lacked_memory(base))
+        && (are_both(again) || lacked_memory(again));
+    if !well {
+        return Came::Wrong;
+    }
+    let lacking = answers
+        .iter()
+        .filter(|answer| lacked_memory(*answer))
+        .count();
+    Came::Lacking(lacking)
+}
+
+/// The calls with one request for memory refused, and whether there was such a request.
+fn with_one_refused(alloc: Global, before: u64) -> Result<(Came, bool), AllocError> {
+    // The list itself takes four requests.
+    let refusing = Refusing::new(alloc, before.saturating_add(4));
+    let list = queries(&refusing)?;
+    let mut graph = Graph::new(&refusing, source_of(alloc, &CRISS_CROSS)?);
+    let came = match run(&refusing, &mut graph, &list) {
+        Ok(answers) => came_of(&answers),
+        Err(_) if graph.len() == 0 => Came::Refused,
+        Err(_) => Came::Wrong,
+    };
+    Ok((came, refusing.has_refused()))
+}
+
 #[test]
 fn each_request_of_a_list_is_refused(rt: HostRuntime) -> Result<(), Fail> {
     for before in 0..500u64 {
-        // The list itself takes four requests.
-        let refusing = Refusing::new(rt.alloc(), before + 4);
-        let list = queries(&refusing)?;
-        let mut graph = Graph::new(&refusing, source_of(rt.alloc(), &CRISS_CROSS)?);
-        let Ok(answers) = run(&refusing, &mut graph, &list) else {
-            assert!(rt; before == 0, "request {before}");
-            assert_eq!(rt; graph.len(), 0);
-            continue;
-        };
-        assert!(rt; before > 0, "the room is taken first");
-        assert_eq!(rt; answers.len(), 3);
-        let refused = answers
-            .iter()
-            .filter(|answer| lacked_memory(*answer))
-            .count();
-        assert!(rt;
-            are_both(&answers[0]) || lacked_memory(&answers[0]),
-            "request {before}"
-        );
-        assert!(rt;
-            is_second(&answers[1]) || lacked_memory(&answers[1]),
-            "request {before}"
-        );
-        assert!(rt;
-            are_both(&answers[2]) || lacked_memory(&answers[2]),
-            "request {before}"
-        );
-        if !refusing.has_refused() {
+        let (came, has_refused) = with_one_refused(rt.alloc(), before)?;
+        if !has_refused {
             assert!(rt; before > 10, "too few requests");
-            assert_eq!(rt; refused, 0);
+            assert_eq!(rt; came, Came::Lacking(0));
             return Ok(());
         }
-        assert_eq!(rt; refused, 1);
+        // The room for the answers is taken first.
+        let wanted = if before == 0 {
+            Came::Refused
+        } else {
+            Came::Lacking(1)
+        };
+        assert_eq!(rt; came, wanted, "request {before}");
     }
     assert!(rt; false, "never enough");
     Ok(())

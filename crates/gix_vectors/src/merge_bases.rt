@@ -5,10 +5,10 @@ use crate::sources::{Counting, Failing, Turn};
 use bitflags::Flags as BitFlags;
 use gix_base::error::NonEmpty;
 use gix_base::hash::ObjectId;
-use gix_revision::graph::{Find, FindFault, Graph};
+use gix_revision::graph::{Commit, Find, FindFault, Graph};
 use gix_revision::merge_base::{Error, Flags, Simple, merge_base};
 use refusing::Refusing;
-use std::alloc::Allocator;
+use std::alloc::{AllocError, Allocator, Global};
 use std::test::Fail;
 
 /// Whether the answer is these bases, in any order.
@@ -78,79 +78,91 @@ fn each_id_is_asked_for_once(rt: HostRuntime) -> Result<(), Fail> {
     Ok(())
 }
 
+/// Whether the bases of [4] and [5] are [2] and [3], or why there is no answer.
+fn are_both<S: Find, A: Allocator + Copy>(
+    alloc: A,
+    graph: &mut Graph<S, Commit<Flags, A>, A>,
+) -> Result<bool, Error> {
+    Ok(is_set(&merge_base(alloc, id(4), &[id(5)], graph)?, &[2, 3]))
+}
+
+/// What came of a call, and the faults counted then.
+type Asked = (Result<bool, Error>, u64);
+
+/// Two calls over a source that fails at one look-up.
+fn with_one_failure(alloc: Global, turn: u64) -> Result<(Asked, Asked), AllocError> {
+    let source = Failing::new(
+        source_of(alloc, &CRISS_CROSS)?,
+        Turn::After(turn),
+        FindFault::Failed,
+        0,
+    );
+    let mut graph = Graph::new(alloc, source);
+    let first = are_both(alloc, &mut graph);
+    let faults = graph.source().faults();
+    let again = are_both(alloc, &mut graph);
+    Ok(((first, faults), (again, graph.source().faults())))
+}
+
 #[test]
 fn a_failing_look_up_is_answered_with_its_cause(rt: HostRuntime) -> Result<(), Fail> {
-    let alloc = rt.alloc();
-    let commit = "could not insert commit into graph";
-    let parent = "could not insert parent commit into graph";
-    for (turn, text) in [
+    let commit = Error::Source(Simple("could not insert commit into graph"));
+    let parent = Error::Source(Simple("could not insert parent commit into graph"));
+    for (turn, error) in [
         (0, commit),
         (1, commit),
         (2, parent),
         (3, parent),
         (4, parent),
     ] {
-        let failing = Failing::new(
-            source_of(alloc, &CRISS_CROSS)?,
-            Turn::After(turn),
-            FindFault::Failed,
-            0,
-        );
-        let mut graph = Graph::new(alloc, failing);
-        let refused = merge_base(alloc, id(4), &[id(5)], &mut graph);
-        match refused {
-            Err(error) => {
-                assert!(rt; error == Error::Source(Simple(text)), "look-up {turn}");
-                assert_eq!(rt; format!(in alloc; "{error}")?.as_str(), text);
-            }
-            Ok(_) => assert!(rt; false, "look-up {turn}"),
-        }
-        assert_eq!(rt; graph.source().faults(), 1);
-        let again = merge_base(alloc, id(4), &[id(5)], &mut graph)?;
-        assert!(rt; is_set(&again, &[2, 3]), "after look-up {turn}");
-        assert_eq!(rt; graph.source().faults(), 1);
+        let both = with_one_failure(rt.alloc(), turn)?;
+        assert!(rt; both == ((Err(error), 1), (Ok(true), 1)), "look-up {turn}");
     }
-    let late = Failing::new(
-        source_of(alloc, &CRISS_CROSS)?,
-        Turn::After(5),
-        FindFault::Failed,
-        0,
-    );
-    let mut graph = Graph::new(alloc, late);
-    let found = merge_base(alloc, id(4), &[id(5)], &mut graph)?;
-    assert!(rt; is_set(&found, &[2, 3]));
-    assert_eq!(rt; graph.source().faults(), 0);
+    // Five look-ups are all.
+    let both = with_one_failure(rt.alloc(), 5)?;
+    assert!(rt; both == ((Ok(true), 0), (Ok(true), 0)));
     Ok(())
+}
+
+/// Two calls with one request for memory refused, and whether that was in the first call.
+fn with_one_refused(
+    alloc: Global,
+    before: u64,
+) -> Result<(Result<bool, Error>, Result<bool, Error>, bool), AllocError> {
+    let refusing = Refusing::new(alloc, before);
+    let mut graph = Graph::new(&refusing, source_of(alloc, &CRISS_CROSS)?);
+    let first = are_both(&refusing, &mut graph);
+    let has_refused = refusing.has_refused();
+    let again = are_both(&refusing, &mut graph);
+    Ok((first, again, has_refused))
 }
 
 #[test]
 fn each_request_is_refused(rt: HostRuntime) -> Result<(), Fail> {
     for before in 0..200u64 {
-        let refusing = Refusing::new(rt.alloc(), before);
-        let mut graph = Graph::new(&refusing, source_of(rt.alloc(), &CRISS_CROSS)?);
-        let found = merge_base(&refusing, id(4), &[id(5)], &mut graph);
-        if !refusing.has_refused() {
+        let (first, again, has_refused) = with_one_refused(rt.alloc(), before)?;
+        if !has_refused {
             assert!(rt; before > 5, "too few requests");
-            assert!(rt; is_set(&found?, &[2, 3]));
+            assert!(rt; first == Ok(true));
             return Ok(());
         }
-        assert!(rt;
-            matches!(found, Err(Error::OutOfMemory)),
-            "request {before}"
-        );
-        let again = merge_base(&refusing, id(4), &[id(5)], &mut graph)?;
-        assert!(rt; is_set(&again, &[2, 3]), "after request {before}");
+        assert!(rt; first == Err(Error::OutOfMemory), "request {before}");
+        assert!(rt; again == Ok(true), "after request {before}");
     }
     assert!(rt; false, "never enough");
     Ok(())
 }
 
 #[test]
-fn want_of_memory_prints_its_text(rt: HostRuntime) -> Result<(), Fail> {
+fn refusals_print_their_texts(rt: HostRuntime) -> Result<(), Fail> {
     let alloc = rt.alloc();
     assert_eq!(rt;
         format!(in alloc; "{}", Error::OutOfMemory)?.as_str(),
         "out of memory"
+    );
+    assert_eq!(rt;
+        format!(in alloc; "{}", Error::Source(Simple("a text")))?.as_str(),
+        "a text"
     );
     assert_eq!(rt;
         format!(in alloc; "{}", Simple("a text"))?.as_str(),

@@ -14,7 +14,7 @@ use gix_base::hash::ObjectId;
 use gix_revision::graph::Graph;
 use gix_revision::merge_base::{Error, octopus};
 use refusing::Refusing;
-use std::alloc::Global;
+use std::alloc::{AllocError, Global};
 use std::test::Fail;
 
 /// The criss-cross on the left, where [3] is younger than [2].
@@ -119,19 +119,28 @@ fn the_generation_counts_before_the_time(rt: HostRuntime) -> Result<(), Fail> {
     Ok(())
 }
 
+type Found = Result<Option<ObjectId>, Error>;
+
+/// Two calls with one request for memory refused, and whether that was in the first call.
+fn with_one_refused(alloc: Global, before: u64) -> Result<(Found, Found, bool), AllocError> {
+    let refusing = Refusing::new(alloc, before);
+    let mut graph = Graph::new(&refusing, source_of(alloc, &CRISS_CROSS)?);
+    let first = octopus(&refusing, id(4), &[id(5), id(2)], &mut graph);
+    let has_refused = refusing.has_refused();
+    let again = octopus(&refusing, id(4), &[id(5), id(2)], &mut graph);
+    Ok((first, again, has_refused))
+}
+
 #[test]
 fn each_request_of_an_octopus_is_refused(rt: HostRuntime) -> Result<(), Fail> {
     for before in 0..500u64 {
-        let refusing = Refusing::new(rt.alloc(), before);
-        let mut graph = Graph::new(&refusing, source_of(rt.alloc(), &CRISS_CROSS)?);
-        let found = octopus(&refusing, id(4), &[id(5), id(2)], &mut graph);
-        if !refusing.has_refused() {
+        let (first, again, has_refused) = with_one_refused(rt.alloc(), before)?;
+        if !has_refused {
             assert!(rt; before > 10, "too few requests");
-            assert!(rt; found == Ok(Some(id(2))));
+            assert!(rt; first == Ok(Some(id(2))));
             return Ok(());
         }
-        assert!(rt; found == Err(Error::OutOfMemory), "request {before}");
-        let again = octopus(&refusing, id(4), &[id(5), id(2)], &mut graph);
+        assert!(rt; first == Err(Error::OutOfMemory), "request {before}");
         assert!(rt; again == Ok(Some(id(2))), "after request {before}");
     }
     assert!(rt; false, "never enough");

@@ -3,17 +3,17 @@
 ghost use Rattle.std.specs.Prelude.{◌≡◌, ◌≤◌, IfOk, IfErr, OnOk, is_some, ◌⊎◌};
 ghost use Rattle.std.specs.Option.{option_map};
 ghost use Rattle.gix_base.specs.declared.hash.ObjectId.{ObjectId};
-ghost use Rattle.gix_revision.specs.Followed.{followed, followed_at, ids_alone};
-ghost use Rattle.gix_revision.specs.History.{entry_at, parents_in, IsAncestor};
+ghost use Rattle.gix_revwalk.specs.Followed.{followed, followed_at, ids_alone};
+ghost use Rattle.gix_revwalk.specs.History.{entry_at, parents_in, IsAncestor};
 ghost use Rattle.gix_revision.specs.Nearest.{IsWalkRefused};
 ghost use Rattle.gix_revision.specs.Sizes.{Lists, HasSize};
 ghost use Rattle.gix_revision.specs.Walks.{all_visited, all_added};
 
-use crate::graph::find::Find;
-use crate::graph::{self, Graph};
 use crate::seen::Seen;
 use gix_base::error::Message;
 use gix_base::hash::ObjectId;
+use gix_revwalk::graph::find::Find;
+use gix_revwalk::graph::{self, Graph};
 use std::alloc::Allocator;
 
 /// Adds those of the parents that are new.

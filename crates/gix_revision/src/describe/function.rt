@@ -9,10 +9,10 @@ ghost use Rattle.gix_revision.specs.Outcomes.{names_of, names_in, cap_of, descri
 use crate::describe::nearest::measure;
 use crate::describe::options::{Names, Options};
 use crate::describe::outcome::Outcome;
-use crate::graph::Graph;
-use crate::graph::find::Find;
 use gix_base::error::Message;
 use gix_base::hash::ObjectId;
+use gix_revwalk::graph::Graph;
+use gix_revwalk::graph::find::Find;
 use std::alloc::Allocator;
 
 /// The answer without a name, where it is asked for.

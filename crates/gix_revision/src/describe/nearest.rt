@@ -2,17 +2,17 @@
 
 ghost use Rattle.std.specs.Prelude.{◌≡◌, ◌≤◌, IfOk, IfErr, ◌⊎◌, List, [], ◌∷◌, ◌++◌};
 ghost use Rattle.gix_base.specs.declared.hash.ObjectId.{ObjectId};
-ghost use Rattle.gix_revision.specs.Followed.{followed};
-ghost use Rattle.gix_revision.specs.History.{IsAncestor};
+ghost use Rattle.gix_revwalk.specs.Followed.{followed};
+ghost use Rattle.gix_revwalk.specs.History.{IsAncestor};
 ghost use Rattle.gix_revision.specs.Nearest.{IsNearest, IsMeasured, IsOneOrBelow, IsWalkRefused, IsMeasureRefused, larger_of};
 ghost use Rattle.gix_revision.specs.Outcomes.{names_of};
 
 use crate::describe::ancestors::{ancestors, count_ancestors};
 use crate::describe::options::Names;
-use crate::graph::Graph;
-use crate::graph::find::Find;
 use gix_base::error::Message;
 use gix_base::hash::ObjectId;
+use gix_revwalk::graph::Graph;
+use gix_revwalk::graph::find::Find;
 use std::alloc::Allocator;
 
 /// The one of two commits that has more ancestors.

@@ -7,10 +7,10 @@ ghost use Rattle.gix_revision.specs.DescribeQueries.{IsCall, is_refused_by_sourc
 use crate::describe::function::describe;
 use crate::describe::options::Options;
 use crate::describe::outcome::Outcome;
-use crate::graph::Graph;
-use crate::graph::find::Find;
 use gix_base::error::Message;
 use gix_base::hash::ObjectId;
+use gix_revwalk::graph::Graph;
+use gix_revwalk::graph::find::Find;
 use std::alloc::{Allocator, Global};
 
 /// A call of [`describe`].

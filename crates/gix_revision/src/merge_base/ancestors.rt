@@ -2,16 +2,16 @@
 
 ghost use Rattle.std.specs.Prelude.{◌≡◌, IsTrue, ◌↔◌, IfOk, OnOk, []};
 ghost use Rattle.std.specs.List.{IsDistinct};
-ghost use Rattle.gix_revision.specs.History.{entry_at, parents_in, is_one_of, same_id, IsAncestorOfOne};
+ghost use Rattle.gix_revwalk.specs.History.{entry_at, parents_in, is_one_of, same_id, IsAncestorOfOne};
 ghost use Rattle.gix_revision.specs.Walks.{visited, all_visited, all_added, parents_added, Holds, HoldsEach, HoldsAncestors};
 ghost use Rattle.gix_base.specs.declared.hash.ObjectId.{ObjectId};
 
-use crate::graph::Graph;
-use crate::graph::commit::Commit;
-use crate::graph::find::Find;
 use crate::merge_base::flags::Flags;
 use crate::seen::Seen;
 use gix_base::hash::ObjectId;
+use gix_revwalk::graph::Graph;
+use gix_revwalk::graph::commit::Commit;
+use gix_revwalk::graph::find::Find;
 use std::alloc::{AllocError, Allocator};
 
 /// Adds an id, where it is new and the graph holds it.

@@ -3,10 +3,10 @@
 ghost use Rattle.std.specs.Prelude.{◌≡◌, ℕ, Some, codes};
 ghost use Rattle.gix_revision.specs.ErrorTexts.{merge_base_error_text, refusal_text};
 ghost use Rattle.gix_revision.specs.Refusals.{HasCause};
-ghost use Rattle.gix_revision.specs.declared.graph.Error.TheVariants.{Source as SourceFailed};
-ghost use Rattle.gix_revision.specs.Faults.{FaultSeen};
+ghost use Rattle.gix_revwalk.specs.declared.graph.Error.TheVariants.{Source as SourceFailed};
+ghost use Rattle.gix_revwalk.specs.Faults.{FaultSeen};
 
-use crate::graph;
+use gix_revwalk::graph;
 use std::fmt;
 use thiserror::Error as StdError;
 

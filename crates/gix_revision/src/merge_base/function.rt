@@ -2,14 +2,11 @@
 
 ghost use Rattle.std.specs.Prelude.{◌≡◌, ◌≤◌, ◌↔◌, [], ◌∷◌, IsOk, IfOk, IfErr, IsTrue, false, not};
 ghost use Rattle.std.specs.List.{IsDistinct, filter};
-ghost use Rattle.gix_revision.specs.History.{is_one_of, same_id, IsAcyclic, GenerationsNeverRise};
+ghost use Rattle.gix_revwalk.specs.History.{is_one_of, same_id, IsAcyclic, GenerationsNeverRise};
 ghost use Rattle.gix_revision.specs.Bases.{AreBases, CoverBases, ids_of, is_plain};
 ghost use Rattle.gix_revision.specs.Refusals.{HasCause};
 ghost use Rattle.gix_revision.specs.Walks.{HoldsAncestors};
 
-use crate::graph::Graph;
-use crate::graph::commit::Commit;
-use crate::graph::find::Find;
 use crate::merge_base::ancestors::{all_parents, ancestors};
 use crate::merge_base::error::Error;
 use crate::merge_base::flags::Flags;
@@ -17,6 +14,9 @@ use crate::merge_base::gather::take_in_ancestors;
 use crate::seen::Seen;
 use gix_base::error::NonEmpty;
 use gix_base::hash::ObjectId;
+use gix_revwalk::graph::Graph;
+use gix_revwalk::graph::commit::Commit;
+use gix_revwalk::graph::find::Find;
 use std::alloc::{AllocError, Allocator};
 
 /// Whether `x` is one of `xs`.

@@ -1,22 +1,23 @@
 //! The taking in of all the ancestors of the ids that a call was handed.
 
-ghost use Rattle.std.specs.Prelude.{◌≡◌, ◌≤◌, ◌↔◌, [], ◌∷◌, IfOk, IfErr, IsTrue, OnOk, Err};
+ghost use Rattle.std.specs.Prelude.{◌≡◌, ◌≤◌, ◌↔◌, [], ◌∷◌, IfOk, IfErr, IsTrue, OnOk, Err, is_some};
+ghost use Rattle.gix_revwalk.specs.Graph.{held_at};
 ghost use Rattle.gix_base.specs.declared.hash.ObjectId.{ObjectId};
-ghost use Rattle.gix_revision.specs.History.{entry_at, is_one_of, parents_in, IsAncestorOfOne};
-ghost use Rattle.gix_revision.specs.Faults.{FaultSeen};
+ghost use Rattle.gix_revwalk.specs.History.{entry_at, is_one_of, parents_in, IsAncestorOfOne};
+ghost use Rattle.gix_revwalk.specs.Faults.{FaultSeen};
 ghost use Rattle.gix_revision.specs.Refusals.{HasCause};
 ghost use Rattle.gix_revision.specs.Walks.{all_added, parents_added, Holds, HoldsAncestors, KeepsHeld};
-ghost use Rattle.gix_revision.specs.declared.graph.Error.TheVariants.{Source as SourceFailed};
+ghost use Rattle.gix_revwalk.specs.declared.graph.Error.TheVariants.{Source as SourceFailed};
 
-use crate::graph::commit::Commit;
-use crate::graph::find::Find;
-use crate::graph::{self, Graph};
 use crate::merge_base::ancestors::reached_held;
 use crate::merge_base::error::{Error, commit_refused, parent_refused};
 use crate::merge_base::flags::Flags;
 use crate::seen::Seen;
 use bitflags::Flags as BitFlags;
 use gix_base::hash::ObjectId;
+use gix_revwalk::graph::commit::Commit;
+use gix_revwalk::graph::find::Find;
+use gix_revwalk::graph::{self, Graph};
 use std::alloc::{AllocError, Allocator};
 
 /// `first`, then `others` in order, each once.
@@ -31,6 +32,27 @@ fn handed_in<A: Allocator + Copy>(
     handed.add(first)?;
     handed.add_all(others)?;
     Ok(handed)
+}
+
+/// Takes a commit in from the source, unless it is held. Whether the source has it.
+pub(crate) fn take_in<S: Find, A: Allocator + Copy>(
+    alloc: A,
+    id: ObjectId,
+    graph: &mut Graph<S, Commit<Flags, A>, A>,
+) -> Result<bool, graph::Error>
+    ensures has { IfOk result (λ b. b ≡ is_some (entry_at (S.history graph.old.source) id)) }
+    ensures held { IfOk result (λ b. b ≡ is_some (held_at graph.new id)) }
+    ensures kept { OnOk result (KeepsHeld graph.old graph.new) }
+    ensures history { S.history graph.new.source ≡ S.history graph.old.source }
+    ensures count { S.fault_count graph.old.source ≤ S.fault_count graph.new.source }
+    ensures fault { result ≡ Err SourceFailed
+        → FaultSeen (S.fault_count graph.old.source) (S.fault_count graph.new.source) }
+{
+    let place = graph.get_or_insert_full_commit(alloc, id, Flags::empty())?;
+    match place.data() {
+        Some(_) => Ok(true),
+        None => Ok(false),
+    }
 }
 
 /// Takes one id in from the source, and adds its parents to the ids that were met.
@@ -49,7 +71,7 @@ fn take_in_one<S: Find, A: Allocator + Copy>(
     ensures fault { result ≡ Err SourceFailed
         → FaultSeen (S.fault_count graph.old.source) (S.fault_count graph.new.source) }
 {
-    if !graph.take_in(alloc, id, Flags::empty())? {
+    if !take_in(alloc, id, graph)? {
         return Ok(());
     }
     match graph.get(&id) {

@@ -3,8 +3,8 @@
 ghost use Rattle.std.specs.Prelude.{◌≡◌};
 ghost use Rattle.gix_revision.specs.GenThenTime.{key_of};
 
-use crate::graph::commit::Commit;
 use crate::merge_base::flags::Flags;
+use gix_revwalk::graph::commit::Commit;
 use std::alloc::Allocator;
 
 /// Generation and time of a commit. Keys are ordered by generation, then by time.

@@ -4,22 +4,22 @@ ghost use Rattle.std.specs.Prelude.{◌≡◌, ◌≤◌, Some, IfOk, OnOk, Ok, 
 ghost use Rattle.std.specs.List.{list_all};
 ghost use Rattle.std.specs.Ordering.{is_gt};
 ghost use Rattle.gix_base.specs.declared.hash.ObjectId.{ObjectId};
-ghost use Rattle.gix_revision.specs.History.{same_id, IsAncestorOfAll, IsAcyclic, GenerationsNeverRise};
+ghost use Rattle.gix_revwalk.specs.History.{same_id, IsAncestorOfAll, IsAcyclic, GenerationsNeverRise};
 ghost use Rattle.gix_revision.specs.Octopus.{IsOctopusBase, IsCommonToAll};
 ghost use Rattle.gix_revision.specs.OctopusSteps.{AddsBases, CoversEach, AreUnreached, AreOctopusBases, IsStep, IsBestOf, candidate_at, preference, better_of};
 ghost use Rattle.gix_revision.specs.Refusals.{HasCause};
 
-use crate::graph::Graph;
-use crate::graph::commit::Commit;
-use crate::graph::find::Find;
 use crate::merge_base::error::{Error, commit_refused};
 use crate::merge_base::flags::Flags;
 use crate::merge_base::function::{merge_base, without};
-use crate::merge_base::gather::reached_from;
+use crate::merge_base::gather::{reached_from, take_in};
 use crate::merge_base::gen_then_time::GenThenTime;
 use crate::seen::Seen;
 use bitflags::Flags as BitFlags;
 use gix_base::hash::ObjectId;
+use gix_revwalk::graph::Graph;
+use gix_revwalk::graph::commit::Commit;
+use gix_revwalk::graph::find::Find;
 use std::alloc::Allocator;
 use std::cmp::Ordering;
 
@@ -111,7 +111,7 @@ fn candidate_of<S: Find, A: Allocator + Copy>(
         (HasCause (S.fault_count graph.old.source) (S.fault_count graph.new.source)) }
     ensures count { S.fault_count graph.old.source ≤ S.fault_count graph.new.source }
 {
-    if let Err(error) = graph.take_in(alloc, id, Flags::empty()) {
+    if let Err(error) = take_in(alloc, id, graph) {
         return Err(commit_refused(error));
     }
     let key = match graph.get(&id) {

@@ -4,15 +4,15 @@ ghost use Rattle.std.specs.Prelude.{◌≡◌, ◌≤◌, length, IfOk, IfErr};
 ghost use Rattle.gix_revision.specs.Calls.{AreCalls, FewRefused};
 ghost use Rattle.gix_revision.specs.Queries.{AreRight, IsCall, is_refused_by_source};
 
-use crate::graph::Graph;
-use crate::graph::commit::Commit;
-use crate::graph::find::Find;
 use crate::merge_base::error::Error;
 use crate::merge_base::flags::Flags;
 use crate::merge_base::function::merge_base;
 use crate::merge_base::heads::octopus;
 use gix_base::error::NonEmpty;
 use gix_base::hash::ObjectId;
+use gix_revwalk::graph::Graph;
+use gix_revwalk::graph::commit::Commit;
+use gix_revwalk::graph::find::Find;
 use std::alloc::{Allocator, Global};
 
 /// A call of [`merge_base`] or of [`octopus`].

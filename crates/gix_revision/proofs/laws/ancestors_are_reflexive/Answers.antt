@@ -1,4 +1,4 @@
-use Rattle.gix_revision.specs.History.IsAncestor.{itself}
+use Rattle.gix_revwalk.specs.History.IsAncestor.{itself}
 use Rattle.gix_revision.proofs.laws.ancestors_are_reflexive.Goals as goal
 
 pub returns : goal.returns

@@ -1,7 +1,7 @@
 use Rattle.std.proofs.Common.{sym, ◌∙◌, ◌∷◌}
 use Rattle.std.proofs.lemmas.List.Sorted.{list_any-IsPermutation}
 use Rattle.gix_base.specs.declared.hash.ObjectId.{ObjectId}
-use Rattle.gix_revision.specs.History.{same_id}
+use Rattle.gix_revwalk.specs.History.{same_id}
 use Rattle.gix_revision.proofs.OctopusLaws.{same_base}
 use Rattle.gix_revision.proofs.laws.octopus_base_is_of_the_set.Goals as goal
 

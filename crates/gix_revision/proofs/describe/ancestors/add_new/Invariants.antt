@@ -1,5 +1,5 @@
 use Rattle.std.proofs.Common.{◌≡◌, drop}
-use Rattle.gix_revision.specs.Followed.{ids_alone}
+use Rattle.gix_revwalk.specs.Followed.{ids_alone}
 use Rattle.gix_revision.specs.Walks.{all_added}
 use Rattle.gix_revision.proofs.describe.ancestors.add_new.Given as goal
 

@@ -1,7 +1,7 @@
 use Rattle.std.proofs.Common.{rules, arith, ◌≡◌, ◌≤◌, ◌<◌, ◌-◌, ◌+◌, length, sym, ap, subst, ◌∙◌, ℕ, inr, [], ◌∷◌, ◌⊎◌}
 use Rattle.std.proofs.lemmas.List.{take_all}
-use Rattle.gix_revision.specs.Followed.{followed}
-use Rattle.gix_revision.specs.History.{IsAncestor}
+use Rattle.gix_revwalk.specs.Followed.{followed}
+use Rattle.gix_revwalk.specs.History.{IsAncestor}
 use Rattle.gix_revision.specs.Nearest.{IsWalkRefused}
 use Rattle.gix_revision.proofs.WalkRefusals.{refused_for}
 use Rattle.gix_revision.proofs.Walk.{walk_goes, walk_bounded}

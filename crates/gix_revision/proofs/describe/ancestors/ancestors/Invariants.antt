@@ -1,5 +1,5 @@
 use Rattle.std.proofs.Common.{◌≡◌, ◌≤◌, ◌-◌, length, ◌∷◌, []}
-use Rattle.gix_revision.specs.Followed.{followed}
+use Rattle.gix_revwalk.specs.Followed.{followed}
 use Rattle.gix_revision.proofs.Walk.{Walked}
 use Rattle.gix_revision.proofs.describe.ancestors.ancestors.Given as goal
 

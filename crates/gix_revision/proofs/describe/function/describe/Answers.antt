@@ -1,6 +1,6 @@
 use Rattle.std.proofs.Common.{arith, ◌≡◌, ◌∙◌, sym, ap, min, Some, None, Bool, false, true, not}
 use Rattle.std.specs.Option.{option_map}
-use Rattle.gix_revision.specs.Followed.{followed}
+use Rattle.gix_revwalk.specs.Followed.{followed}
 use Rattle.gix_revision.specs.Outcomes.{names_of, description_of}
 use Rattle.gix_revision.proofs.NearestSteps.{named_from, unnamed_from}
 use Rattle.gix_revision.proofs.Describes.{if_ok, described_named, described_idle, described_none, described_some, refused_walk}

@@ -1,5 +1,5 @@
 use Rattle.std.proofs.Common.{arith, ◌≡◌, ◌≤◌, ◌<◌, length, refl}
-use Rattle.gix_revision.specs.Followed.{followed}
+use Rattle.gix_revwalk.specs.Followed.{followed}
 use Rattle.gix_revision.proofs.Measures.{missing, measured_none, measured_some, within, refused_below}
 use Rattle.gix_revision.proofs.describe.nearest.measure.Goals as goal
 

@@ -1,5 +1,5 @@
 use Rattle.std.proofs.Common.{◌∙◌, sym}
-use Rattle.gix_revision.specs.Followed.{followed}
+use Rattle.gix_revwalk.specs.Followed.{followed}
 use Rattle.gix_revision.specs.Outcomes.{names_of}
 use Rattle.gix_revision.proofs.NearestSteps.{named_from, unnamed_from, nearest_skip, nearest_more}
 use Rattle.gix_revision.proofs.describe.nearest.nearer.Goals as goal

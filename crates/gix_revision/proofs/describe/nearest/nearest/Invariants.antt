@@ -1,5 +1,5 @@
 use Rattle.std.proofs.Common.{◌≡◌, ◌≤◌, take}
-use Rattle.gix_revision.specs.Followed.{followed}
+use Rattle.gix_revwalk.specs.Followed.{followed}
 use Rattle.gix_revision.specs.Nearest.{IsNearest}
 use Rattle.gix_revision.specs.Outcomes.{names_of}
 use Rattle.gix_revision.proofs.describe.nearest.nearest.Given as goal

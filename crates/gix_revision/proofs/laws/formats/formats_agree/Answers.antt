@@ -2,7 +2,7 @@ use Rattle.std.proofs.Common.{sym}
 use Rattle.std.specs.Cow.{cow_slice_items}
 use Rattle.std.specs.String.{string_bytes}
 use Rattle.gix_revision.proofs.FormatsEqual.{both_true, and_true, optional_equal, numbers_equal, booleans_equal}
-use Rattle.gix_revision.proofs.Ids.{same_id-true, same_id-equal}
+use Rattle.gix_revwalk.proofs.Ids.{same_id-true, same_id-equal}
 use Rattle.gix_revision.proofs.laws.formats.formats_agree.Goals as goal
 
 pub returns-clause-same : goal.returns-clause-same

@@ -1,4 +1,4 @@
-use Rattle.gix_revision.specs.History.{IsAncestor}
+use Rattle.gix_revwalk.specs.History.{IsAncestor}
 use Rattle.gix_revision.specs.Ahead.{IsAheadOf, IsFalling}
 use Rattle.gix_revision.proofs.Counts.{size_one}
 use Rattle.gix_revision.proofs.laws.sizes.sizes_are_unique.Goals as goal

@@ -1,6 +1,6 @@
 use Rattle.std.proofs.Common.{◌≡◌, ◌≤◌, ◌<◌, ◌-◌, ◌+◌, ◌∷◌, ◌++◌, ◌∙◌, ap, Err, refl, length, ℕ, arith}
 use Rattle.std.proofs.lemmas.List.{take_all}
-use Rattle.gix_revision.specs.History.{History}
+use Rattle.gix_revwalk.specs.History.{History}
 use Rattle.gix_revision.specs.Walks.{named_parents}
 use Rattle.gix_revision.proofs.Faults.{fault_later}
 use Rattle.gix_revision.proofs.Gather.{gather_starts, gather_goes, gather_bounded, gather_ends}

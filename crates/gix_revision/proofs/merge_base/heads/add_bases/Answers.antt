@@ -1,5 +1,5 @@
 use Rattle.std.proofs.Common.{◌≡◌, ap, sym, ◌∙◌, ◌||◌}
-use Rattle.gix_revision.specs.History.{is_one_of}
+use Rattle.gix_revwalk.specs.History.{is_one_of}
 use Rattle.gix_revision.specs.Bases.{ids_of}
 use Rattle.gix_revision.specs.Walks.{added, all_added}
 use Rattle.gix_revision.proofs.Members.{or_none}

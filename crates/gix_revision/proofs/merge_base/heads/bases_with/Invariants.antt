@@ -1,5 +1,5 @@
 use Rattle.std.proofs.Common.{◌≡◌, ◌≤◌, take}
-use Rattle.gix_revision.specs.History.{IsAcyclic}
+use Rattle.gix_revwalk.specs.History.{IsAcyclic}
 use Rattle.gix_revision.specs.OctopusSteps.{CoversEach}
 use Rattle.gix_revision.proofs.merge_base.heads.bases_with.Given as goal
 

@@ -1,5 +1,5 @@
 use Rattle.std.proofs.Common.{◌≡◌, ◌≤◌, take}
-use Rattle.gix_revision.specs.History.{IsAcyclic}
+use Rattle.gix_revwalk.specs.History.{IsAcyclic}
 use Rattle.gix_revision.proofs.Heads.{StandFor}
 use Rattle.gix_revision.proofs.merge_base.heads.octopus_bases.Given as goal
 

@@ -1,5 +1,5 @@
 use Rattle.std.proofs.Common.{rules, ◌≡◌, ◌++◌, ◌∷◌, [], true, cond}
-use Rattle.gix_revision.specs.History.{is_one_of, same_id}
+use Rattle.gix_revwalk.specs.History.{is_one_of, same_id}
 use Rattle.gix_base.specs.declared.hash.ObjectId.{ObjectId}
 use Rattle.gix_revision.proofs.Members.{one_of-pushed}
 use Rattle.gix_revision.proofs.seen.Seen.push.Goals as goal

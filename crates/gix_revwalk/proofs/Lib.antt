@@ -1,0 +1,5 @@
+pub mod Ids
+pub mod Kept
+pub mod Sources
+pub mod Queues
+pub mod Lent

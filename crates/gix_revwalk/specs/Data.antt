@@ -1,0 +1,29 @@
+-- The data that a graph of commits has beside each id.
+use Rattle.std.specs.Prelude.{◌≡◌, ℕ, ◌+◌, Option, None, is_some, if◌then◌else◌}
+use Rattle.std.specs.Option.{option_map}
+use Rattle.gix_revwalk.specs.History.{History, entry_at, same_id}
+use Rattle.gix_revwalk.specs.Graph.{Graphed, held_at, held_len}
+use Rattle.gix_base.specs.declared.hash.ObjectId.{ObjectId}
+use Rattle.gix_revwalk.specs.declared.graph.commit.Commit.{Commit}
+
+-- the data under an id; none where it is not held
+abbrev pub data_at : {S D A : Type 0} → Graphed S (Commit D A) → ObjectId → Option D
+data_at g q = option_map (λ c. c.«data») (held_at g q)
+
+-- n has the data of m, and `new` at id where that was not held and the history has it
+abbrev pub TakesIn : {S D A : Type 0}
+    → History → Graphed S (Commit D A) → ObjectId → D → Graphed S (Commit D A) → Type 0
+TakesIn h m id new n =
+    (q : ObjectId) → data_at n q
+    ≡ (if is_some (data_at m q) then data_at m q
+    else if same_id id q then option_map (λ _. new) (entry_at h id) else None)
+
+-- n has the data of m
+abbrev pub SameData : {S D A : Type 0} → Graphed S (Commit D A) → Graphed S (Commit D A) → Type 0
+SameData m n = (q : ObjectId) → data_at n q ≡ data_at m q
+
+-- how many ids are held once id is taken in: one more where it was not held and the history has it
+abbrev pub len_after : {S T : Type 0} → History → Graphed S T → ObjectId → ℕ
+len_after h m id =
+    if is_some (held_at m id) then held_len m
+    else if is_some (entry_at h id) then held_len m + 1 else held_len m

@@ -1,0 +1,12 @@
+pub mod Faults
+pub mod Graph
+pub mod History
+pub mod Held
+pub mod Memory
+pub mod Commit
+pub mod Lends
+pub mod Data
+pub mod MarkLends
+pub mod Queue
+pub mod GraphError
+pub mod Followed

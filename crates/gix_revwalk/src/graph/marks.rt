@@ -1,0 +1,139 @@
+//! A graph of numbers, as the marks of `describe` are.
+
+ghost use Rattle.std.specs.Prelude.{◌≡◌, ◌≤◌, ◌+◌, IfOk, IfErr, OnOk, OnErr, Some, Err};
+ghost use Rattle.std.specs.Prelude.{is_some, if◌then◌else◌};
+ghost use Rattle.std.specs.Option.{option_copied_mut, option_map};
+ghost use Rattle.std.specs.Borrow.{sem};
+ghost use Rattle.gix_revwalk.specs.Faults.{FaultSeen, faults_after};
+ghost use Rattle.gix_revwalk.specs.Followed.{timed, followed_at};
+ghost use Rattle.gix_revwalk.specs.Graph.{held_at, held_len};
+ghost use Rattle.gix_revwalk.specs.Held.{entry_of};
+ghost use Rattle.gix_revwalk.specs.History.{entry_at, same_id};
+ghost use Rattle.gix_revwalk.specs.declared.graph.Error.TheVariants.{OutOfMemory};
+ghost use Rattle.gix_base.specs.declared.hash.ObjectId.{ObjectId};
+
+use crate::graph::find::{Find, FindFault, SourceCommit};
+use crate::graph::{Error, Graph, Held};
+use gix_base::hash::ObjectId;
+use std::alloc::Allocator;
+
+impl Held for u32 {
+    ghost agrees = { λ _ _. Unit {0} };
+}
+
+impl<S: Find, A: Allocator + Copy> Graph<S, u32, A> {
+    ghost use Rattle.gix_revwalk.specs.MarkLends.{lends_mark};
+
+    /// Holds `id` with `value`, whether or not the source has it. The value held before is the
+    /// answer, `None` where there was none.
+    ///
+    /// # Errors
+    ///
+    /// [`Error::OutOfMemory`] alone. The graph is then as it was.
+    pub fn insert(&mut self, id: ObjectId, value: u32) -> Result<Option<u32>, Error>
+        ensures source { self.new.source ≡ self.old.source }
+        ensures old { IfOk result (λ old. old ≡ held_at self.old id) }
+        ensures put { OnOk result ((q : ObjectId)
+            → held_at self.new q ≡ (if same_id id q then Some value else held_at self.old q)) }
+        ensures len { IfOk result
+            (λ old. held_len self.new ≡ held_len self.old + (if is_some old then 0 else 1)) }
+        ensures refused { OnErr result (self.new ≡ self.old) }
+        ensures cause { IfErr result (λ e. e ≡ OutOfMemory) }
+    {
+        let Ok(old) = self.held.insert(id, value) else {
+            return Err(Error::OutOfMemory);
+        };
+        Ok(old)
+    }
+
+    /// The held value; `None` where the id is not held.
+    pub fn get_mut(&mut self, id: &ObjectId) -> Option<&mut u32>
+        ensures* writes_back { sem 𝓛
+            (lends_mark S.row A.row S.Find A.Allocator self.entry id.now result) }
+        ensures value { option_copied_mut result ≡ held_at self.old id.now }
+    {
+        self.held.get_mut(id)
+    }
+
+    /// What the source has under an id.
+    fn ask(&mut self, alloc: A, id: ObjectId) -> Result<Option<SourceCommit<A>>, Error>
+        ensures held { self.new.held ≡ self.old.held }
+        ensures history { S.history self.new.source ≡ S.history self.old.source }
+        ensures found { IfOk result
+            (λ found. option_map entry_of found ≡ entry_at (S.history self.old.source) id) }
+        ensures fault { result ≡ Err Error.Source
+            → FaultSeen (S.fault_count self.old.source) (S.fault_count self.new.source) }
+        ensures count { S.fault_count self.old.source ≤ S.fault_count self.new.source }
+        ensures faults { S.fault_count self.new.source
+            ≡ faults_after result (S.fault_count self.old.source) }
+    {
+        match self.source.find(alloc, id) {
+            Ok(found) => Ok(found),
+            Err(FindFault::Failed) => Err(Error::Source),
+            Err(FindFault::OutOfMemory) => Err(Error::OutOfMemory),
+        }
+    }
+
+    /// Those of the parents that the source has, with their times.
+    fn with_times(
+        &mut self,
+        alloc: A,
+        parents: &[ObjectId],
+    ) -> Result<Vec<(ObjectId, i64), A>, Error>
+        ensures held { self.new.held ≡ self.old.held }
+        ensures history { S.history self.new.source ≡ S.history self.old.source }
+        ensures timed { IfOk result
+            (λ v. v.items ≡ timed (S.history self.old.source) parents.now) }
+        ensures fault { result ≡ Err Error.Source
+            → FaultSeen (S.fault_count self.old.source) (S.fault_count self.new.source) }
+        ensures count { S.fault_count self.old.source ≤ S.fault_count self.new.source }
+        ensures faults { S.fault_count self.new.source
+            ≡ faults_after result (S.fault_count self.old.source) }
+    {
+        let mut all = Vec::new(alloc);
+        for parent in parents {
+            if let Some(found) = self.ask(alloc, *parent)? {
+                if all.push((*parent, found.time)).is_err() {
+                    return Err(Error::OutOfMemory);
+                }
+            }
+        }
+        Ok(all)
+    }
+
+    /// The parents of a commit that are followed and that the source has, with their times in
+    /// seconds, in order; `None` where the source lacks the commit.
+    ///
+    /// With `first_parent` the first of its parents is followed alone, and nothing where the source
+    /// lacks that one: git-describe, "--first-parent". No id becomes held.
+    ///
+    /// # Errors
+    ///
+    /// [`Error::Source`] only where the source failed in this call, or its count of faults is full;
+    /// [`Error::OutOfMemory`] where there was no memory. The graph holds what it held.
+    pub fn followed_parents(
+        &mut self,
+        alloc: A,
+        id: ObjectId,
+        first_parent: bool,
+    ) -> Result<Option<Vec<(ObjectId, i64), A>>, Error>
+        ensures held { self.new.held ≡ self.old.held }
+        ensures history { S.history self.new.source ≡ S.history self.old.source }
+        ensures parents { IfOk result (λ found. option_map (λ v. v.items) found
+            ≡ followed_at first_parent (S.history self.old.source) id) }
+        ensures fault { result ≡ Err Error.Source
+            → FaultSeen (S.fault_count self.old.source) (S.fault_count self.new.source) }
+        ensures count { S.fault_count self.old.source ≤ S.fault_count self.new.source }
+        ensures faults { S.fault_count self.new.source
+            ≡ faults_after result (S.fault_count self.old.source) }
+    {
+        let Some(found) = self.ask(alloc, id)? else {
+            return Ok(None);
+        };
+        let mut parents = found.parents;
+        if first_parent {
+            parents.truncate(1);
+        }
+        Ok(Some(self.with_times(alloc, &parents)?))
+    }
+}
