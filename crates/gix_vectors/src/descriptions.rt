@@ -361,6 +361,7 @@ fn outcomes_and_formats_are_copied(rt: HostRuntime) -> Result<(), Fail> {
     let format = outcome.clone()?.into_format(7);
     assert!(rt; !format.is_exact_match());
     assert!(rt; format.clone()? == format);
+    assert!(rt; outcome.into_format(7) == format);
     Ok(())
 }
 
