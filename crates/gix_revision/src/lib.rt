@@ -5,14 +5,15 @@
 //! ancestor; `spec::parse::parse` reads a revision text and tells a delegate what it says. The graph
 //! that the first three walk is taken from a source that implements [`graph::Find`], and is used again
 //! from call to call.
+//!
+//! What is here is re-exported: each part is proved in a crate of its own.
 #![tactic(auto)]
 
-pub mod describe;
 pub mod laws;
-pub mod merge_base;
-mod seen;
 
 pub use gix_base::{date, error, hash, object};
+pub use gix_describe::describe;
+pub use gix_merge_base::merge_base;
 pub use gix_revwalk::graph::Graph;
 pub use gix_revwalk::queue::PriorityQueue;
 pub use gix_revwalk::{graph, queue};

@@ -3,3 +3,9 @@ pub mod Kept
 pub mod Sources
 pub mod Queues
 pub mod Lent
+pub mod Members
+pub mod Ancestors
+pub mod Walk
+pub mod WalkFrom
+pub mod Calls
+pub mod Faults

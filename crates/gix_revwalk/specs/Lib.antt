@@ -10,3 +10,6 @@ pub mod MarkLends
 pub mod Queue
 pub mod GraphError
 pub mod Followed
+pub mod Sizes
+pub mod Walks
+pub mod Calls

@@ -1,0 +1,13 @@
+pub mod Follows
+pub mod Counts
+pub mod Sizes
+pub mod WalkRefusals
+pub mod NearestSteps
+pub mod Measures
+pub mod Describes
+pub mod FallingSizes
+pub mod ExactDepth
+pub mod HexText
+pub mod NamesCopied
+pub mod DescribeCalls
+pub mod FormatsEqual

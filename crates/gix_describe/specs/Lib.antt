@@ -1,0 +1,10 @@
+pub mod Ahead
+pub mod Described
+pub mod DescribeRefusals
+pub mod Nearest
+pub mod Outcomes
+pub mod DescribeLaws
+pub mod FormatText
+pub mod Copies
+pub mod DescribeQueries
+pub mod FormatLaws

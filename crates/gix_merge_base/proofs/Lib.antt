@@ -1,0 +1,14 @@
+pub mod Maximal
+pub mod Added
+pub mod Above
+pub mod Octopus
+pub mod AmongOnes
+pub mod Lacked
+pub mod Least
+pub mod Gather
+pub mod Choice
+pub mod Unreached
+pub mod Heads
+pub mod Results
+pub mod BaseCalls
+pub mod OctopusLaws

@@ -1,0 +1,51 @@
+use Rattle.std.proofs.Common.{◌≡◌, ◌≤◌, ◌<◌, ◌-◌, ◌+◌, ◌∷◌, ◌++◌, ◌∙◌, ap, Err, refl, length, ℕ, arith}
+use Rattle.std.proofs.lemmas.List.{take_all}
+use Rattle.gix_revwalk.specs.History.{History}
+use Rattle.gix_revwalk.specs.Walks.{named_parents}
+use Rattle.gix_revwalk.proofs.Faults.{fault_later}
+use Rattle.gix_merge_base.proofs.Gather.{gather_starts, gather_goes, gather_bounded, gather_ends}
+use Rattle.gix_merge_base.proofs.merge_base.gather.take_in_ancestors.Goals as goal
+use Rattle.gix_merge_base.proofs.merge_base.gather.take_in_ancestors.Goals.{then-i-handed, else-i-handed}
+
+smaller : (n h k i s : ℕ) → h ≡ n → k ≡ n → i < s → s ≤ n → k - (i + 1) < h - i
+smaller n h k i s a b c d = omega arith
+
+pub loop-i-init : goal.loop-i-init
+loop-i-init g c = record {
+  gathered = rw c.in-Ok.ensures (gather_starts _ c.args.graph.now _);
+  history = refl;
+  count = omega arith;
+}
+
+pub loop-i-preserved : goal.loop-i-preserved
+loop-i-preserved g c =
+    let test : c.loop-i.i < length c.loop-i.met = omega arith in
+    let d = c.at.result in
+    let taken = c.in_default-take_in_one.ensures in
+    record {
+      gathered = rw (taken.met, c.loop-i.invariant.history, c.at.ensures d)
+          (gather_goes _ c.loop-i.graph c.take_in_one.new.graph _ _ _ d c.loop-i.invariant.gathered test taken.kept (rw (← c.at.ensures d, ← c.loop-i.invariant.history) taken.held));
+      history = c.take_in_one.ensures.history ∙ c.loop-i.invariant.history;
+      count = omega arith;
+    }
+
+pub loop-i-smaller : goal.loop-i-smaller
+loop-i-smaller g c =
+    let test : c.loop-i.i < length c.loop-i.met = omega arith in
+    let room = λ (h : History). length (c.args.first ∷ c.args.others.now ++ named_parents h) in
+    smaller _ _ _ _ _ (ap room c.loop-i.invariant.history) (ap room (c.take_in_one.ensures.history ∙ c.loop-i.invariant.history)) test
+    (gather_bounded _ c.loop-i.graph _ _ _ c.loop-i.invariant.gathered)
+
+pub returns-in-Err-clause-cause : goal.returns-in-Err-clause-cause
+returns-in-Err-clause-cause g c =
+    let before = c.loop-i.invariant.count in
+    let asked = c.take_in_one.ensures.fault in
+    elim c.if-i-handed.branch [
+      | then-i-handed w ↦ rw w.result-is (w.commit_refused.ensures.cause _ _ (λ e. fault_later _ _ _ before (asked (c.in-Err.is ∙ ap Err e))))
+      | else-i-handed w ↦ rw w.result-is (w.parent_refused.ensures.cause _ _ (λ e. fault_later _ _ _ before (asked (c.in-Err.is ∙ ap Err e))))
+    ]
+
+pub returns-clause-held : goal.returns-clause-held
+returns-clause-held g c =
+    let test : length c.loop-i.met ≤ c.loop-i.i = omega arith in
+    gather_ends _ c.loop-i.graph _ _ _ c.loop-i.invariant.gathered (take_all c.loop-i.i c.loop-i.met test)

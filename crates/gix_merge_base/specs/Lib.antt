@@ -1,0 +1,9 @@
+pub mod Bases
+pub mod Laws
+pub mod Octopus
+pub mod Refusals
+pub mod ErrorTexts
+pub mod Flags
+pub mod GenThenTime
+pub mod OctopusSteps
+pub mod Queries

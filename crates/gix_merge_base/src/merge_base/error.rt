@@ -1,0 +1,70 @@
+//! Why no merge base is answered.
+
+ghost use Rattle.std.specs.Prelude.{◌≡◌, ℕ, Some, codes};
+ghost use Rattle.gix_merge_base.specs.ErrorTexts.{merge_base_error_text, refusal_text};
+ghost use Rattle.gix_merge_base.specs.Refusals.{HasCause};
+ghost use Rattle.gix_revwalk.specs.declared.graph.Error.TheVariants.{Source as SourceFailed};
+ghost use Rattle.gix_revwalk.specs.Faults.{FaultSeen};
+
+use gix_revwalk::graph;
+use std::fmt;
+use thiserror::Error as StdError;
+
+/// A text that says what was being done when the source failed. It prints as it stands.
+#[derive(Clone, Copy, Debug, PartialEq, Eq, Drop, StdError)]
+pub struct Simple(pub &'static str);
+
+impl fmt::Display for Simple {
+    ghost output = { λ simple. Some simple.0.now };
+
+    fn fmt<W: fmt::Write>(&self, f: &mut fmt::Formatter<W>) -> fmt::Result {
+        f.write_str(self.0)
+    }
+}
+
+/// Why `merge_base` and `octopus` give no answer. The next call on the graph meets its contract.
+#[derive(Clone, Copy, Debug, PartialEq, Eq, Drop, StdError)]
+pub enum Error {
+    /// The source failed while a commit that was handed in, or a parent, was taken from it: its count
+    /// of faults grew in this call, or stands at the greatest `u64`.
+    Source(Simple),
+    /// There was no memory, for the call or for the source's answer.
+    OutOfMemory,
+}
+
+impl fmt::Display for Error {
+    ghost output = { λ e. Some (merge_base_error_text e) };
+
+    fn fmt<W: fmt::Write>(&self, f: &mut fmt::Formatter<W>) -> fmt::Result {
+        match self {
+            Error::Source(simple) => f.write_str(simple.0),
+            Error::OutOfMemory => f.write_str("out of memory"),
+        }
+    }
+}
+
+/// The refusal for a commit that was handed in and could not be taken from the source.
+pub(crate) fn commit_refused(error: graph::Error) -> Error
+    ensures text { merge_base_error_text result
+        ≡ refusal_text (codes "could not insert commit into graph") error }
+    ensures cause { (before after : ℕ) → (error ≡ SourceFailed → FaultSeen before after)
+        → HasCause before after result }
+{
+    match error {
+        graph::Error::Source => Error::Source(Simple("could not insert commit into graph")),
+        graph::Error::OutOfMemory => Error::OutOfMemory,
+    }
+}
+
+/// The refusal for a parent that could not be taken from the source.
+pub(crate) fn parent_refused(error: graph::Error) -> Error
+    ensures text { merge_base_error_text result
+        ≡ refusal_text (codes "could not insert parent commit into graph") error }
+    ensures cause { (before after : ℕ) → (error ≡ SourceFailed → FaultSeen before after)
+        → HasCause before after result }
+{
+    match error {
+        graph::Error::Source => Error::Source(Simple("could not insert parent commit into graph")),
+        graph::Error::OutOfMemory => Error::OutOfMemory,
+    }
+}

@@ -1,5 +1,0 @@
-use Rattle.gix_revwalk.specs.History.IsAncestor.{itself}
-use Rattle.gix_revision.proofs.laws.ancestors_are_reflexive.Goals as goal
-
-pub returns : goal.returns
-returns c = λ h a has. itself has

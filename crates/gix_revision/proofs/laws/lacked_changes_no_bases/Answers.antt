@@ -1,5 +1,0 @@
-use Rattle.gix_revision.proofs.Lacked.{same-bases}
-use Rattle.gix_revision.proofs.laws.lacked_changes_no_bases.Goals as goal
-
-pub returns : goal.returns
-returns c = λ h f lacked before after absent differs some. same-bases h f lacked before after absent differs some
