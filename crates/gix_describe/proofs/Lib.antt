@@ -7,7 +7,6 @@ pub mod Measures
 pub mod Describes
 pub mod FallingSizes
 pub mod ExactDepth
-pub mod HexText
 pub mod NamesCopied
 pub mod DescribeCalls
 pub mod FormatsEqual

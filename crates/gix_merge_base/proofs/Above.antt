@@ -7,7 +7,7 @@ use Rattle.std.proofs.lemmas.Map.Made.{length-le_from_is_member}
 use Rattle.gix_base.specs.declared.hash.ObjectId.{ObjectId}
 use Rattle.gix_revwalk.specs.History.{History, same_id, is_one_of, Has, IsEdge, IsAncestor, IsAcyclic}
 use Rattle.gix_merge_base.specs.Bases.{IsMaximal}
-use Rattle.gix_revwalk.specs.History.IsAncestor.{itself, further}
+use Rattle.gix_revwalk.specs.History.IsAncestor.{itself}
 use Rattle.gix_revwalk.specs.Walks.{parents_of_all}
 use Rattle.gix_revwalk.proofs.Ids.{same_id-laws}
 use Rattle.gix_revwalk.proofs.Ancestors.{anc-trans, anc-edge}

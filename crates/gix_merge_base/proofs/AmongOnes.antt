@@ -9,7 +9,7 @@ use Rattle.gix_revwalk.specs.History.{History, same_id, is_one_of, Has, IsAncest
 use Rattle.gix_revwalk.specs.History.IsAncestor.{itself, further}
 use Rattle.gix_merge_base.specs.Bases.{IsMaximal}
 use Rattle.gix_revwalk.specs.Sizes.{is_empty}
-use Rattle.gix_merge_base.specs.Laws.{Among}
+use Rattle.gix_merge_base.specs.HistoryLaws.{Among}
 use Rattle.gix_revwalk.proofs.Ids.{same_id-true, same_id-equal, same_id-laws}
 use Rattle.gix_revwalk.proofs.Members.{one_of-cases, one_of-single, one_of-head, one_of-tail, one_of-cons_cases}
 use Rattle.gix_merge_base.proofs.Octopus.{Listed, listed}

@@ -1,5 +1,5 @@
 -- The best common ancestors of commits: git-merge-base, "Description" and "Discussion".
-use Rattle.std.specs.Prelude.{◌≡◌, ◌↔◌, List, [], ◌∷◌, Bool, IsTrue, ◌||◌, MatchBool, true, false}
+use Rattle.std.specs.Prelude.{◌≡◌, ◌↔◌, List, [], Bool, IsTrue, ◌||◌, MatchBool}
 use Rattle.std.specs.Prelude.{Option, Some, None}
 use Rattle.gix_base.specs.NonEmpty.{all_of}
 use Rattle.gix_base.specs.declared.error.NonEmpty.{NonEmpty}

@@ -1,5 +1,5 @@
 pub mod Bases
-pub mod Laws
+pub mod HistoryLaws
 pub mod Octopus
 pub mod Refusals
 pub mod ErrorTexts

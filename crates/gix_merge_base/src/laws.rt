@@ -2,11 +2,11 @@
 //!
 //! No function here does anything. Its contract is the law.
 
-ghost use Rattle.gix_merge_base.specs.Laws.{EdgesJoinCommits, AncestorsHoldTheStart, AncestorsGoOn};
-ghost use Rattle.gix_merge_base.specs.Laws.{AncestorsAreCommits, AncestorsAreLeast, NoneAreMutualAncestors};
-ghost use Rattle.gix_merge_base.specs.Laws.{MaximalAboveEach, MaximalExists, MaximalOfMaximal};
-ghost use Rattle.gix_merge_base.specs.Laws.{LackedChangesNoBases, BasesCover};
-ghost use Rattle.gix_merge_base.specs.Laws.{SameIdsSameOctopusBase, OctopusBaseInAnyOrder};
+ghost use Rattle.gix_merge_base.specs.HistoryLaws.{EdgesJoinCommits, AncestorsHoldTheStart, AncestorsGoOn};
+ghost use Rattle.gix_merge_base.specs.HistoryLaws.{AncestorsAreCommits, AncestorsAreLeast, NoneAreMutualAncestors};
+ghost use Rattle.gix_merge_base.specs.HistoryLaws.{MaximalAboveEach, MaximalExists, MaximalOfMaximal};
+ghost use Rattle.gix_merge_base.specs.HistoryLaws.{LackedChangesNoBases, BasesCover};
+ghost use Rattle.gix_merge_base.specs.HistoryLaws.{SameIdsSameOctopusBase, OctopusBaseInAnyOrder};
 ghost use Rattle.gix_base.specs.Laws.{OrderAgrees, OrderIs};
 ghost use Rattle.gix_merge_base.specs.GenThenTime.{key_order};
 

@@ -9,7 +9,7 @@ pub mod Reading
 pub mod Parse
 pub mod Performs
 pub mod Printed
-pub mod Faults
+pub mod FaultTexts
 pub mod Sibling
 pub mod Ends
 pub mod Heard

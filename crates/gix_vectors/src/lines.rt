@@ -269,7 +269,7 @@ fn faults_that_can_not_be_written_change_no_status(rt: HostRuntime) -> Result<()
 
 // Whether a line is this row, or a beginning of it and then a refusal for want of memory.
 fn is_row_or_refusal(line: &[u8], row: &[u8]) -> bool {
-    for refusal in [b"refused M2", b"refused P0"] {
+    for refusal in [b"refused M2", b"refused D4", b"refused P0"] {
         if let Some(beginning) = line.strip_suffix(refusal.as_slice()) {
             return row.starts_with(beginning);
         }
@@ -283,12 +283,13 @@ fn each_request_for_memory_is_refused_in_turn(rt: HostRuntime) -> Result<(), Fai
     let mut text = written_out(alloc, CRISS_CROSS)?;
     text.extend_from_slice(&written_out(
         alloc,
-        "base [4] [5]|octopus [4] [5]|parse [1]..[2]|base [4]|parse|octopus [5] [4]|base [4] [5]|",
+        "name [1] v|base [4] [5]|octopus [4] [5]|parse [1]..[2]|describe [2]|base [4]|parse|octopus [5] [4]|\
+        describe [2]|base [4] [5]|",
     )?)?;
     let rows = written_out(
         alloc,
         "base [2] [3]|octopus [2]|parse prefix([1]); kind(RangeBetween); prefix([2]); done|\
-        base [4]|parse done|octopus [2]|base [2] [3]|",
+        describe v-1-g2222222|base [4]|parse done|octopus [2]|describe v-1-g2222222|base [2] [3]|",
     )?;
     let mut refusals: u64 = 0;
     for before in 0..1000 {

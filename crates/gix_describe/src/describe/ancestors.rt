@@ -9,11 +9,11 @@ ghost use Rattle.gix_describe.specs.Nearest.{IsWalkRefused};
 ghost use Rattle.gix_revwalk.specs.Sizes.{Lists, HasSize};
 ghost use Rattle.gix_revwalk.specs.Walks.{all_visited, all_added};
 
-use gix_revwalk::seen::Seen;
 use gix_base::error::Message;
 use gix_base::hash::ObjectId;
 use gix_revwalk::graph::find::Find;
 use gix_revwalk::graph::{self, Graph};
+use gix_revwalk::seen::Seen;
 use std::alloc::Allocator;
 
 /// Adds those of the parents that are new.
@@ -115,8 +115,7 @@ pub(crate) fn ancestors<S: Find, A: Allocator + Copy>(
         return Err(Message::OutOfMemory);
     }
     let mut i = 0;
-    while i < seen.len() {
-        let next = seen.at(i);
+    while let Some(next) = seen.get(i) {
         add_parents(alloc, next, first_parent, &mut seen, graph)?;
         i += 1;
     }

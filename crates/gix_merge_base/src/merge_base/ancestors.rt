@@ -7,11 +7,11 @@ ghost use Rattle.gix_revwalk.specs.Walks.{visited, all_visited, all_added, paren
 ghost use Rattle.gix_base.specs.declared.hash.ObjectId.{ObjectId};
 
 use crate::merge_base::flags::Flags;
-use gix_revwalk::seen::Seen;
 use gix_base::hash::ObjectId;
 use gix_revwalk::graph::Graph;
 use gix_revwalk::graph::commit::Commit;
 use gix_revwalk::graph::find::Find;
+use gix_revwalk::seen::Seen;
 use std::alloc::{AllocError, Allocator};
 
 /// Adds an id, where it is new and the graph holds it.
@@ -77,8 +77,8 @@ pub(crate) fn ancestors<S: Find, A: Allocator + Copy>(
     let mut seen = Seen::new(alloc);
     visit_all(starts, &mut seen, graph)?;
     let mut i = 0;
-    while i < seen.len() {
-        visit_parents(seen.at(i), &mut seen, graph)?;
+    while let Some(next) = seen.get(i) {
+        visit_parents(next, &mut seen, graph)?;
         i += 1;
     }
     Ok(seen)

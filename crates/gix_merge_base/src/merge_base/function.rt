@@ -11,12 +11,12 @@ use crate::merge_base::ancestors::{all_parents, ancestors};
 use crate::merge_base::error::Error;
 use crate::merge_base::flags::Flags;
 use crate::merge_base::gather::take_in_ancestors;
-use gix_revwalk::seen::Seen;
 use gix_base::error::NonEmpty;
 use gix_base::hash::ObjectId;
 use gix_revwalk::graph::Graph;
 use gix_revwalk::graph::commit::Commit;
 use gix_revwalk::graph::find::Find;
+use gix_revwalk::seen::Seen;
 use std::alloc::{AllocError, Allocator};
 
 /// Whether `x` is one of `xs`.

@@ -12,12 +12,12 @@ ghost use Rattle.gix_revwalk.specs.declared.graph.Error.TheVariants.{Source as S
 use crate::merge_base::ancestors::reached_held;
 use crate::merge_base::error::{Error, commit_refused, parent_refused};
 use crate::merge_base::flags::Flags;
-use gix_revwalk::seen::Seen;
 use bitflags::Flags as BitFlags;
 use gix_base::hash::ObjectId;
 use gix_revwalk::graph::commit::Commit;
 use gix_revwalk::graph::find::Find;
 use gix_revwalk::graph::{self, Graph};
+use gix_revwalk::seen::Seen;
 use std::alloc::{AllocError, Allocator};
 
 /// `first`, then `others` in order, each once.
@@ -103,8 +103,8 @@ pub(crate) fn take_in_ancestors<S: Find, A: Allocator + Copy>(
     };
     let handed = met.len();
     let mut i = 0;
-    while i < met.len() {
-        if let Err(error) = take_in_one(alloc, met.at(i), &mut met, graph) {
+    while let Some(next) = met.get(i) {
+        if let Err(error) = take_in_one(alloc, next, &mut met, graph) {
             return Err(if i < handed {
                 commit_refused(error)
             } else {

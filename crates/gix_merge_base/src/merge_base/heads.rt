@@ -14,12 +14,12 @@ use crate::merge_base::flags::Flags;
 use crate::merge_base::function::{merge_base, without};
 use crate::merge_base::gather::{reached_from, take_in};
 use crate::merge_base::gen_then_time::GenThenTime;
-use gix_revwalk::seen::Seen;
 use bitflags::Flags as BitFlags;
 use gix_base::hash::ObjectId;
 use gix_revwalk::graph::Graph;
 use gix_revwalk::graph::commit::Commit;
 use gix_revwalk::graph::find::Find;
+use gix_revwalk::seen::Seen;
 use std::alloc::Allocator;
 use std::cmp::Ordering;
 

@@ -1,6 +1,6 @@
 //! Reading revision texts: what is called, and why a text is refused.
 
-ghost use Rattle.gix_spec.specs.Faults.{error_text};
+ghost use Rattle.gix_spec.specs.FaultTexts.{error_text};
 
 use gix_base::error::Exn;
 use std::fmt;

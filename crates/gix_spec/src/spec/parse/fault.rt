@@ -1,7 +1,7 @@
 //! Why a revision text is refused.
 
 ghost use Rattle.std.specs.Prelude.{◌≡◌, Some};
-ghost use Rattle.gix_spec.specs.Faults.{fault_text, number_of};
+ghost use Rattle.gix_spec.specs.FaultTexts.{fault_text, number_of};
 
 use super::delegate::Traversal;
 use crate::spec::Kind;

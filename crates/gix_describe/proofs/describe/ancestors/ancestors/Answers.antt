@@ -15,8 +15,8 @@ pub returns-then-not-branch-clause-all : goal.returns-then-not-branch-clause-all
 returns-then-not-branch-clause-all g c =
     rw (c.into_vec.ensures, c.new-seen.ensures) (lists_nothing (followed c.args.first_parent (g.S.Find.history c.args.graph.now.source)) c.args.start (sym c.in_ok-is_known.ensures.known ∙ c.if-not-branch.true))
 
-pub loop-i-init : goal.loop-i-init
-loop-i-init g c =
+pub loop-next-init : goal.loop-next-init
+loop-next-init g c =
     let items : c.push.new.self ≡ c.args.start ∷ [] = search rules in
     record {
       walked = rw items (walk_from (followed c.args.first_parent (g.S.Find.history c.args.graph.now.source)) c.args.start (sym c.in_ok-is_known.ensures.known ∙ c.if-not-branch.false));
@@ -24,32 +24,28 @@ loop-i-init g c =
       count = c.is_known.ensures.count;
     }
 
-pub loop-i-smaller : goal.loop-i-smaller
-loop-i-smaller g c =
-    let test : c.loop-i.i < length c.loop-i.seen = omega arith in
-    let h = c.loop-i.invariant.history in
-    smaller _ _ _ _ _ (ap (λ x. length (followed c.args.first_parent x)) h) (ap (λ x. length (followed c.args.first_parent x)) (c.add_parents.ensures.history ∙ h)) test (walk_bounded _ _ _ _ c.loop-i.invariant.walked)
+pub loop-next-smaller : goal.loop-next-smaller
+loop-next-smaller g c =
+    let h = c.loop-next.invariant.history in
+    smaller _ _ _ _ _ (ap (λ x. length (followed c.args.first_parent x)) h) (ap (λ x. length (followed c.args.first_parent x)) (c.add_parents.ensures.history ∙ h)) c.in-Some.ensures.item.0 (walk_bounded _ _ _ _ c.loop-next.invariant.walked)
 
-pub loop-i-preserved : goal.loop-i-preserved
-loop-i-preserved g c =
-    let test : c.loop-i.i < length c.loop-i.seen = omega arith in
+pub loop-next-preserved : goal.loop-next-preserved
+loop-next-preserved g c =
     record {
-      walked = rw (c.in_ok-add_parents.ensures.seen, c.loop-i.invariant.history, c.at-next.ensures c.at-next.result) (walk_goes _ _ _ _ c.at-next.result c.loop-i.invariant.walked test);
-      history = c.add_parents.ensures.history ∙ c.loop-i.invariant.history;
+      walked = rw (c.in_ok-add_parents.ensures.seen, c.loop-next.invariant.history, c.in-Some.ensures.item.1) (walk_goes _ _ _ _ c.in-Some.next c.loop-next.invariant.walked c.in-Some.ensures.item.0);
+      history = c.add_parents.ensures.history ∙ c.loop-next.invariant.history;
       count = omega arith;
     }
 
 pub returns-in_err-add_parents-clause-refused : goal.returns-in_err-add_parents-clause-refused
 returns-in_err-add_parents-clause-refused g c =
     let h = followed c.args.first_parent (g.S.Find.history c.args.graph.now.source) in
-    let test : c.loop-i.i < length c.loop-i.seen = omega arith in
-    let next : IsAncestor h c.args.start c.at-next.result = rw (c.at-next.ensures c.at-next.result) (walk_sound h c.args.start c.loop-i.seen c.loop-i.i c.at-next.result c.loop-i.invariant.walked test) in
+    let next : IsAncestor h c.args.start c.in-Some.next = rw (c.in-Some.ensures.item.1) (walk_sound h c.args.start c.loop-next.seen c.loop-next.i c.in-Some.next c.loop-next.invariant.walked c.in-Some.ensures.item.0) in
     let why : IsWalkRefused (λ x. (x ≡ c.args.start) ⊎ IsAncestor h c.args.start x) (g.S.Find.fault_count c.args.graph.now.source) (g.S.Find.fault_count c.add_parents.new.graph.source) c.in_err-add_parents.field-0.0 =
-    refused_for (λ x. x ≡ c.at-next.result) (λ x. (x ≡ c.args.start) ⊎ IsAncestor h c.args.start x) _ _ _ c.in_err-add_parents.field-0.0
-    (λ x is. inr (subst (λ z. IsAncestor h c.args.start z) (sym is) next)) c.loop-i.invariant.count c.in_err-add_parents.ensures.refused in
+    refused_for (λ x. x ≡ c.in-Some.next) (λ x. (x ≡ c.args.start) ⊎ IsAncestor h c.args.start x) _ _ _ c.in_err-add_parents.field-0.0
+    (λ x is. inr (subst (λ z. IsAncestor h c.args.start z) (sym is) next)) c.loop-next.invariant.count c.in_err-add_parents.ensures.refused in
     search (rules, why)
 
 pub returns-clause-all : goal.returns-clause-all
 returns-clause-all g c =
-    let test : length c.loop-i.seen ≤ c.loop-i.i = omega arith in
-    rw c.into_vec-2.ensures (walk_lists _ _ _ _ c.loop-i.invariant.walked (take_all c.loop-i.i c.loop-i.seen test))
+    rw c.into_vec-2.ensures (walk_lists _ _ _ _ c.loop-next.invariant.walked (take_all c.loop-next.i c.loop-next.seen c.in_default.ensures.item))

@@ -1,15 +1,6 @@
-use Rattle.std.proofs.Common.{arith, ◌∙◌}
 use Rattle.gix_revwalk.proofs.Members.{one_of-at}
 use Rattle.gix_describe.proofs.WalkRefusals.{refused_for}
-use Rattle.gix_describe.proofs.NearestSteps.{nearest_next}
 use Rattle.gix_describe.proofs.describe.nearest.nearest.Goals as goal
-
-pub loop-commit-preserved : goal.loop-commit-preserved
-loop-commit-preserved g c = record {
-  nearest = nearest_next _ _ c.args.commits.now c.loop-commit.commit-index _ c.loop-commit.best _ c.loop-commit-test.true c.loop-commit.invariant.nearest (rw c.loop-commit.invariant.history at c.in-Ok.ensures.nearest);
-  history = c.nearer.ensures.history ∙ c.loop-commit.invariant.history;
-  count = omega arith;
-}
 
 pub returns-in-Err-clause-refused : goal.returns-in-Err-clause-refused
 returns-in-Err-clause-refused g c =

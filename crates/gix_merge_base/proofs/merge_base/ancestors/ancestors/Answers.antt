@@ -1,4 +1,4 @@
-use Rattle.std.proofs.Common.{arith, ◌≤◌, ◌<◌, ◌-◌, ◌+◌, length, ℕ}
+use Rattle.std.proofs.Common.{arith, ◌≤◌, ◌<◌, ◌-◌, ◌+◌, ℕ}
 use Rattle.std.proofs.lemmas.List.{take_all}
 use Rattle.gix_revwalk.proofs.Walk.{walk_starts, walk_goes, walk_bounded, walk_ends, holds_starts, holds_seen, holds_parents}
 use Rattle.gix_merge_base.proofs.merge_base.ancestors.ancestors.Goals as goal
@@ -9,30 +9,25 @@ smaller n i s a b = omega arith
 pub visit_all-requires : goal.visit_all-requires
 visit_all-requires g c = holds_starts _ c.args.graph.now _ c.requires
 
-pub loop-i-init : goal.loop-i-init
-loop-i-init g c = rw (c.in_ok-visit_all.ensures, c.new-seen.ensures) (walk_starts _ _)
+pub loop-next-init : goal.loop-next-init
+loop-next-init g c = rw (c.in_ok-visit_all.ensures, c.new-seen.ensures) (walk_starts _ _)
 
 pub visit_parents-requires-clause-held : goal.visit_parents-requires-clause-held
 visit_parents-requires-clause-held g c =
-    let test : c.loop-i.i < length c.loop-i.seen = omega arith in
-    rw (c.at.ensures c.at.result) (holds_seen _ c.args.graph.now _ _ _ _ c.requires c.loop-i.invariant test)
+    rw c.in-Some.ensures.item.1 (holds_seen _ c.args.graph.now _ _ _ _ c.requires c.loop-next.invariant c.in-Some.ensures.item.0)
 
 pub visit_parents-requires-clause-parents : goal.visit_parents-requires-clause-parents
 visit_parents-requires-clause-parents g c =
-    let test : c.loop-i.i < length c.loop-i.seen = omega arith in
-    rw (c.at.ensures c.at.result) (holds_parents _ c.args.graph.now _ _ _ _ c.requires c.loop-i.invariant test)
+    rw c.in-Some.ensures.item.1 (holds_parents _ c.args.graph.now _ _ _ _ c.requires c.loop-next.invariant c.in-Some.ensures.item.0)
 
-pub loop-i-smaller : goal.loop-i-smaller
-loop-i-smaller g c =
-    let test : c.loop-i.i < length c.loop-i.seen = omega arith in
-    smaller _ _ _ test (walk_bounded _ _ _ _ c.loop-i.invariant)
+pub loop-next-smaller : goal.loop-next-smaller
+loop-next-smaller g c =
+    smaller _ _ _ c.in-Some.ensures.item.0 (walk_bounded _ _ _ _ c.loop-next.invariant)
 
-pub loop-i-preserved : goal.loop-i-preserved
-loop-i-preserved g c =
-    let test : c.loop-i.i < length c.loop-i.seen = omega arith in
-    rw (c.in_ok-visit_parents.ensures, c.at.ensures c.at.result) (walk_goes _ _ _ _ c.at.result c.loop-i.invariant test)
+pub loop-next-preserved : goal.loop-next-preserved
+loop-next-preserved g c =
+    rw (c.in_ok-visit_parents.ensures, c.in-Some.ensures.item.1) (walk_goes _ _ _ _ c.in-Some.next c.loop-next.invariant c.in-Some.ensures.item.0)
 
 pub returns-clause-all : goal.returns-clause-all
 returns-clause-all g c =
-    let test : length c.loop-i.seen ≤ c.loop-i.i = omega arith in
-    walk_ends _ _ _ _ c.loop-i.invariant (take_all c.loop-i.i c.loop-i.seen test)
+    walk_ends _ _ _ _ c.loop-next.invariant (take_all c.loop-next.i c.loop-next.seen c.in_default.ensures.item)

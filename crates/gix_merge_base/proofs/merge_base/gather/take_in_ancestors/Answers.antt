@@ -10,35 +10,34 @@ use Rattle.gix_merge_base.proofs.merge_base.gather.take_in_ancestors.Goals.{then
 smaller : (n h k i s : ℕ) → h ≡ n → k ≡ n → i < s → s ≤ n → k - (i + 1) < h - i
 smaller n h k i s a b c d = omega arith
 
-pub loop-i-init : goal.loop-i-init
-loop-i-init g c = record {
+pub loop-next-init : goal.loop-next-init
+loop-next-init g c = record {
   gathered = rw c.in-Ok.ensures (gather_starts _ c.args.graph.now _);
   history = refl;
   count = omega arith;
 }
 
-pub loop-i-preserved : goal.loop-i-preserved
-loop-i-preserved g c =
-    let test : c.loop-i.i < length c.loop-i.met = omega arith in
-    let d = c.at.result in
+pub loop-next-preserved : goal.loop-next-preserved
+loop-next-preserved g c =
+    let below = c.in-Some.ensures.item.0 in
+    let next = c.in-Some.ensures.item.1 in
     let taken = c.in_default-take_in_one.ensures in
     record {
-      gathered = rw (taken.met, c.loop-i.invariant.history, c.at.ensures d)
-          (gather_goes _ c.loop-i.graph c.take_in_one.new.graph _ _ _ d c.loop-i.invariant.gathered test taken.kept (rw (← c.at.ensures d, ← c.loop-i.invariant.history) taken.held));
-      history = c.take_in_one.ensures.history ∙ c.loop-i.invariant.history;
+      gathered = rw (taken.met, c.loop-next.invariant.history, next)
+          (gather_goes _ c.loop-next.graph c.take_in_one.new.graph _ _ _ c.in-Some.next c.loop-next.invariant.gathered below taken.kept (rw (← next, ← c.loop-next.invariant.history) taken.held));
+      history = c.take_in_one.ensures.history ∙ c.loop-next.invariant.history;
       count = omega arith;
     }
 
-pub loop-i-smaller : goal.loop-i-smaller
-loop-i-smaller g c =
-    let test : c.loop-i.i < length c.loop-i.met = omega arith in
+pub loop-next-smaller : goal.loop-next-smaller
+loop-next-smaller g c =
     let room = λ (h : History). length (c.args.first ∷ c.args.others.now ++ named_parents h) in
-    smaller _ _ _ _ _ (ap room c.loop-i.invariant.history) (ap room (c.take_in_one.ensures.history ∙ c.loop-i.invariant.history)) test
-    (gather_bounded _ c.loop-i.graph _ _ _ c.loop-i.invariant.gathered)
+    smaller _ _ _ _ _ (ap room c.loop-next.invariant.history) (ap room (c.take_in_one.ensures.history ∙ c.loop-next.invariant.history)) c.in-Some.ensures.item.0
+    (gather_bounded _ c.loop-next.graph _ _ _ c.loop-next.invariant.gathered)
 
 pub returns-in-Err-clause-cause : goal.returns-in-Err-clause-cause
 returns-in-Err-clause-cause g c =
-    let before = c.loop-i.invariant.count in
+    let before = c.loop-next.invariant.count in
     let asked = c.take_in_one.ensures.fault in
     elim c.if-i-handed.branch [
       | then-i-handed w ↦ rw w.result-is (w.commit_refused.ensures.cause _ _ (λ e. fault_later _ _ _ before (asked (c.in-Err.is ∙ ap Err e))))
@@ -47,5 +46,4 @@ returns-in-Err-clause-cause g c =
 
 pub returns-clause-held : goal.returns-clause-held
 returns-clause-held g c =
-    let test : length c.loop-i.met ≤ c.loop-i.i = omega arith in
-    gather_ends _ c.loop-i.graph _ _ _ c.loop-i.invariant.gathered (take_all c.loop-i.i c.loop-i.met test)
+    gather_ends _ c.loop-next.graph _ _ _ c.loop-next.invariant.gathered (take_all c.loop-next.i c.loop-next.met c.in_default-get.ensures.item)
