@@ -10,10 +10,10 @@ use Rattle.gix_describe.specs.Ahead.{IsAheadOf}
 use Rattle.gix_describe.specs.Described.{Names}
 use Rattle.gix_describe.specs.Nearest.{IsNearest, IsMeasured, IsOneOrBelow}
 use Rattle.gix_describe.specs.Nearest.{IsWalkRefused, IsMeasureRefused}
-use Rattle.gix_describe.proofs.Counts.{size_one, size_le, size_some, ahead_size, depth_high, below as anc_below}
+use Rattle.gix_describe.proofs.Counts.{size_one, size_le, size_some, ahead_size, depth_high}
 use Rattle.gix_revwalk.proofs.Members.{one_of-head}
 use Rattle.gix_revwalk.proofs.Faults.{fault_later}
-use Rattle.gix_revwalk.proofs.Ancestors.{has_ancestor}
+use Rattle.gix_revwalk.proofs.Ancestors.{anc-trans, has_ancestor}
 
 module _ (h : History) (s : ObjectId) (all : List ObjectId) (lists : Lists all (IsAncestor h s)) where
   pub missing : length all ≡ 0 → ¬ Has h s
@@ -38,7 +38,7 @@ module _ (h : History) (s : ObjectId) (all : List ObjectId) (lists : Lists all (
     measured_none some near = (known some, all_size, λ c a. near c ((lists.1 c).1 a))
 
     pub within : (p : ObjectId × ℕ) → IsNearest h names all (Some p) → p.1 ≤ length all
-    within p near = size_le (IsAncestor h p.0) (IsAncestor h s) p.1 (length all) near.2 all_size (λ c a. anc_below h s p.0 c ((lists.1 p.0).0 near.0) a)
+    within p near = size_le (IsAncestor h p.0) (IsAncestor h s) p.1 (length all) near.2 all_size (λ c a. anc-trans h s p.0 c ((lists.1 p.0).0 near.0) a)
 
     pub measured_some : (p : ObjectId × ℕ) → 0 < length all → IsNearest h names all (Some p) → IsMeasured h s names (length all) (Some (p.0, length all - p.1))
     measured_some p some near =
@@ -66,7 +66,7 @@ module _ (h : History) (s : ObjectId) (all : List ObjectId) (lists : Lists all (
   refused_below a b c (ParentsOf id) le r = (inr (at r.0), fault_later a b c le r.1)
     where
       at : IsOneOrBelow h all id → IsAncestor h s id
-      at o = elim o.2 as (λ _. IsAncestor h s id) [ inl is ↦ subst (λ z. IsAncestor h s z) (sym is) ((lists.1 o.0).0 o.1) | inr q ↦ anc_below h s o.0 id ((lists.1 o.0).0 o.1) q ]
+      at o = elim o.2 as (λ _. IsAncestor h s id) [ inl is ↦ subst (λ z. IsAncestor h s z) (sym is) ((lists.1 o.0).0 o.1) | inr q ↦ anc-trans h s o.0 id ((lists.1 o.0).0 o.1) q ]
   refused_below a b c (MissingStart id) le r = absurd r
   refused_below a b c CounterFull le r = absurd r
   refused_below a b c OutOfMemory le r = r

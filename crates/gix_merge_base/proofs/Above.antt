@@ -11,12 +11,8 @@ use Rattle.gix_revwalk.specs.History.IsAncestor.{itself}
 use Rattle.gix_revwalk.specs.Walks.{parents_of_all}
 use Rattle.gix_revwalk.proofs.Ids.{same_id-laws}
 use Rattle.gix_revwalk.proofs.Ancestors.{anc-trans, anc-edge}
-use Rattle.gix_revwalk.proofs.Members.{one_of-cases, one_of-single, one_of-filtered}
+use Rattle.gix_revwalk.proofs.Members.{nothing, one_of-cases, one_of-single, one_of-filtered}
 use Rattle.gix_merge_base.proofs.Maximal.{one_with_parent, maximal_ones, GoesDown}
-
-nothing : IsDistinct same_id []
-unfolding IsDistinct
-nothing = tt
 
 module _ (h : History) (xs : List ObjectId) (acyclic : IsAcyclic h) (has : (c : ObjectId) → IsTrue (is_one_of xs c) → Has h c) where
   -- c is one of those that are a parent of none

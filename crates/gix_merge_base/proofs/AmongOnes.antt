@@ -11,7 +11,7 @@ use Rattle.gix_merge_base.specs.Bases.{IsMaximal}
 use Rattle.gix_revwalk.specs.Sizes.{is_empty}
 use Rattle.gix_merge_base.specs.HistoryLaws.{Among}
 use Rattle.gix_revwalk.proofs.Ids.{same_id-true, same_id-equal, same_id-laws}
-use Rattle.gix_revwalk.proofs.Members.{one_of-cases, one_of-single, one_of-head, one_of-tail, one_of-cons_cases}
+use Rattle.gix_revwalk.proofs.Members.{nothing, one_of-cases, one_of-single, one_of-head, one_of-tail, one_of-cons_cases}
 use Rattle.gix_merge_base.proofs.Octopus.{Listed, listed}
 use Rattle.gix_revwalk.proofs.Ancestors.{anc-trans}
 
@@ -50,10 +50,6 @@ better_or_none h (x ∷ xs) c =
         ]
       ] refl
     ]
-
-nothing : IsDistinct same_id []
-unfolding IsDistinct
-nothing = tt
 
 module _ (h : History) (ids : List ObjectId) (acyclic : IsAcyclic h) (has : (c : ObjectId) → Among ids c → Has h c) where
   -- the ids of path are different ones of ids, and c leads to each

@@ -1,4 +1,5 @@
 -- The order of choice, and the first choice of a list.
+use Rattle.std.proofs.lemmas.Bool.{false_from_ne_true}
 use Rattle.std.proofs.Common.{◌≡◌, ℕ, Bool, true, false, cond, refl, ap, sym, subst, ◌∙◌, List, [], ◌∷◌, ◌++◌, inl, inr, IsTrue, Option, Some, None, ◌<◌, ◌+◌, take, length, get_or}
 use Rattle.std.specs.Option.{MatchOption}
 use Rattle.std.specs.declared.cmp.Ordering.{Ordering}
@@ -33,10 +34,6 @@ choice-same h x y e =
     let level = last_level (nat_cmp (generation_of h y) (generation_of h x)) (int_cmp (time_of h y) (time_of h x)) (slice_cmp nat_cmp x.0 y.0) e in
     same_id-true x y (texts_ties x.0 y.0 ∙ ap is_eq level)
 
-not_true : (b : Bool) → (IsTrue b → ⊥) → b ≡ false
-not_true true f = absurd (f refl)
-not_true false f = refl
-
 true_not : (b : Bool) → b ≡ false → IsTrue b → ⊥
 true_not b e h = cc
 
@@ -69,7 +66,7 @@ first_new h xs x b was later =
     record {
       member = one_of-right xs (x ∷ []) x (one_of-head x []);
       first = λ y m. elim (one_of-cases xs (x ∷ []) y m) as (λ _. IsTrue (is_gt (choice h x y)) → ⊥) [
-        | inl k ↦ true_not _ (upto (choice_total h) x b y back (not_true _ (was.first y k)))
+        | inl k ↦ true_not _ (upto (choice_total h) x b y back (false_from_ne_true _ (was.first y k)))
         | inr k ↦ (first_alone h x).first y k
       ];
     }

@@ -3,27 +3,19 @@ use Rattle.std.proofs.Common.{◌≡◌, ℕ, true, false, cond, refl, ap, sym, 
 use Rattle.std.specs.List.{IsDistinct}
 use Rattle.std.proofs.lemmas.Map.Keys.{IsDistinct-push}
 use Rattle.std.proofs.lemmas.Map.Made.{length-le_from_is_member}
-use Rattle.std.proofs.lemmas.List.{take-append-le}
+use Rattle.std.proofs.lemmas.List.{append-nil, take-append-le}
 use Rattle.gix_base.specs.declared.hash.ObjectId.{ObjectId}
 use Rattle.gix_revwalk.specs.History.{History, entry_at, same_id, is_one_of, parents_in, Has, IsEdge, IsAncestor}
 use Rattle.gix_revwalk.specs.History.IsAncestor.{itself, further}
 use Rattle.gix_revwalk.specs.Graph.{Graphed}
 use Rattle.gix_revwalk.specs.Walks.{added, all_added, parents_added, named_parents, Holds, HoldsAncestors, KeepsHeld}
 use Rattle.gix_revwalk.proofs.Ids.{same_id-laws}
-use Rattle.gix_revwalk.proofs.Members.{one_of-left, one_of-right, one_of-cases, one_of-take_cases}
+use Rattle.gix_revwalk.proofs.Members.{nothing, one_of-left, one_of-right, one_of-cases, one_of-take_cases}
 use Rattle.gix_merge_base.proofs.Added.{one_of-all_added, one_of-parents_added}
 use Rattle.gix_merge_base.proofs.Maximal.{one_with_parent}
 use Rattle.std.proofs.lemmas.List.Folds.{list_any-append}
 use Rattle.std.proofs.Math.Bool.{or-true}
 use Rattle.gix_revwalk.proofs.Ancestors.{anc-trans, has_ancestor}
-
-append-nil : (l : List ObjectId) → l ++ [] ≡ l
-append-nil [] = refl
-append-nil (x ∷ l) = ap (λ t. x ∷ t) (append-nil l)
-
-nothing : IsDistinct same_id []
-unfolding IsDistinct
-nothing = tt
 
 -- what adding ids does to a list
 record Adds (xs ys : List ObjectId) : Type 0 where

@@ -1,15 +1,16 @@
 -- The common ancestors that are a parent of no common one are the maximal ones.
-use Rattle.std.proofs.Common.{◌≡◌, Bool, true, false, cond, refl, sym, subst, ◌∙◌, List, [], ◌∷◌, inl, inr, ◌||◌, IsTrue, ◌↔◌, not, ap}
-use Rattle.std.specs.List.{filter, IsDistinct, AllByRecursion}
+use Rattle.std.proofs.Common.{◌≡◌, Bool, false, refl, sym, subst, ◌∙◌, List, [], ◌∷◌, inl, inr, ◌||◌, IsTrue, ◌↔◌, not, ap}
+use Rattle.std.proofs.lemmas.Bool.{not_from_false, false_from_ne_true}
+use Rattle.std.specs.List.{filter}
 use Rattle.gix_base.specs.declared.hash.ObjectId.{ObjectId}
-use Rattle.gix_revwalk.specs.History.{History, entry_at, same_id, is_one_of, Has, IsEdge, parents_in, IsAncestor, IsAncestorOfOne, IsAcyclic}
+use Rattle.gix_revwalk.specs.History.{History, entry_at, is_one_of, Has, IsEdge, parents_in, IsAncestor, IsAncestorOfOne, IsAcyclic}
 use Rattle.gix_merge_base.specs.Bases.{IsCommon, IsMaximal, IsBase, AreBases, CoverBases, is_plain}
 use Rattle.gix_revwalk.specs.Sizes.{is_empty}
 use Rattle.gix_revwalk.specs.History.IsAncestor.{itself, further}
 use Rattle.gix_revwalk.specs.Graph.{Graphed}
 use Rattle.gix_revwalk.proofs.Ancestors.{anc-edge, has_ancestor}
 use Rattle.gix_revwalk.specs.Walks.{parents_of_all, HoldsEach, HoldsAncestors}
-use Rattle.gix_revwalk.proofs.Members.{one_of-left, one_of-right, one_of-cases, one_of-single, one_of-head, one_of-tail, one_of-cons_cases, one_of-filter, one_of-filtered}
+use Rattle.gix_revwalk.proofs.Members.{not_both, one_of-left, one_of-right, one_of-cases, one_of-single, one_of-head, one_of-tail, one_of-cons_cases, one_of-filter, one_of-filtered}
 
 pub parent_of_one : (h : History) (xs : List ObjectId) (p c : ObjectId) → IsTrue (is_one_of xs p) → IsTrue (is_one_of (parents_in (entry_at h p)) c) → IsTrue (is_one_of (parents_of_all h xs) c)
 parent_of_one h [] p c m k = cc
@@ -35,25 +36,18 @@ down : (h : History) (S : ObjectId → Type 0) → GoesDown h S → (a b : Objec
 down h S go a b s (itself has) = s
 down h S go a b s (further b' c p e) = go b' b (down h S go a b' s p) e
 
-not_true : (b : Bool) → (b ≡ true → ⊥) → not b ≡ true
-not_true true h = absurd (h refl)
-not_true false h = refl
-
-true_not : (b : Bool) → not b ≡ true → b ≡ true → ⊥
-true_not b h e = cc
-
 -- xs has the members of S, each of which the history has
 pub maximal_ones : (h : History) (S : ObjectId → Type 0) (xs : List ObjectId) → IsAcyclic h → GoesDown h S → ((c : ObjectId) → S c → Has h c)
     → ((c : ObjectId) → IsTrue (is_one_of xs c) ↔ S c)
     → (c : ObjectId) → IsTrue (is_one_of (filter (λ x. not (is_one_of (parents_of_all h xs) x)) xs) c) ↔ IsMaximal h S c
 maximal_ones h S xs acyclic go has is c = (
   (λ m. let kept = one_of-filter (λ x. not (is_one_of (parents_of_all h xs) x)) xs c m in
-      ((is c).0 kept.0, λ t s a. top t c s a (λ p k. true_not _ kept.1 (parent_of_one h xs p c ((is p).1 k.0) k.1)))),
+      ((is c).0 kept.0, λ t s a. top t c s a (λ p k. not_both _ kept.1 (parent_of_one h xs p c ((is p).1 k.0) k.1)))),
   (λ m. one_of-filtered (λ x. not (is_one_of (parents_of_all h xs) x)) xs c ((is c).1 m.0)
-      (not_true _ (λ k. let p = one_with_parent h xs c k in
+      (not_from_false _ (false_from_ne_true _ (λ k. let p = one_with_parent h xs c k in
       let sp : S p.0 = (is p.0).0 p.1 in
       let edge : IsEdge h p.0 c = (p.2, has c m.0) in
-      acyclic p.0 c edge (subst (λ z. IsAncestor h c z) (sym (m.1 p.0 sp (anc-edge h p.0 c (has p.0 sp) edge))) (itself (has c m.0)))))),
+      acyclic p.0 c edge (subst (λ z. IsAncestor h c z) (sym (m.1 p.0 sp (anc-edge h p.0 c (has p.0 sp) edge))) (itself (has c m.0))))))),
 )
   where
     top : (t c : ObjectId) → S t → IsAncestor h t c → ((p : ObjectId) → S p × IsTrue (is_one_of (parents_in (entry_at h p)) c) → ⊥) → t ≡ c
@@ -82,23 +76,6 @@ pub bases_are : (h : History) (f : ObjectId) (os xs ys : List ObjectId) → IsAc
     → (c : ObjectId) → IsTrue (is_one_of (filter (λ x. not (is_one_of (parents_of_all h (filter (is_one_of ys) xs)) x)) (filter (is_one_of ys) xs)) c) ↔ IsBase h f os c
 bases_are h f os xs ys acyclic plain first others c =
     rw plain (maximal_ones h (IsCommon h f os) (filter (is_one_of ys) xs) acyclic (common_goes_down h f os) (common_has h f os) (common_ones h f os xs ys first others) c)
-
-pub one_is_distinct : (x : ObjectId) → IsDistinct same_id (x ∷ [])
-unfolding IsDistinct
-one_is_distinct x = (tt, tt)
-
-all_filter : (P : ObjectId → Type 0) (p : ObjectId → Bool) (xs : List ObjectId) → AllByRecursion P xs → AllByRecursion P (filter p xs)
-all_filter P p [] a = a
-all_filter P p (x ∷ xs) a = elim (p x) as (λ b. AllByRecursion P (cond b (x ∷ filter p xs) (filter p xs))) [ true ↦ (a.0, all_filter P p xs a.1) | false ↦ all_filter P p xs a.1 ]
-
-pub distinct_filter : (p : ObjectId → Bool) (xs : List ObjectId) → IsDistinct same_id xs → IsDistinct same_id (filter p xs)
-unfolding IsDistinct
-distinct_filter p [] d = d
-distinct_filter p (x ∷ xs) d =
-    elim (p x) as (λ b. IsDistinct same_id (cond b (x ∷ filter p xs) (filter p xs))) [
-      | true ↦ (all_filter (λ y. same_id x y ≡ false) p xs d.0, distinct_filter p xs d.1)
-      | false ↦ distinct_filter p xs d.1
-    ]
 
 -- exact bases cover the bases
 pub covers : (h : History) (f : ObjectId) (os ids : List ObjectId) → is_plain f os ≡ false → AreBases h f os ids → CoverBases h f os ids

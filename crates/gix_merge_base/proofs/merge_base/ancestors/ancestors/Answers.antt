@@ -1,10 +1,7 @@
-use Rattle.std.proofs.Common.{arith, ◌≤◌, ◌<◌, ◌-◌, ◌+◌, ℕ}
+use Rattle.std.proofs.Common.{refl}
 use Rattle.std.proofs.lemmas.List.{take_all}
-use Rattle.gix_revwalk.proofs.Walk.{walk_starts, walk_goes, walk_bounded, walk_ends, holds_starts, holds_seen, holds_parents}
+use Rattle.gix_revwalk.proofs.Walk.{fewer_left, walk_starts, walk_goes, walk_bounded, walk_ends, holds_starts, holds_seen, holds_parents}
 use Rattle.gix_merge_base.proofs.merge_base.ancestors.ancestors.Goals as goal
-
-smaller : (n i s : ℕ) → i < s → s ≤ n → n - (i + 1) < n - i
-smaller n i s a b = omega arith
 
 pub visit_all-requires : goal.visit_all-requires
 visit_all-requires g c = holds_starts _ c.args.graph.now _ c.requires
@@ -22,7 +19,7 @@ visit_parents-requires-clause-parents g c =
 
 pub loop-next-smaller : goal.loop-next-smaller
 loop-next-smaller g c =
-    smaller _ _ _ c.in-Some.ensures.item.0 (walk_bounded _ _ _ _ c.loop-next.invariant)
+    fewer_left _ _ _ _ _ refl refl c.in-Some.ensures.item.0 (walk_bounded _ _ _ _ c.loop-next.invariant)
 
 pub loop-next-preserved : goal.loop-next-preserved
 loop-next-preserved g c =

@@ -1,4 +1,5 @@
-use Rattle.gix_merge_base.proofs.Maximal.{distinct_filter, holds_common}
+use Rattle.gix_revwalk.proofs.Members.{distinct_filter}
+use Rattle.gix_merge_base.proofs.Maximal.{holds_common}
 use Rattle.gix_merge_base.proofs.Added.{bases_found}
 use Rattle.gix_merge_base.proofs.merge_base.function.bases_held.Goals as goal
 

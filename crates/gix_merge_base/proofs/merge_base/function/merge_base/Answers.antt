@@ -1,4 +1,4 @@
-use Rattle.gix_merge_base.proofs.Maximal.{one_is_distinct}
+use Rattle.gix_revwalk.proofs.Members.{one_is_distinct}
 use Rattle.gix_merge_base.proofs.merge_base.function.merge_base.Goals as goal
 
 pub returns-then-is_empty-clause-once : goal.returns-then-is_empty-clause-once

@@ -1,14 +1,12 @@
-use Rattle.std.proofs.Common.{◌≡◌, ◌≤◌, ◌<◌, ◌-◌, ◌+◌, ◌∷◌, ◌++◌, ◌∙◌, ap, Err, refl, length, ℕ, arith}
+use Rattle.std.proofs.Common.{◌∷◌, ◌++◌, ◌∙◌, ap, Err, refl, length, arith}
 use Rattle.std.proofs.lemmas.List.{take_all}
 use Rattle.gix_revwalk.specs.History.{History}
 use Rattle.gix_revwalk.specs.Walks.{named_parents}
+use Rattle.gix_revwalk.proofs.Walk.{fewer_left}
 use Rattle.gix_revwalk.proofs.Faults.{fault_later}
 use Rattle.gix_merge_base.proofs.Gather.{gather_starts, gather_goes, gather_bounded, gather_ends}
 use Rattle.gix_merge_base.proofs.merge_base.gather.take_in_ancestors.Goals as goal
 use Rattle.gix_merge_base.proofs.merge_base.gather.take_in_ancestors.Goals.{then-i-handed, else-i-handed}
-
-smaller : (n h k i s : ℕ) → h ≡ n → k ≡ n → i < s → s ≤ n → k - (i + 1) < h - i
-smaller n h k i s a b c d = omega arith
 
 pub loop-next-init : goal.loop-next-init
 loop-next-init g c = record {
@@ -32,7 +30,7 @@ loop-next-preserved g c =
 pub loop-next-smaller : goal.loop-next-smaller
 loop-next-smaller g c =
     let room = λ (h : History). length (c.args.first ∷ c.args.others.now ++ named_parents h) in
-    smaller _ _ _ _ _ (ap room c.loop-next.invariant.history) (ap room (c.take_in_one.ensures.history ∙ c.loop-next.invariant.history)) c.in-Some.ensures.item.0
+    fewer_left _ _ _ _ _ (ap room c.loop-next.invariant.history) (ap room (c.take_in_one.ensures.history ∙ c.loop-next.invariant.history)) c.in-Some.ensures.item.0
     (gather_bounded _ c.loop-next.graph _ _ _ c.loop-next.invariant.gathered)
 
 pub returns-in-Err-clause-cause : goal.returns-in-Err-clause-cause
