@@ -15,9 +15,13 @@ use thiserror::Error;
 /// Why a text of hex digits was not read.
 #[derive(Clone, Copy, Debug, PartialEq, Eq, Drop, Error)]
 pub enum HexError {
+    /// The text of an id has not 40 bytes.
     WrongLength,
+    /// A byte is no hex digit.
     NotHex,
+    /// The text of a prefix has fewer than 4 bytes.
     TooShort,
+    /// The text of a prefix has more than 40 bytes.
     TooLong,
 }
 
@@ -44,8 +48,10 @@ impl ObjectId {
     /// The id that 40 hex digits name, letters in either case (git-rev-parse, "Specifying
     /// Revisions"): its bytes are those that the digits say, and its text is theirs in lower case.
     ///
-    /// Refused, in this order: `WrongLength` where there are not 40 bytes, `NotHex` where one of
-    /// them is no hex digit.
+    /// # Errors
+    ///
+    /// [`HexError::WrongLength`] where there are not 40 bytes, whatever they are; otherwise
+    /// [`HexError::NotHex`] where one of them is no hex digit.
     pub fn from_hex(text: &[u8]) -> Result<ObjectId, HexError>
         ensures wrong_length { IsErrOf result HexError.WrongLength ↔ (length text.now ≢ 40) }
         ensures not_hex { IsErrOf result HexError.NotHex ↔ ((length text.now ≡ 40) × HasOther text.now) }
@@ -134,8 +140,10 @@ impl Prefix {
 
     /// The prefix of 4 to 40 hex digits, letters in either case.
     ///
-    /// Refused, in this order: `TooShort` under 4 bytes, `TooLong` over 40, `NotHex` where one of
-    /// them is no hex digit.
+    /// # Errors
+    ///
+    /// [`HexError::TooShort`] under 4 bytes and [`HexError::TooLong`] over 40, whatever they are;
+    /// otherwise [`HexError::NotHex`] where one of them is no hex digit.
     pub fn from_hex(text: &[u8]) -> Result<Prefix, HexError>
         ensures too_short { IsErrOf result HexError.TooShort ↔ (length text.now < 4) }
         ensures too_long { IsErrOf result HexError.TooLong ↔ (40 < length text.now) }

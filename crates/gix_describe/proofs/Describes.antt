@@ -1,16 +1,17 @@
 -- What is measured, as the answer of `describe`.
-use Rattle.std.proofs.Common.{◌≡◌, ℕ, Bool, true, false, ap, ◌∙◌, inl, inr, ◌≤◌, arith, not, Option, Some, None, Result, Ok, Err}
+use Rattle.std.proofs.Common.{◌≡◌, ℕ, Bool, true, false, refl, ap, sym, subst, ◌∙◌, inl, inr, not, List, Option, Some, None, Result, Ok, Err}
 use Rattle.std.specs.Prelude.{IfOk}
 use Rattle.std.specs.Option.{option_map}
 use Rattle.gix_base.specs.declared.hash.ObjectId.{ObjectId}
 use Rattle.gix_base.specs.declared.error.message.Message.{Message}
 use Rattle.gix_base.specs.declared.error.message.Message.TheVariants.{ParentsOf, MissingStart, CounterFull, OutOfMemory}
-use Rattle.gix_revwalk.specs.History.{History, IsAncestor}
-use Rattle.gix_describe.specs.Described.{Names, Description, name_at, IsNamed, named, unnamed, nothing_to_find, IsNamedBy, IsDescribed}
-use Rattle.gix_describe.specs.Nearest.{IsAtDepth, IsMeasured, IsMeasureRefused}
-use Rattle.gix_revwalk.specs.Sizes.{HasSize}
+use Rattle.gix_revwalk.specs.History.{History}
+use Rattle.gix_describe.specs.Described.{Names, Description, name_at, IsNamed, named, unnamed, nothing_to_find, IsDescribed}
+use Rattle.gix_describe.specs.Asks.{IsWalkRefused}
+use Rattle.gix_describe.specs.Choice.{IsFound}
+use Rattle.gix_describe.specs.Order.{IsTied, HoldsFirst}
+use Rattle.gix_describe.specs.Ties.{IsFixed, IsHeldBy}
 use Rattle.gix_describe.specs.DescribeRefusals.{IsRefused}
-use Rattle.gix_revwalk.proofs.Faults.{fault_later}
 
 pub if_ok : {T E : Type 0} (r : Result T E) (P Q : T → Type 0) → ((x : T) → P x → Q x) → IfOk r P → IfOk r Q
 if_ok (Ok x) P Q f p = f x p
@@ -23,32 +24,44 @@ module _ (h : History) (s : ObjectId) (names : Names) (cap : ℕ) (fallback : Bo
   pub described_idle : (r : Option Description) → name_at names s ≡ None → nothing_to_find names cap ≡ true → r ≡ unnamed fallback 0 → IsDescribed h s names cap fallback r
   described_idle r absent idle is = rw (absent, idle) is
 
-  pub described_none : (r : Option Description) (all : ℕ) → name_at names s ≡ None → nothing_to_find names cap ≡ false → IsMeasured h s names all None → r ≡ unnamed fallback all → IsDescribed h s names cap fallback r
-  described_none r all absent busy m is = rw (absent, busy) (m.0, inl (m.2, all, m.1, is))
+  pub described_none : (r : Option Description) (seen pops : ℕ) → name_at names s ≡ None → nothing_to_find names cap ≡ false → IsFound h s names cap None seen pops → r ≡ unnamed fallback seen → IsDescribed h s names cap fallback r
+  described_none r seen pops absent busy f is = rw (absent, busy) (f.0, inl (f.1.0, seen, f.1.1, is))
 
-  one : (p : ObjectId × ℕ) (all : ℕ) → (at : IsAtDepth h s names all p.0 p.1) → HasSize (IsAncestor h s) all → IsNamedBy h s names cap at.named.0 p.1 all
-  one p all at size = record {
-    t = p.0;
-    t_reached = at.reached;
-    t_named = at.named.1;
-    all = all;
-    all_is = size;
-    ahead = p.1;
-    ahead_is = at.ahead;
-    low = omega arith;
-    high = at.below;
-    deeper = at.within;
-    seen_most = omega arith;
-    exact = λ older few. ((p.0, (at.reached, at.named), at.ahead), at.least);
-  }
-
-  pub described_some : (r : Option Description) (all : ℕ) (p : ObjectId × ℕ) → name_at names s ≡ None → nothing_to_find names cap ≡ false → IsMeasured h s names all (Some p) → r ≡ option_map (λ name. named name p.1 all) (name_at names p.0)
+  pub described_some : (r : Option Description) (p : ObjectId × ℕ) (seen pops : ℕ) → name_at names s ≡ None → nothing_to_find names cap ≡ false → IsFound h s names cap (Some p) seen pops → r ≡ option_map (λ name. named name p.1 seen) (name_at names p.0)
       → IsDescribed h s names cap fallback r
-  described_some r all p absent busy m is =
-      rw (absent, busy) (m.0, inr (m.2.named.0, p.1, all, is ∙ ap (option_map (λ name. named name p.1 all)) m.2.named.1, one p all m.2 m.1))
+  described_some r p seen pops absent busy f is = rw (absent, busy) (f.0, inr (p.0, f.1.0, p.1, seen, is ∙ ap (option_map (λ name. named name p.1 seen)) f.1.1, f.1.2))
 
-  pub refused_walk : (a b c : ℕ) (m : Message) → name_at names s ≡ None → nothing_to_find names cap ≡ false → a ≤ b → IsMeasureRefused h s b c m → IsRefused h s names cap a c m
-  refused_walk a b c (ParentsOf id) absent busy le r = ((absent, ap not busy), r.0, fault_later a b c le r.1)
-  refused_walk a b c (MissingStart id) absent busy le r = ((absent, ap not busy), r.0, r.1)
-  refused_walk a b c CounterFull absent busy le r = ((absent, ap not busy), r)
-  refused_walk a b c OutOfMemory absent busy le r = r
+  pub refused_walk : (e : Message) → name_at names s ≡ None → nothing_to_find names cap ≡ false → IsWalkRefused h s e → IsRefused h s names cap e
+  refused_walk (ParentsOf id) absent busy r = ((absent, ap not busy), r)
+  refused_walk (MissingStart id) absent busy r = ((absent, ap not busy), r.0, r.1)
+  refused_walk CounterFull absent busy r = ((absent, ap not busy), r)
+  refused_walk OutOfMemory absent busy r = r
+
+-- ---- the fixed answer
+pub fixed_none : (h : History) (s : ObjectId) (names : Names) (cap seen : ℕ) (fallback : Bool) (r : Option Description) → r ≡ unnamed fallback seen → IsFixed h s names cap r
+fixed_none h s names cap seen fallback r is = subst (λ o. IsFixed h s names cap o) (sym is) (by fallback)
+  where
+    by : (b : Bool) → IsFixed h s names cap (unnamed b seen)
+    by true = tt
+    by false = tt
+
+pub fixed_some : (h : History) (s : ObjectId) (names : Names) (cap seen depth : ℕ) (t : ObjectId) (r : Option Description) → r ≡ option_map (λ name. named name depth seen) (name_at names t) → IsTied h s names cap t depth seen → IsFixed h s names cap r
+fixed_some h s names cap seen depth t r is tied = subst (λ o. IsFixed h s names cap o) (sym is) (by (name_at names t) refl)
+  where
+    by : (o : Option (List ℕ)) → name_at names t ≡ o → IsFixed h s names cap (option_map (λ name. named name depth seen) o)
+    by None e = tt
+    by (Some name) e = (t, e, tied)
+
+pub held_none : (h : History) (s : ObjectId) (held : ObjectId → Option ℕ) (seen : ℕ) (fallback : Bool) (r : Option Description) → r ≡ unnamed fallback seen → HoldsFirst h s seen held → IsHeldBy h s r held
+held_none h s held seen fallback r is k = subst (λ o. IsHeldBy h s o held) (sym is) (by fallback)
+  where
+    by : (b : Bool) → IsHeldBy h s (unnamed b seen) held
+    by true = k
+    by false = tt
+
+pub held_some : (h : History) (s : ObjectId) (names : Names) (held : ObjectId → Option ℕ) (seen depth : ℕ) (t : ObjectId) (r : Option Description) → r ≡ option_map (λ name. named name depth seen) (name_at names t) → HoldsFirst h s seen held → IsHeldBy h s r held
+held_some h s names held seen depth t r is k = subst (λ o. IsHeldBy h s o held) (sym is) (by (name_at names t))
+  where
+    by : (o : Option (List ℕ)) → IsHeldBy h s (option_map (λ name. named name depth seen) o) held
+    by None = tt
+    by (Some name) = k

@@ -1,15 +1,16 @@
 //! The names of commits, by the nearest named ancestor: git-describe.
 
-pub(crate) mod ancestors;
-pub mod format;
-pub mod function;
-pub(crate) mod nearest;
-pub mod options;
-pub mod outcome;
-pub mod queries;
+mod format;
+mod function;
+mod handing;
+mod key;
+mod options;
+mod outcome;
+mod queries;
+mod walk;
 
 pub use format::Format;
-pub use function::describe;
+pub use function::{counted, describe};
 pub use options::{Names, Options};
 pub use outcome::Outcome;
 pub use queries::{Answer, Query, run};

@@ -1,31 +1,23 @@
 -- Lists of calls of `merge_base` and `octopus`.
-use Rattle.std.proofs.Common.{◌≡◌, ℕ, true, false, subst, List, [], ◌∷◌, ◌≤◌}
+use Rattle.std.proofs.Common.{◌≡◌, ℕ, subst, List, [], ◌∷◌}
 use Rattle.gix_revwalk.specs.History.{History}
 use Rattle.gix_revwalk.specs.Graph.{Graphed}
-use Rattle.gix_revwalk.specs.Faults.{FaultSeen}
+use Rattle.gix_revwalk.specs.Faults.{count_after}
 use Rattle.gix_revwalk.specs.Calls.{AreCalls}
 use Rattle.gix_merge_base.specs.Queries.{AreRight, is_refused_by_source, IsCall}
 use Rattle.gix_revwalk.specs.declared.graph.commit.Commit.{Commit}
 use Rattle.gix_merge_base.specs.declared.merge_base.flags.Flags.{Flags}
-use Rattle.gix_merge_base.specs.declared.merge_base.error.Error.TheVariants.{Source, OutOfMemory}
 use Rattle.gix_merge_base.specs.declared.merge_base.queries.Query.{Query}
 use Rattle.gix_merge_base.specs.declared.merge_base.queries.Answer.{Answer}
-use Rattle.gix_merge_base.specs.declared.merge_base.queries.Answer.TheVariants.{MergeBase, Octopus, Refused}
 
 module _ {S A : Type 0} (history : S → History) (faults : S → ℕ) where
-  -- a call lowers no count, keeps the history, and is refused for the source only where that failed
-  pub rises : (s t : Graphed S (Commit Flags A)) (q : Query A) (x : Answer A) → IsCall history faults s t q x → faults s.source ≤ faults t.source
-  rises s t q x call = call.count
-
+  -- a call keeps the history, and counts its own refusal for the source
   pub keeps : (s t : Graphed S (Commit Flags A)) (q : Query A) (x : Answer A) → IsCall history faults s t q x → history t.source ≡ history s.source
-  keeps s t q x call = call.same_history
+  keeps s t q x call = call.after.same_history
 
-  pub seen : (s t : Graphed S (Commit Flags A)) (q : Query A) (x : Answer A) → IsCall history faults s t q x
-      → is_refused_by_source x ≡ true → FaultSeen (faults s.source) (faults t.source)
-  seen s t q (MergeBase found) call refused = absurd (let no : false ≡ true = refused in cc)
-  seen s t q (Octopus r) call refused = absurd (let no : false ≡ true = refused in cc)
-  seen s t q (Refused OutOfMemory) call refused = absurd (let no : false ≡ true = refused in cc)
-  seen s t q (Refused (Source simple)) call refused = call.cause.1
+  pub counts : (s t : Graphed S (Commit Flags A)) (q : Query A) (x : Answer A) → IsCall history faults s t q x
+      → faults t.source ≡ count_after (is_refused_by_source x) (faults s.source)
+  counts s t q x call = call.after.count
 
   -- each answer is right over the one history
   pub calls_right : (qs : List (Query A)) (xs : List (Answer A)) (s t : Graphed S (Commit Flags A))
@@ -33,4 +25,4 @@ module _ {S A : Type 0} (history : S → History) (faults : S → ℕ) where
   calls_right [] [] s t same = tt
   calls_right [] (x ∷ xs) s t none = absurd none
   calls_right (q ∷ qs) [] s t none = absurd none
-  calls_right (q ∷ qs) (x ∷ xs) s t calls = (calls.1.right, subst (λ h. AreRight h qs xs) calls.1.same_history (calls_right qs xs calls.0 t calls.2))
+  calls_right (q ∷ qs) (x ∷ xs) s t calls = (calls.1.right, subst (λ h. AreRight h qs xs) calls.1.after.same_history (calls_right qs xs calls.0 t calls.2))

@@ -1,32 +1,35 @@
 -- How an octopus goes from head to head.
-use Rattle.std.proofs.Common.{◌≡◌, ℕ, Bool, true, false, refl, ap, sym, subst, ◌∙◌, List, [], ◌∷◌, ◌++◌, ◌⊎◌, inl, inr, ◌||◌, ◌&&◌, IsTrue, ◌↔◌, ◌<◌, ◌+◌, take, length, get_or}
+use Rattle.std.proofs.Common.{◌≡◌, ℕ, Bool, true, false, refl, ap, sym, subst, ◌∙◌, List, [], ◌∷◌, ◌++◌, ◌⊎◌, inl, inr, ◌||◌, ◌&&◌, IsTrue, ◌↔◌, ◌<◌, ◌+◌, take, length, get_or, Option, Some, None}
 use Rattle.std.specs.Bool.{MatchBool}
+use Rattle.std.specs.Option.{MatchOption}
+use Rattle.std.specs.Ordering.{is_gt}
 use Rattle.std.specs.List.{list_all}
 use Rattle.std.proofs.lemmas.Bool.{or_cases}
 use Rattle.std.proofs.Math.Bool.{or-true}
 use Rattle.std.proofs.lemmas.List.Folds.{list_all-append}
 use Rattle.gix_base.specs.declared.hash.ObjectId.{ObjectId}
-use Rattle.gix_revwalk.specs.History.{History, same_id, is_one_of, Has, IsAncestor, IsAncestorOfOne, IsAncestorOfAll, IsAcyclic}
+use Rattle.gix_revwalk.specs.History.{History, same_id, is_one_of, Has, IsAncestor, IsAncestorOfOne, IsAncestorOfAll, IsAcyclic, GenerationsNeverRise}
 use Rattle.gix_revwalk.specs.History.IsAncestor.{itself}
-use Rattle.gix_merge_base.specs.Bases.{IsCommon, CoverBases, is_plain}
-use Rattle.gix_merge_base.specs.OctopusSteps.{IsCommonWith, AddsBases, CoversEach, AreApart, AreUnreached, IsStep, AreOctopusBases}
+use Rattle.gix_merge_base.specs.Bases.{IsCommon, IsMaximal, CoverBases, is_trivial}
+use Rattle.gix_merge_base.specs.Octopus.{IsOctopusBase, IsCommonToAll, choice}
+use Rattle.gix_merge_base.specs.OctopusSteps.{IsCommonWith, AddsBases, CoversEach, AreApart, IsReduced, IsStep, AreOctopusBases, IsBestOf}
 use Rattle.gix_revwalk.proofs.Ids.{same_id-equal}
 use Rattle.gix_revwalk.proofs.Members.{one_of-left, one_of-right, one_of-cases, one_of-single, one_of-head, take_next}
 use Rattle.gix_merge_base.proofs.Octopus.{best_above}
-use Rattle.gix_merge_base.proofs.Unreached.{anc-antisymm, unreached_apart, unreached_cover}
+use Rattle.gix_merge_base.proofs.Unreached.{anc-antisymm, reduced_apart, reduced_cover}
 use Rattle.gix_revwalk.proofs.Ancestors.{anc-trans, has_ancestor}
 
-module _ (h : History) (b o : ObjectId) (ids : List ObjectId) (acyclic : IsAcyclic h) (alone : is_plain b (o ∷ []) ≡ true → ids ≡ b ∷ []) (looked : is_plain b (o ∷ []) ≡ false → CoverBases h b (o ∷ []) ids) where
+module _ (h : History) (b o : ObjectId) (ids : List ObjectId) (acyclic : IsAcyclic h) (alone : is_trivial b (o ∷ []) ≡ true → ids ≡ b ∷ []) (looked : is_trivial b (o ∷ []) ≡ false → CoverBases h b (o ∷ []) ids) where
   answer_common : (c : ObjectId) → IsTrue (is_one_of ids c) → IsCommonWith h b o c
   answer_common c m =
-      elim (is_plain b (o ∷ [])) as (λ t. is_plain b (o ∷ []) ≡ t → MatchBool t (c ≡ b) (IsCommon h b (o ∷ []) c)) [
+      elim (is_trivial b (o ∷ [])) as (λ t. is_trivial b (o ∷ []) ≡ t → MatchBool t (c ≡ b) (IsCommon h b (o ∷ []) c)) [
         | true ↦ λ e. one_of-single b c (ap (λ l. is_one_of l c) (sym (alone e)) ∙ m)
         | false ↦ λ e. (looked e).common c m
       ] refl
 
   answer_below : (c : ObjectId) → IsAncestor h b c → IsAncestor h o c → IsAncestorOfOne h ids c
   answer_below c p q =
-      elim (is_plain b (o ∷ [])) as (λ t. is_plain b (o ∷ []) ≡ t → IsAncestorOfOne h ids c) [
+      elim (is_trivial b (o ∷ [])) as (λ t. is_trivial b (o ∷ []) ≡ t → IsAncestorOfOne h ids c) [
         | true ↦ λ e. (b, ap (λ l. is_one_of l b) (alone e) ∙ one_of-head b [], p)
         | false ↦ λ e. let m = best_above h b (o ∷ []) acyclic c (p, (o, one_of-head o [], q)) in (m.0, (looked e).every m.0 m.1, m.2)
       ] refl
@@ -61,19 +64,19 @@ pub covers_next : (h : History) (bs : List ObjectId) (i : ℕ) (d o : ObjectId) 
 covers_next h bs i d o xs ys lt covers adds = rw (take_next bs i d lt) (covers_more h (take i bs) (get_or bs i d) o xs ys covers adds)
 
 -- a step is what its two halves give
-pub step_of : (h : History) (bs : List ObjectId) (o : ObjectId) (found left : List ObjectId) → IsAcyclic h → CoversEach h bs o found → AreUnreached h found left → IsStep h bs o left
+pub step_of : (h : History) (bs : List ObjectId) (o : ObjectId) (found left : List ObjectId) → IsAcyclic h → CoversEach h bs o found → IsReduced h found left → IsStep h bs o left
 step_of h bs o found left acyclic covers are = record {
   covers = record {
-    from = λ c m. covers.from c ((are c).0 m).0;
-    below = λ c a p. unreached_cover h found left acyclic are c (covers.below c a p);
+    from = λ c m. covers.from c (are.some c m);
+    below = λ c a p. reduced_cover h found left acyclic are c (covers.below c a p);
   };
-  apart = unreached_apart h found left are;
+  apart = λ never. reduced_apart h found left never are;
 }
 
 -- below what is common to b and o lies what is below both
 common_below : (h : History) (b o y c : ObjectId) → IsCommonWith h b o y → IsAncestor h y c → IsAncestor h b c × IsAncestor h o c
 common_below h b o y c w a =
-    elim (is_plain b (o ∷ [])) as (λ t. is_plain b (o ∷ []) ≡ t → MatchBool t (y ≡ b) (IsCommon h b (o ∷ []) y) → IsAncestor h b c × IsAncestor h o c) [
+    elim (is_trivial b (o ∷ [])) as (λ t. is_trivial b (o ∷ []) ≡ t → MatchBool t (y ≡ b) (IsCommon h b (o ∷ []) y) → IsAncestor h b c × IsAncestor h o c) [
       | true ↦ λ e is. let down : IsAncestor h b c = subst (λ z. IsAncestor h z c) is a in (down, subst (λ z. IsAncestor h z c) (one_of-single o b e) down)
       | false ↦ λ e s. (
         anc-trans h b y c s.0 a,
@@ -85,7 +88,7 @@ common_below h b o y c w a =
 pub record StandFor (h : History) (f : ObjectId) (os us : List ObjectId) : Type 0 where
   pub below : (c : ObjectId) → IsAncestorOfOne h us c ↔ IsAncestorOfAll h (f ∷ os) c
   pub there : (c : ObjectId) → IsTrue (is_one_of us c) → Has h c ⊎ ((c ≡ f) × IsTrue (list_all (same_id f) os))
-  pub apart : AreApart h us
+  pub apart : GenerationsNeverRise h → AreApart h us
 
 pub stand_first : (h : History) (f : ObjectId) → StandFor h f [] (f ∷ [])
 stand_first h f = record {
@@ -94,7 +97,7 @@ stand_first h f = record {
     (λ all. (f, one_of-head f [], all f (one_of-head f []))),
   );
   there = λ c m. inr (one_of-single f c m, refl);
-  apart = λ c d mc md a. one_of-single f c mc ∙ sym (one_of-single f d md);
+  apart = λ never c d mc md a. one_of-single f c mc ∙ sym (one_of-single f d md);
 }
 
 module _ (h : History) (f : ObjectId) (os : List ObjectId) (o : ObjectId) (us ys : List ObjectId) (stand : StandFor h f os us) (step : IsStep h us o ys) where
@@ -118,7 +121,7 @@ module _ (h : History) (f : ObjectId) (os : List ObjectId) (o : ObjectId) (us ys
   there_more : (c : ObjectId) → IsTrue (is_one_of ys c) → Has h c ⊎ ((c ≡ f) × IsTrue (list_all (same_id f) (os ++ o ∷ [])))
   there_more c m =
       let r = step.covers.from c m in
-      elim (is_plain r.0 (o ∷ [])) as (λ t. is_plain r.0 (o ∷ []) ≡ t → MatchBool t (c ≡ r.0) (IsCommon h r.0 (o ∷ []) c) → Has h c ⊎ ((c ≡ f) × IsTrue (list_all (same_id f) (os ++ o ∷ [])))) [
+      elim (is_trivial r.0 (o ∷ [])) as (λ t. is_trivial r.0 (o ∷ []) ≡ t → MatchBool t (c ≡ r.0) (IsCommon h r.0 (o ∷ []) c) → Has h c ⊎ ((c ≡ f) × IsTrue (list_all (same_id f) (os ++ o ∷ [])))) [
         | true ↦ λ e is. elim (stand.there r.0 r.1) as (λ _. Has h c ⊎ ((c ≡ f) × IsTrue (list_all (same_id f) (os ++ o ∷ [])))) [
           | inl has ↦ inl (subst (λ z. Has h z) (sym is) has)
           | inr s ↦ inr (is ∙ s.0, same_more r.0 e s.0 s.1)
@@ -146,11 +149,12 @@ module _ (h : History) (f : ObjectId) (os us : List ObjectId) (acyclic : IsAcycl
   -- after the last head
   pub stand_last : AreOctopusBases h f os us
   stand_last = record {
-    maximal = λ c. (
+    each = each_common;
+    maximal = λ never c. (
       (λ m. (
         each_common c m,
         λ t s a. let r = (stand.below t).1 s in
-            let is : r.0 ≡ c = stand.apart r.0 c r.1 m (anc-trans h r.0 t c r.2 a) in
+            let is : r.0 ≡ c = stand.apart never r.0 c r.1 m (anc-trans h r.0 t c r.2 a) in
             anc-antisymm h t c acyclic a (subst (λ z. IsAncestor h z t) is r.2),
       )),
       (λ s. let r = (stand.below c).1 s.0 in
@@ -158,3 +162,25 @@ module _ (h : History) (f : ObjectId) (os us : List ObjectId) (acyclic : IsAcycl
     );
     cover = λ c s. (stand.below c).1 s;
   }
+
+-- the first choice among these is the octopus base
+module _ (h : History) (f : ObjectId) (os ids : List ObjectId) where
+  -- what is said where not all are f
+  abbrev IsChosenOne : Option ObjectId → Type 0
+  IsChosenOne r =
+      MatchOption r ((c : ObjectId) → ¬ IsAncestorOfAll h (f ∷ os) c)
+      (λ x. IsMaximal h (IsAncestorOfAll h (f ∷ os)) x × ((y : ObjectId) → IsMaximal h (IsAncestorOfAll h (f ∷ os)) y → IsTrue (is_gt (choice h x y)) → ⊥))
+
+  none_common : AreOctopusBases h f os ids → ((y : ObjectId) → IsTrue (is_one_of ids y) → ¬ Has h y) → (c : ObjectId) → ¬ IsAncestorOfAll h (f ∷ os) c
+  none_common are lacked c all = let a = are.cover c all in lacked a.0 a.1 (has_ancestor h a.0 c a.2).1
+
+  best_is_chosen : (r : Option ObjectId) → GenerationsNeverRise h → AreOctopusBases h f os ids → IsBestOf h ids r → IsChosenOne r
+  best_is_chosen None never are lacked = none_common are lacked
+  best_is_chosen (Some x) never are best = ((are.maximal never x).0 best.member, λ y m. best.first y ((are.maximal never y).1 m) (has_ancestor h f y (m.0 f (one_of-head f os))).0)
+
+  pub best_is_octopus : (r : Option ObjectId) → list_all (same_id f) os ≡ false → GenerationsNeverRise h → AreOctopusBases h f os ids → IsBestOf h ids r → IsOctopusBase h f os r
+  best_is_octopus r differ never are best = subst (λ b. MatchBool b (r ≡ Some f) (IsChosenOne r)) (sym differ) (best_is_chosen r never are best)
+
+  pub best_is_common : (r : Option ObjectId) → AreOctopusBases h f os ids → IsBestOf h ids r → IsCommonToAll h f os r
+  best_is_common None are lacked = none_common are lacked
+  best_is_common (Some x) are best = are.each x best.member

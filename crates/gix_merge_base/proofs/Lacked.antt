@@ -3,7 +3,7 @@ use Rattle.std.proofs.Common.{◌≡◌, true, false, refl, sym, subst, ◌∙�
 use Rattle.std.proofs.lemmas.List.Folds.{list_any-append}
 use Rattle.gix_base.specs.declared.hash.ObjectId.{ObjectId}
 use Rattle.gix_revwalk.specs.History.{History, same_id, is_one_of, Has}
-use Rattle.gix_merge_base.specs.Bases.{IsCommon, IsMaximal, IsBase, is_plain}
+use Rattle.gix_merge_base.specs.Bases.{IsCommon, IsMaximal, IsBase, is_trivial}
 use Rattle.gix_revwalk.specs.Sizes.{is_empty}
 use Rattle.gix_revwalk.proofs.Ids.{same_id-true}
 use Rattle.gix_revwalk.proofs.Members.{one_of-left, one_of-right, one_of-cases, one_of-tail, one_of-cons_cases}
@@ -40,7 +40,7 @@ module _ (h : History) (f lacked : ObjectId) (before after : List ObjectId) (abs
   other-common : (c : ObjectId) → IsCommon h f (before ++ after) c ↔ IsCommon h f (before ++ lacked ∷ after) c
   other-common c = ((same-common c).1, (same-common c).0)
 
-  same-plain : (lacked ≡ f → ⊥) → IsTrue (not (is_empty (before ++ after))) → is_plain f (before ++ lacked ∷ after) ≡ is_plain f (before ++ after)
+  same-plain : (lacked ≡ f → ⊥) → IsTrue (not (is_empty (before ++ after))) → is_trivial f (before ++ lacked ∷ after) ≡ is_trivial f (before ++ after)
   same-plain differs some =
       let other : same_id f lacked ≡ false = elim (same_id f lacked) as (λ b. same_id f lacked ≡ b → b ≡ false) [ true ↦ λ e. absurd (differs (sym (same_id-true f lacked e))) | false ↦ λ e. refl ] refl in
       ap (λ b. b || is_one_of (before ++ lacked ∷ after) f) (longer before) ∙ list_any-append (same_id f) before (lacked ∷ after) ∙ ap (λ b. is_one_of before f || (b || is_one_of after f)) other
@@ -56,7 +56,7 @@ module _ (h : History) (f lacked : ObjectId) (before after : List ObjectId) (abs
 
   pub same-bases : (lacked ≡ f → ⊥) → IsTrue (not (is_empty (before ++ after))) → (c : ObjectId) → IsBase h f (before ++ lacked ∷ after) c ↔ IsBase h f (before ++ after) c
   same-bases differs some c =
-      rw (same-plain differs some) (elim (is_plain f (before ++ after)) as (λ b. MatchBool b (c ≡ f) (IsMaximal h (IsCommon h f (before ++ lacked ∷ after)) c) ↔ MatchBool b (c ≡ f) (IsMaximal h (IsCommon h f (before ++ after)) c)) [
+      rw (same-plain differs some) (elim (is_trivial f (before ++ after)) as (λ b. MatchBool b (c ≡ f) (IsMaximal h (IsCommon h f (before ++ lacked ∷ after)) c) ↔ MatchBool b (c ≡ f) (IsMaximal h (IsCommon h f (before ++ after)) c)) [
         | true ↦ ((λ e. e), (λ e. e))
         | false ↦ (same-maximal h (IsCommon h f (before ++ lacked ∷ after)) (IsCommon h f (before ++ after)) same-common c, same-maximal h (IsCommon h f (before ++ after)) (IsCommon h f (before ++ lacked ∷ after)) other-common c)
       ])

@@ -4,7 +4,7 @@ use Rattle.std.proofs.lemmas.Bool.{not_from_false, false_from_ne_true}
 use Rattle.std.specs.List.{filter}
 use Rattle.gix_base.specs.declared.hash.ObjectId.{ObjectId}
 use Rattle.gix_revwalk.specs.History.{History, entry_at, is_one_of, Has, IsEdge, parents_in, IsAncestor, IsAncestorOfOne, IsAcyclic}
-use Rattle.gix_merge_base.specs.Bases.{IsCommon, IsMaximal, IsBase, AreBases, CoverBases, is_plain}
+use Rattle.gix_merge_base.specs.Bases.{IsCommon, IsMaximal, IsBase, AreBases, CoverBases, is_trivial}
 use Rattle.gix_revwalk.specs.Sizes.{is_empty}
 use Rattle.gix_revwalk.specs.History.IsAncestor.{itself, further}
 use Rattle.gix_revwalk.specs.Graph.{Graphed}
@@ -78,7 +78,7 @@ bases_are h f os xs ys acyclic plain first others c =
     rw plain (maximal_ones h (IsCommon h f os) (filter (is_one_of ys) xs) acyclic (common_goes_down h f os) (common_has h f os) (common_ones h f os xs ys first others) c)
 
 -- exact bases cover the bases
-pub covers : (h : History) (f : ObjectId) (os ids : List ObjectId) → is_plain f os ≡ false → AreBases h f os ids → CoverBases h f os ids
+pub covers : (h : History) (f : ObjectId) (os ids : List ObjectId) → is_trivial f os ≡ false → AreBases h f os ids → CoverBases h f os ids
 covers h f os ids plain are =
     let looked = rw plain at are in
     record { every = λ c m. (looked c).1 m; common = λ c m. ((looked c).0 m).0 }

@@ -16,12 +16,12 @@ abbrev pub IsMaximal : History → (ObjectId → Type 0) → ObjectId → Type 0
 IsMaximal h S c = S c × ((t : ObjectId) → S t → IsAncestor h t c → t ≡ c)
 
 -- nothing has to be looked up: there are no others, or f is one of them
-abbrev pub is_plain : ObjectId → List ObjectId → Bool
-is_plain f os = is_empty os || is_one_of os f
+abbrev pub is_trivial : ObjectId → List ObjectId → Bool
+is_trivial f os = is_empty os || is_one_of os f
 
 -- x is a merge base of f and os: f alone where that is plain, else a maximal common ancestor
 abbrev pub IsBase : History → ObjectId → List ObjectId → ObjectId → Type 0
-IsBase h f os x = MatchBool (is_plain f os) (x ≡ f) (IsMaximal h (IsCommon h f os) x)
+IsBase h f os x = MatchBool (is_trivial f os) (x ≡ f) (IsMaximal h (IsCommon h f os) x)
 
 -- as a set, ids are exactly the merge bases
 abbrev pub AreBases : History → ObjectId → List ObjectId → List ObjectId → Type 0

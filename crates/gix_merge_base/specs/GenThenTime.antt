@@ -6,7 +6,8 @@ use Rattle.std.specs.declared.cmp.Ordering.{Ordering}
 use Rattle.gix_revwalk.specs.declared.graph.commit.Commit.{Commit}
 use Rattle.gix_merge_base.specs.declared.merge_base.gen_then_time.GenThenTime.{GenThenTime}
 
--- the key of a commit; an absent generation is the greatest u32 (git-commit-graph: infinity)
+-- the key of a commit; an absent generation is the greatest u32, infinity in git
+-- (git's technical/commit-graph, "generation number")
 abbrev pub key_of : {D A : Type 0} → Commit D A → GenThenTime
 key_of c = record { generation = unwrap_or c.generation (2 ^ 32 - 1); time = c.time }
 

@@ -60,12 +60,6 @@ MaximalExists =
     → IsTrue (not (is_empty ids))
     → (m : ObjectId) × IsMaximal h (Among ids) m
 
--- the maximal ones of the maximal ones are the maximal ones
-abbrev pub MaximalOfMaximal : Type 0
-MaximalOfMaximal =
-    (h : History) (set : ObjectId → Bool) (c : ObjectId)
-    → IsMaximal h (IsMaximal h (Passes set)) c ↔ IsMaximal h (Passes set) c
-
 -- one of the others that the history lacks changes no bases, unless it is f or the only one
 abbrev pub LackedChangesNoBases : Type 0
 LackedChangesNoBases =

@@ -2,8 +2,17 @@ pub mod Bases
 pub mod HistoryLaws
 pub mod Octopus
 pub mod Refusals
+pub mod AfterCall
 pub mod ErrorTexts
 pub mod Flags
 pub mod GenThenTime
 pub mod OctopusSteps
 pub mod Queries
+pub mod Marks
+pub mod Keys
+pub mod Painting
+pub mod PaintSteps
+pub mod Counting
+pub mod PaintQueue
+pub mod Reducing
+pub mod ReduceSteps

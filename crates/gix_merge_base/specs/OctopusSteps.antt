@@ -1,17 +1,17 @@
 -- How an octopus goes from head to head: with each head it follows every base that it has.
-use Rattle.std.specs.Prelude.{◌≡◌, ◌↔◌, ◌⊎◌, List, [], ◌∷◌, IsTrue, MatchBool, MatchOption, Option, Some, None, cond}
-use Rattle.std.specs.Ordering.{nat_cmp, int_cmp, ordering_then, is_gt}
-use Rattle.std.specs.Cmp.Lexicographic.{slice_cmp}
-use Rattle.std.specs.declared.cmp.Ordering.{Ordering}
+use Rattle.std.specs.Prelude.{◌≡◌, ◌↔◌, ◌⊎◌, List, [], ◌∷◌, IsTrue, MatchBool, MatchOption, Option, Some, None, is_some, if◌then◌else◌}
+use Rattle.std.specs.Ordering.{is_gt}
 use Rattle.gix_base.specs.declared.hash.ObjectId.{ObjectId}
-use Rattle.gix_revwalk.specs.History.{History, is_one_of, generation_of, time_of, IsAncestor, IsAncestorOfOne, IsAncestorOfAll}
-use Rattle.gix_merge_base.specs.Bases.{IsCommon, IsMaximal, is_plain}
+use Rattle.gix_revwalk.specs.History.{History, Has, entry_at, is_one_of, generation_of, time_of, IsAncestor, IsAncestorOfOne, IsAncestorOfAll, GenerationsNeverRise}
+use Rattle.gix_merge_base.specs.Bases.{IsCommon, IsMaximal, is_trivial}
 use Rattle.gix_merge_base.specs.Octopus.{choice}
-use Rattle.gix_merge_base.specs.declared.merge_base.heads.Candidate.{Candidate}
+use Rattle.gix_merge_base.specs.Reducing.{IsIndependent}
+use Rattle.gix_merge_base.specs.declared.merge_base.gen_then_time.GenThenTime.{GenThenTime}
+use Rattle.std.specs.declared.cmp.Reverse.{Reverse}
 
 -- c may be answered for b and o: it is b where they are equal, else it is common to both
 abbrev pub IsCommonWith : History → ObjectId → ObjectId → ObjectId → Type 0
-IsCommonWith h b o c = MatchBool (is_plain b (o ∷ [])) (c ≡ b) (IsCommon h b (o ∷ []) c)
+IsCommonWith h b o c = MatchBool (is_trivial b (o ∷ [])) (c ≡ b) (IsCommon h b (o ∷ []) c)
 
 -- ys is xs and ids common to b and o, below which lies all that is below both
 pub record AddsBases (h : History) (b o : ObjectId) (xs ys : List ObjectId) : Type 0 where
@@ -28,42 +28,38 @@ pub record CoversEach (h : History) (bs : List ObjectId) (o : ObjectId) (ys : Li
 abbrev pub AreApart : History → List ObjectId → Type 0
 AreApart h ids = (c d : ObjectId) → IsTrue (is_one_of ids c) → IsTrue (is_one_of ids d) → IsAncestor h c d → c ≡ d
 
--- the members of ids that no other member reaches, as a set
-abbrev pub AreUnreached : History → List ObjectId → List ObjectId → Type 0
-AreUnreached h ids kept = (c : ObjectId) → IsTrue (is_one_of kept c) ↔ IsMaximal h (λ x. IsTrue (is_one_of ids x)) c
+-- kept are some of ids, with each that no other one reaches, and these alone where no parent's
+-- generation exceeds its child's
+pub record IsReduced (h : History) (ids kept : List ObjectId) : Type 0 where
+  pub some : (c : ObjectId) → IsTrue (is_one_of kept c) → IsTrue (is_one_of ids c)
+  pub every : (c : ObjectId) → IsIndependent h ids c → IsTrue (is_one_of kept c)
+  pub alone : GenerationsNeverRise h → (c : ObjectId) → IsTrue (is_one_of kept c) → IsIndependent h ids c
 
 -- ys are common to some of bs and o, below them lies what is below one of bs and below o,
--- and no one of them is reached from another
+-- and no one of them is reached from another where no parent's generation exceeds its child's
 pub record IsStep (h : History) (bs : List ObjectId) (o : ObjectId) (ys : List ObjectId) : Type 0 where
   pub covers : CoversEach h bs o ys
-  pub apart : AreApart h ys
+  pub apart : GenerationsNeverRise h → AreApart h ys
 
--- as a set, ids are the maximal ones among the ancestors common to f and all of os, and all of
--- these ancestors lie below them
+-- ids are ancestors common to f and all of os, all of these ancestors lie below them, and as a set
+-- they are the maximal ones where no parent's generation exceeds its child's
 pub record AreOctopusBases (h : History) (f : ObjectId) (os ids : List ObjectId) : Type 0 where
-  pub maximal : (c : ObjectId) → IsTrue (is_one_of ids c) ↔ IsMaximal h (IsAncestorOfAll h (f ∷ os)) c
+  pub each : (c : ObjectId) → IsTrue (is_one_of ids c) → IsAncestorOfAll h (f ∷ os) c
   pub cover : (c : ObjectId) → IsAncestorOfAll h (f ∷ os) c → IsAncestorOfOne h ids c
+  pub maximal : GenerationsNeverRise h → (c : ObjectId) → IsTrue (is_one_of ids c) ↔ IsMaximal h (IsAncestorOfAll h (f ∷ os)) c
 
--- an id with its generation and its time
-abbrev pub candidate_at : History → ObjectId → Candidate
-candidate_at h id = record { key = record { generation = generation_of h id; time = time_of h id }; id = id }
+-- what decides whether the commit under an id is chosen; none where the history lacks it
+abbrev pub candidate_at : History → ObjectId → Option (GenThenTime × Reverse ObjectId)
+candidate_at h id =
+    if is_some (entry_at h id) then Some (record { generation = generation_of h id; time = time_of h id }, record { 0 = id })
+    else None
 
--- of two candidates `Less` where the first is chosen
-abbrev pub preference : Candidate → Candidate → Ordering
-preference x y =
-    ordering_then (nat_cmp y.key.generation x.key.generation)
-    (ordering_then (int_cmp y.key.time x.key.time) (slice_cmp nat_cmp x.id.0 y.id.0))
-
--- the candidate that is held after one more
-abbrev pub better_of : Option Candidate → Candidate → Candidate
-better_of None next = next
-better_of (Some c) next = cond (is_gt (preference c next)) next c
-
--- x is one of ids, and none of them is chosen before it
+-- x is one of ids and in the history, and no other such is chosen before it
 pub record IsFirstChoice (h : History) (ids : List ObjectId) (x : ObjectId) : Type 0 where
   pub member : IsTrue (is_one_of ids x)
-  pub first : (y : ObjectId) → IsTrue (is_one_of ids y) → IsTrue (is_gt (choice h x y)) → ⊥
+  pub has : Has h x
+  pub first : (y : ObjectId) → IsTrue (is_one_of ids y) → Has h y → IsTrue (is_gt (choice h x y)) → ⊥
 
--- the first choice among ids, and none where there are none
+-- the first choice among those of ids that the history has, and none where it has none of them
 abbrev pub IsBestOf : History → List ObjectId → Option ObjectId → Type 0
-IsBestOf h ids r = MatchOption r (ids ≡ []) (IsFirstChoice h ids)
+IsBestOf h ids r = MatchOption r ((y : ObjectId) → IsTrue (is_one_of ids y) → ¬ Has h y) (IsFirstChoice h ids)

@@ -1,16 +1,16 @@
 -- What a call of `merge_base` or `octopus` in a list answers.
-use Rattle.std.specs.Prelude.{◌≡◌, ◌≤◌, ℕ, List, [], ◌∷◌, Bool, true, false, IsTrue, Option, Some}
+use Rattle.std.specs.Prelude.{◌≡◌, ℕ, List, [], ◌∷◌, Bool, false, IsTrue, Option, Some, Result, Ok, Err}
 use Rattle.std.specs.List.{IsDistinct, list_all}
 use Rattle.gix_base.specs.declared.hash.ObjectId.{ObjectId}
 use Rattle.gix_revwalk.specs.History.{History, same_id, IsAcyclic, GenerationsNeverRise}
 use Rattle.gix_revwalk.specs.Graph.{Graphed}
-use Rattle.gix_merge_base.specs.Bases.{AreBases, CoverBases, ids_of, is_plain}
+use Rattle.gix_merge_base.specs.Bases.{AreBases, CoverBases, ids_of, is_trivial}
 use Rattle.gix_merge_base.specs.Octopus.{IsOctopusBase, IsCommonToAll}
-use Rattle.gix_merge_base.specs.Refusals.{HasCause}
+use Rattle.gix_merge_base.specs.Refusals.{is_source_fault}
+use Rattle.gix_merge_base.specs.AfterCall.{AfterCall}
 use Rattle.gix_revwalk.specs.declared.graph.commit.Commit.{Commit}
 use Rattle.gix_merge_base.specs.declared.merge_base.flags.Flags.{Flags}
 use Rattle.gix_merge_base.specs.declared.merge_base.error.Error.{Error}
-use Rattle.gix_merge_base.specs.declared.merge_base.error.Error.TheVariants.{Source, OutOfMemory}
 use Rattle.gix_merge_base.specs.declared.merge_base.queries.Query.{Query}
 use Rattle.gix_merge_base.specs.declared.merge_base.queries.Query.TheVariants.{MergeBase as AskBases, Octopus as AskOctopus}
 use Rattle.gix_merge_base.specs.declared.merge_base.queries.Answer.{Answer}
@@ -19,9 +19,9 @@ use Rattle.gix_merge_base.specs.declared.merge_base.queries.Answer.TheVariants.{
 -- what `merge_base` promises of an answer
 pub record AnswersBases (h : History) (f : ObjectId) (os ids : List ObjectId) : Type 0 where
   pub bases : IsAcyclic h → GenerationsNeverRise h → AreBases h f os ids
-  pub without_generations : IsAcyclic h → is_plain f os ≡ false → CoverBases h f os ids
+  pub without_generations : IsAcyclic h → is_trivial f os ≡ false → CoverBases h f os ids
   pub once : IsDistinct same_id ids
-  pub alone : IsTrue (is_plain f os) → ids ≡ f ∷ []
+  pub alone : IsTrue (is_trivial f os) → ids ≡ f ∷ []
 
 -- what `octopus` promises of an answer
 pub record AnswersOctopus (h : History) (f : ObjectId) (os : List ObjectId) (r : Option ObjectId) : Type 0 where
@@ -31,14 +31,14 @@ pub record AnswersOctopus (h : History) (f : ObjectId) (os : List ObjectId) (r :
 
 -- nothing has to be looked up
 abbrev pub asks_nothing : {A : Type 0} → Query A → Bool
-asks_nothing (AskBases f os) = is_plain f os.items
+asks_nothing (AskBases f os) = is_trivial f os.items
 asks_nothing (AskOctopus f os) = list_all (same_id f) os.items
 
 -- the answer is one to this query, and right over h; where nothing has to be looked up it is not refused
 abbrev pub IsRight : {A : Type 0} → History → Query A → Answer A → Type 0
 IsRight h (AskBases f os) (MergeBase found) = AnswersBases h f os.items (ids_of found)
 IsRight h (AskBases f os) (Octopus r) = ⊥
-IsRight h (AskBases f os) (Refused e) = is_plain f os.items ≡ false
+IsRight h (AskBases f os) (Refused e) = is_trivial f os.items ≡ false
 IsRight h (AskOctopus f os) (MergeBase found) = ⊥
 IsRight h (AskOctopus f os) (Octopus r) = AnswersOctopus h f os.items r
 IsRight h (AskOctopus f os) (Refused e) = list_all (same_id f) os.items ≡ false
@@ -50,27 +50,19 @@ AreRight h [] (a ∷ rest) = ⊥
 AreRight h (q ∷ qs) [] = ⊥
 AreRight h (q ∷ qs) (a ∷ rest) = IsRight h q a × AreRight h qs rest
 
--- a refusal has its cause in these counts of faults
-abbrev pub HasCauseIfRefused : {A : Type 0} → ℕ → ℕ → Answer A → Type 0
-HasCauseIfRefused before after (MergeBase found) = Unit {0}
-HasCauseIfRefused before after (Octopus r) = Unit {0}
-HasCauseIfRefused before after (Refused e) = HasCause before after e
+-- a call's answer as its result: refused with an error, or not
+abbrev pub outcome_of : {A : Type 0} → Answer A → Result (Unit {0}) Error
+outcome_of (MergeBase found) = Ok tt
+outcome_of (Octopus r) = Ok tt
+outcome_of (Refused e) = Err e
 
--- the source failed
-abbrev pub is_source_fault : Error → Bool
-is_source_fault (Source simple) = true
-is_source_fault OutOfMemory = false
-
+-- the answer is a refusal since the source failed
 abbrev pub is_refused_by_source : {A : Type 0} → Answer A → Bool
-is_refused_by_source (MergeBase found) = false
-is_refused_by_source (Octopus r) = false
-is_refused_by_source (Refused e) = is_source_fault e
+is_refused_by_source a = is_source_fault (outcome_of a)
 
 module _ {S A : Type 0} (history : S → History) (faults : S → ℕ) where
   -- one call: its answer over the graph as it was, and how the graph is left
-  pub record IsCall (before after : Graphed S (Commit Flags A)) (q : Query A) (a : Answer A) : Type 0 where
-    pub right : IsRight (history before.source) q a
-    pub unchanged : IsTrue (asks_nothing q) → after ≡ before
-    pub same_history : history after.source ≡ history before.source
-    pub cause : HasCauseIfRefused (faults before.source) (faults after.source) a
-    pub count : faults before.source ≤ faults after.source
+  pub record IsCall (old new : Graphed S (Commit Flags A)) (q : Query A) (a : Answer A) : Type 0 where
+    pub right : IsRight (history old.source) q a
+    pub unchanged : IsTrue (asks_nothing q) → new ≡ old
+    pub after : AfterCall history faults old new (outcome_of a)

@@ -1,6 +1,5 @@
 -- Why the calls of `merge_base` refuse.
-use Rattle.std.specs.Prelude.{◌≡◌, ◌⊎◌, ℕ, List, codes}
-use Rattle.gix_revwalk.specs.Faults.{FaultSeen}
+use Rattle.std.specs.Prelude.{◌≡◌, ◌⊎◌, ℕ, List, codes, Bool, true, false, Result, Ok, Err}
 use Rattle.gix_merge_base.specs.declared.merge_base.error.Error.{Error}
 use Rattle.gix_merge_base.specs.declared.merge_base.error.Error.TheVariants.{Source, OutOfMemory}
 
@@ -10,7 +9,13 @@ IsInsertText text =
     (text ≡ codes "could not insert commit into graph")
     ⊎ (text ≡ codes "could not insert parent commit into graph")
 
--- a source fault comes with one of the two texts, and only where the count of faults grew or is full
-abbrev pub HasCause : ℕ → ℕ → Error → Type 0
-HasCause before after (Source simple) = IsInsertText simple.0.now × FaultSeen before after
-HasCause before after OutOfMemory = Unit {0}
+-- a source fault comes with one of the two texts
+abbrev pub HasInsertText : Error → Type 0
+HasInsertText (Source simple) = IsInsertText simple.0.now
+HasInsertText OutOfMemory = Unit {0}
+
+-- the call was refused since the source failed
+abbrev pub is_source_fault : {T : Type 0} → Result T Error → Bool
+is_source_fault (Ok x) = false
+is_source_fault (Err (Source simple)) = true
+is_source_fault (Err OutOfMemory) = false

@@ -2,9 +2,10 @@
 //!
 //! No function here does anything. Its contract is the law.
 
-ghost use Rattle.gix_merge_base.specs.HistoryLaws.{EdgesJoinCommits, AncestorsHoldTheStart, AncestorsGoOn};
-ghost use Rattle.gix_merge_base.specs.HistoryLaws.{AncestorsAreCommits, AncestorsAreLeast, NoneAreMutualAncestors};
-ghost use Rattle.gix_merge_base.specs.HistoryLaws.{MaximalAboveEach, MaximalExists, MaximalOfMaximal};
+ghost use Rattle.gix_merge_base.specs.HistoryLaws.{EdgesJoinCommits, AncestorsHoldTheStart};
+ghost use Rattle.gix_merge_base.specs.HistoryLaws.{AncestorsGoOn, AncestorsAreCommits};
+ghost use Rattle.gix_merge_base.specs.HistoryLaws.{AncestorsAreLeast, NoneAreMutualAncestors};
+ghost use Rattle.gix_merge_base.specs.HistoryLaws.{MaximalAboveEach, MaximalExists};
 ghost use Rattle.gix_merge_base.specs.HistoryLaws.{LackedChangesNoBases, BasesCover};
 ghost use Rattle.gix_merge_base.specs.HistoryLaws.{SameIdsSameOctopusBase, OctopusBaseInAnyOrder};
 ghost use Rattle.gix_base.specs.Laws.{OrderAgrees, OrderIs};
@@ -50,11 +51,6 @@ pub fn ancestors_are_antisymmetric()
 pub fn maximal_ones_exist()
     ensures above { MaximalAboveEach }
     ensures some { MaximalExists }
-{}
-
-/// The maximal ones of the maximal ones are the maximal ones.
-pub fn maximal_of_maximal()
-    ensures { MaximalOfMaximal }
 {}
 
 /// One of the others that the history lacks changes no merge bases, unless it is the first commit

@@ -1,17 +1,23 @@
 //! The best common ancestors of commits.
 
-pub(crate) mod ancestors;
-pub mod error;
-pub mod flags;
-pub mod function;
-pub(crate) mod gather;
-pub mod gen_then_time;
-pub mod heads;
-pub mod queries;
+mod bases;
+mod error;
+mod flags;
+mod function;
+mod gather;
+mod gen_then_time;
+mod hand;
+mod heads;
+mod painting;
+mod queries;
+mod reduction;
 
+pub use bases::counted;
 pub use error::{Error, Simple};
 pub use flags::Flags;
 pub use function::merge_base;
 pub use gen_then_time::GenThenTime;
 pub use heads::octopus;
+pub use painting::paint;
 pub use queries::{Answer, Query, run};
+pub use reduction::reduce;

@@ -1,4 +1,10 @@
 pub mod Ids
+pub mod Places
+pub mod Changed
+pub mod NodeSteps
+pub mod Taken
+pub mod Given
+pub mod Growth
 pub mod Kept
 pub mod Sources
 pub mod Queues
@@ -8,4 +14,3 @@ pub mod Ancestors
 pub mod Walk
 pub mod WalkFrom
 pub mod Calls
-pub mod Faults

@@ -1,10 +1,13 @@
 -- The data that a graph of commits has beside each id.
-use Rattle.std.specs.Prelude.{◌≡◌, ℕ, ◌+◌, Option, None, is_some, if◌then◌else◌}
-use Rattle.std.specs.Option.{option_map}
+use Rattle.std.specs.Prelude.{◌≡◌, ℕ, ◌+◌, Option, Some, None, is_some, if◌then◌else◌}
+use Rattle.std.specs.Option.{option_map, unwrap_or}
+use Rattle.std.specs.Map.{lookup}
 use Rattle.gix_revwalk.specs.History.{History, entry_at, same_id}
 use Rattle.gix_revwalk.specs.Graph.{Graphed, held_at, held_len}
+use Rattle.gix_revwalk.specs.Numbers.{held_ids, named}
 use Rattle.gix_base.specs.declared.hash.ObjectId.{ObjectId}
 use Rattle.gix_revwalk.specs.declared.graph.commit.Commit.{Commit}
+use Rattle.gix_revwalk.specs.declared.numbers.Mark.{Mark}
 
 -- the data under an id; none where it is not held
 abbrev pub data_at : {S D A : Type 0} → Graphed S (Commit D A) → ObjectId → Option D
@@ -27,3 +30,19 @@ abbrev pub len_after : {S T : Type 0} → History → Graphed S T → ObjectId �
 len_after h m id =
     if is_some (held_at m id) then held_len m
     else if is_some (entry_at h id) then held_len m + 1 else held_len m
+
+-- data beside a count of entries in a queue
+abbrev pub mark_with : {D : Type 0} → Option ℕ → Option D → Option (Mark D)
+mark_with None d = None
+mark_with (Some k) d = option_map (λ x. record { marks = x; queued = k }) d
+
+-- what the walk that is going on gave id; none where it gave it nothing
+abbrev pub mark_at : {S D A : Type 0} → Graphed S (Commit D A) → ObjectId → Option (Mark D)
+mark_at g q = mark_with (unwrap_or (lookup (same_id q) g.marked) None) (data_at g q)
+
+-- n is m, but that the walk gave w to what has the number k
+pub record Marks {S D A : Type 0} (m : Graphed S (Commit D A)) (k : ℕ) (w : Mark D) (n : Graphed S (Commit D A)) : Type 0 where
+  pub source : n.source ≡ m.source
+  pub ids : held_ids n ≡ held_ids m
+  pub marks : (id : ObjectId) → named m k ≡ Some id → (q : ObjectId) → mark_at n q ≡ (if same_id id q then Some w else mark_at m q)
+  pub payload : (id : ObjectId) → named m k ≡ Some id → (q : ObjectId) → data_at n q ≡ (if same_id id q then Some w.marks else data_at m q)

@@ -1,21 +1,26 @@
 //! The graph of commits that was taken from a source, reused from call to call.
 
-ghost use Rattle.std.specs.Prelude.{◌≡◌, Some, None, is_some, IfSome};
-ghost use Rattle.std.specs.Option.{option_copied};
-ghost use Rattle.gix_revwalk.specs.History.{entry_at};
-ghost use Rattle.gix_revwalk.specs.Graph.{held_at, held_len};
+ghost use Rattle.std.specs.Prelude.{◌≡◌, Some, None, is_some, IfSome, IfOk};
+ghost use Rattle.std.specs.Option.{option_copied, option_map};
+ghost use Rattle.std.specs.List.{IsDistinct};
 ghost use Rattle.gix_base.specs.declared.hash.ObjectId.{ObjectId};
+ghost use Rattle.gix_revwalk.specs.Faults.{count_after, is_source_fault};
+ghost use Rattle.gix_revwalk.specs.Held.{entry_of};
+ghost use Rattle.gix_revwalk.specs.History.{entry_at, same_id};
+ghost use Rattle.gix_revwalk.specs.Graph.{held_at, held_len};
+ghost use Rattle.gix_revwalk.specs.Numbers.{held_ids};
 
-pub mod commit;
-pub mod find;
-pub mod marks;
-pub mod memory;
+mod commit;
+mod find;
+mod marks;
+mod memory;
 
+use crate::numbers::{self, Number};
 pub use commit::{Commit, FullCommit};
 pub use find::{Find, FindFault, SourceCommit};
 use gix_base::hash::ObjectId;
-pub use memory::MemorySource;
-use std::alloc::{Allocator, Global};
+pub use memory::{InsertError, MemorySource};
+use std::alloc::{AllocError, AllocFailed, Allocator, Global};
 use std::collections::HashMap;
 use std::fmt;
 use std::hash::{BuildHasherDefault, FoldHasher};
@@ -44,13 +49,54 @@ impl fmt::Display for Error {
     }
 }
 
+impl From<AllocError> for Error {
+    ghost use Rattle.gix_revwalk.specs.declared.graph.Error.TheVariants.{OutOfMemory};
+
+    ghost from_gives = { λ _ error. error ≡ OutOfMemory };
+
+    fn from(_error: AllocError) -> Error {
+        Error::OutOfMemory
+    }
+}
+
+impl<T: Drop> From<AllocFailed<T>> for Error {
+    ghost use Rattle.gix_revwalk.specs.declared.graph.Error.TheVariants.{OutOfMemory};
+
+    ghost from_gives = { λ _ error. error ≡ OutOfMemory };
+
+    fn from(_refused: AllocFailed<T>) -> Error {
+        Error::OutOfMemory
+    }
+}
+
 /// When a value that stands under an id agrees with what the source has there: a [`Commit`] where
-/// its parents, time and generation are the source's, a number always. Every value in a graph agrees.
+/// its parents, time and generation are the source's, a number always. Every value in a graph
+/// agrees.
 pub trait Held: Drop {
     ghost use Rattle.std.specs.Prelude.{Option};
     ghost use Rattle.gix_revwalk.specs.History.{Entry};
 
     ghost agrees: { Self → Option Entry → Type 0 };
+}
+
+/// What a graph has of one held id.
+#[derive(Drop)]
+pub(crate) struct Node<T> {
+    pub(crate) id: ObjectId,
+    /// Where the numbers of its known parents stand, once all of its parents were asked for.
+    pub(crate) row: Option<Row>,
+    /// The walk that last marked it.
+    pub(crate) turn: u32,
+    /// How often that walk has it in its queue.
+    pub(crate) queued: u32,
+    pub(crate) value: T,
+}
+
+/// A part of a list: where it begins, and how long it is.
+#[derive(Clone, Copy)]
+pub(crate) struct Row {
+    pub(crate) start: usize,
+    pub(crate) len: usize,
 }
 
 /// Ids that were asked for, with one value beside each, over the source that they came from.
@@ -60,35 +106,51 @@ pub trait Held: Drop {
 #[derive(Drop)]
 pub struct Graph<S: Find, T: Held, A: Allocator = Global> {
     pub(crate) source: S,
-    pub(crate) held: HashMap<ObjectId, T, BuildHasherDefault<FoldHasher>, A>,
+    pub(crate) nodes: Vec<Node<T>, A>,
+    pub(crate) index: HashMap<ObjectId, Number, BuildHasherDefault<FoldHasher>, A>,
+    pub(crate) edges: Vec<Number, A>,
+    pub(crate) turn: u32,
 }
 
 impl<S: Find, T: Held, A: Allocator> Model for Graph<S, T, A> {
-    ghost use Rattle.std.specs.Prelude.{◌≡◌, Some};
+    ghost use Rattle.std.specs.Prelude.{◌≡◌, Some, map};
     ghost use Rattle.std.specs.Map.{lookup};
     ghost use Rattle.gix_revwalk.specs.History.{entry_at, same_id};
     ghost use Rattle.gix_revwalk.specs.Graph.{Graphed};
+    ghost use Rattle.gix_revwalk.specs.Nodes.{pair_of, mark_of, AreNodes};
     ghost use Rattle.gix_base.specs.declared.hash.ObjectId.{ObjectId};
 
     ghost Value = { Graphed S T };
 
-    ghost view = { λ g. record { source = g.source; held = g.held.entries } };
+    ghost view = { λ g. record {
+      source = g.source;
+      held = map pair_of g.nodes.items;
+      marked = map (mark_of g.turn) g.nodes.items;
+    } };
 
-    // Every held value agrees with the source's entry for its id.
-    ghost invariant = { λ g. (id : ObjectId) (x : T) → lookup (same_id id) g.held.entries ≡ Some x
-        → T.agrees x (entry_at (S.history g.source) id) };
+    // Every held value agrees with the source's entry for its id, and the index, the rows and the
+    // turns are right.
+    ghost invariant = { λ g. ((id : ObjectId) (x : T)
+        → lookup (same_id id) (map pair_of g.nodes.items) ≡ Some x
+        → T.agrees x (entry_at (S.history g.source) id))
+        × AreNodes (S.history g.source) g.nodes.items g.index.entries g.edges.items g.turn };
 }
 
 impl<S: Find, T: Held, A: Allocator> Graph<S, T, A> {
     /// An empty graph over a source, in the memory of `alloc`. It takes none yet.
     pub fn new(alloc: A, source: S) -> Self
+    where
+        A: Copy,
         ensures source { result.source ≡ source }
         ensures empty { (id : ObjectId) → held_at result id ≡ None }
         ensures len { held_len result ≡ 0 }
     {
         Graph {
             source,
-            held: HashMap::new(alloc),
+            nodes: Vec::new(alloc),
+            index: HashMap::new(alloc),
+            edges: Vec::new(alloc),
+            turn: 1,
         }
     }
 
@@ -103,7 +165,13 @@ impl<S: Find, T: Held, A: Allocator> Graph<S, T, A> {
     pub fn into_source(self) -> S
         ensures { result ≡ self.source }
     {
-        let Graph { source, held } = self;
+        let Graph {
+            source,
+            nodes,
+            index,
+            edges,
+            turn,
+        } = self;
         source
     }
 
@@ -113,21 +181,24 @@ impl<S: Find, T: Held, A: Allocator> Graph<S, T, A> {
         ensures empty { (id : ObjectId) → held_at self.new id ≡ None }
         ensures len { held_len self.new ≡ 0 }
     {
-        self.held.clear();
+        self.nodes.clear();
+        self.index.clear();
+        self.edges.clear();
     }
 
-    /// How many ids are held.
+    /// How many ids are held. Each is held once.
     pub fn len(&self) -> usize
-        ensures { result ≡ held_len self.now }
+        ensures len { result ≡ held_len self.now }
+        ensures once { IsDistinct same_id (held_ids self.now) }
     {
-        self.held.len()
+        self.nodes.len()
     }
 
     /// Whether an id is held.
     pub fn contains(&self, id: &ObjectId) -> bool
         ensures { result ≡ is_some (held_at self.now id.now) }
     {
-        self.held.contains_key(id)
+        self.index.contains_key(id)
     }
 
     /// The value under an id, which agrees with the source; `None` where the id is not held.
@@ -136,6 +207,26 @@ impl<S: Find, T: Held, A: Allocator> Graph<S, T, A> {
         ensures agrees { IfSome result
             (λ x. T.agrees x.now (entry_at (S.history self.now.source) id.now)) }
     {
-        self.held.get(id)
+        let number = numbers::number_of(self, id)?;
+        Some(numbers::value(self, number))
+    }
+}
+
+impl<S: Find, T: Held, A: Allocator + Copy> Graph<S, T, A> {
+    /// What the source has under an id.
+    pub(crate) fn ask(&mut self, alloc: A, id: ObjectId) -> Result<Option<SourceCommit<A>>, Error>
+        ensures held { self.new.held ≡ self.old.held }
+        ensures marked { self.new.marked ≡ self.old.marked }
+        ensures history { S.history self.new.source ≡ S.history self.old.source }
+        ensures found { IfOk result
+            (λ found. option_map entry_of found ≡ entry_at (S.history self.old.source) id) }
+        ensures count { S.fault_count self.new.source
+            ≡ count_after (is_source_fault result) (S.fault_count self.old.source) }
+    {
+        match self.source.find(alloc, id) {
+            Ok(found) => Ok(found),
+            Err(FindFault::Failed) => Err(Error::Source),
+            Err(FindFault::OutOfMemory) => Err(Error::OutOfMemory),
+        }
     }
 }

@@ -22,22 +22,31 @@ apart : (b c : ℕ) → is_hex_digit b ≡ true → is_hex_digit c ≡ false →
 apart b c h k true e = let s : b ≡ c = eqb-true b c e in let t = rw s at h in cc
 apart b c h k false e = refl
 
--- the first of them is neither a dot nor a caret
+-- a digit is none of the marks
+pub record IsPlain (b : ℕ) : Type 0 where
+  pub no_dot : (b == 46) ≡ false
+  pub no_colon : (b == 58) ≡ false
+  pub no_at : (b == 64) ≡ false
+  pub no_caret : (b == 94) ≡ false
+  pub no_tilde : (b == 126) ≡ false
+
+pub plain : (b : ℕ) → is_hex_digit b ≡ true → IsPlain b
+plain b h = record {
+  no_dot = apart b 46 h refl (b == 46) refl;
+  no_colon = apart b 58 h refl (b == 58) refl;
+  no_at = apart b 64 h refl (b == 64) refl;
+  no_caret = apart b 94 h refl (b == 94) refl;
+  no_tilde = apart b 126 h refl (b == 126) refl;
+}
+
+-- the first of them
 pub record HasFirst (text : List ℕ) : Type 0 where
   pub first : ℕ
   pub others : List ℕ
   pub split : text ≡ first ∷ others
-  pub no_dot : (first == 46) ≡ false
-  pub no_caret : (first == 94) ≡ false
+  pub is_plain : IsPlain first
 
 pub first_of : (text : List ℕ) → length text ≡ 40 → AllPass is_hex_digit text → HasFirst text
 first_of [] h d = cc
 first_of (b ∷ rest) h d =
-    let digit : is_hex_digit b ≡ true = d 0 0 (omega arith) in
-    record {
-      first = b;
-      others = rest;
-      split = refl;
-      no_dot = apart b 46 digit refl (b == 46) refl;
-      no_caret = apart b 94 digit refl (b == 94) refl;
-    }
+    record { first = b; others = rest; split = refl; is_plain = plain b (d 0 0 (omega arith)) }

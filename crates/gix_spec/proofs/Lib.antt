@@ -1,7 +1,15 @@
 pub mod Runs
+pub mod Places
+pub mod Numbers
+pub mod Describing
+pub mod Parts
+pub mod Navigation
 pub mod Readings
 pub mod Memory
-pub mod LastCall
+pub mod Sound
+pub mod Ending
+pub mod Rows
+pub mod Whole
+pub mod Promises
 pub mod Digits
 pub mod Printed
-pub mod Frugal

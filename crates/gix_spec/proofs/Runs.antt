@@ -9,10 +9,10 @@ use Rattle.gix_spec.specs.Answer.{Answer, answer_of, refused, no_memory}
 use Rattle.gix_spec.specs.Tree.{Tree, fine, faulty}
 use Rattle.gix_spec.specs.Run.{IsRun, at_leaf, goes_on, turns, runs_out, has_room, has_none, IsBeginning, stops, begins_accepted, begins_refused, begins_out, begins_room, Outcome, ended, without_memory, short_of_memory}
 use Rattle.gix_spec.specs.Context.{Context}
-use Rattle.gix_spec.specs.Pieces.{Piece, fault}
+use Rattle.gix_spec.specs.Pieces.{Piece, finished, fault}
 use Rattle.gix_spec.specs.Trees.{tree_of, demand}
 use Rattle.gix_spec.specs.Parse.{Fails, Parses}
-use Rattle.gix_spec.specs.Performs.{Leads, GoesTo, Performs, DemandedBy, Demanded}
+use Rattle.gix_spec.specs.Performs.{Leads, GoesTo, Performs, Asks, DemandedBy, Demanded}
 
 module _ {S : Type 0} (by : S → Call → Answer → S → Type 0) where
   -- a run that a part ended, seen from further back
@@ -49,6 +49,35 @@ module _ {S : Type 0} (by : S → Call → Answer → S → Type 0) where
   goes_then : {X Y : Type 0} (s u w : S) (t v z : Tree) (x : X) (out : Result Y Error) → Leads by s t u v → GoesTo by u v w out z → GoesTo by s t w out z
   goes_then s u w t v z x (Ok y) f g = λ k o r. f k o (g k o r)
   goes_then s u w t v z x (Err e) f g = fails_after s u w t v e f g
+
+  -- nothing is left to do
+  pub performs_none : {X : Type 0} {m : Context} {s : S} (x : X) → Performs by [] s m s m (Ok x)
+  performs_none x = record { performs = λ more w o r. r }
+
+  -- the end behind a closer makes no call
+  pub performs_finished : {X : Type 0} {m : Context} {s : S} (x : X) → Performs by (finished ∷ []) s m s m (Ok x)
+  performs_finished x = record { performs = λ more w o r. r }
+
+  -- a call that has to be accepted
+  pub asks_demand : {c : Call} {f : Fault} {i : Option (List ℕ)} {s u : S} {r : Result (Unit {0}) Exn} {out : Result (Unit {0}) Error} →
+      by s c (answer_of r) u → Demanded r f i out → Asks by (demand c f i) s u out
+  asks_demand {c} {f} {i} {s} {u} {r} {out} h d = record { asks = λ onward. demand_goes r out c f i onward s u h d.demanded }
+
+  -- some calls after others
+  pub asks_then : {X Y : Type 0} {a b : Tree → Tree} {s u w : S} {x : X} {out : Result Y Error} →
+      Asks by a s u (Ok x) → Asks by b u w out → Asks by (λ v. a (b v)) s w out
+  asks_then {a} {b} {s} {u} {w} {x} {out} f g = record { asks = λ onward. goes_then s u w (a (b onward)) (b onward) onward x out (f.asks (b onward)) (g.asks onward) }
+
+  -- calls that ended the run, whatever was to follow them
+  pub asks_stop : {X Y : Type 0} {a : Tree → Tree} (b : Tree → Tree) {s u : S} {e : Error} {out : Result Y Error} →
+      Asks {X = X} by a s u (Err e) → IsErrAnd out (λ y. y ≡ e) → Asks by (λ v. a (b v)) s u out
+  asks_stop b {out = Ok y} h q = absurd q
+  asks_stop b {out = Err y} h q = record { asks = λ onward. rw q (h.asks (b onward)) }
+
+  -- a piece by its calls
+  pub performs_asks : {X : Type 0} {p : Piece} {a : Tree → Tree} {m n : Context} {s u : S} {out : Result X Error} →
+      ((more : List Piece) → tree_of (p ∷ more) m ≡ a (tree_of more n)) → Asks by a s u out → Performs by (p ∷ []) s m u n out
+  performs_asks {n} same h = record { performs = λ more. rw (same more) (h.asks (tree_of more n)) }
 
   -- one part after another
   pub performs_then : {X Y : Type 0} {ps qs : List Piece} {m n k : Context} {s u w : S} {x : X} {out : Result Y Error} →

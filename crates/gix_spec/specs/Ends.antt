@@ -1,14 +1,19 @@
--- How a parse ends that ends well.
-use Rattle.std.specs.Prelude.{◌≡◌, ◌==◌, not, false, ℕ, List, [], ◌∷◌, ◌++◌}
+-- How a parse ends, and what it calls.
+use Rattle.std.specs.Prelude.{◌≡◌, true, false, ℕ, List, [], ◌∷◌, ◌++◌, Bool, Option, Some, nat_lt, nat_le}
+use Rattle.std.specs.List.{list_all}
 use Rattle.gix_base.specs.declared.date.Time.{Time}
-use Rattle.gix_spec.specs.Call.{Call, done}
+use Rattle.gix_base.specs.declared.error.Exn.{Exn}
+use Rattle.gix_spec.specs.declared.spec.parse.delegate.Traversal.TheVariants.{NthParent}
+use Rattle.gix_spec.specs.declared.spec.parse.fault.Fault.{Fault}
+use Rattle.gix_spec.specs.declared.spec.parse.fault.Fault.TheVariants.{NameRefused}
+use Rattle.gix_spec.specs.Call.{Call, traverse, branch, index, done}
 use Rattle.gix_spec.specs.Answer.{Answer, accepted}
-use Rattle.gix_spec.specs.Tree.{fine}
-use Rattle.gix_spec.specs.Run.{IsRun, IsBeginning, ended}
+use Rattle.gix_spec.specs.Pieces.{Piece, fault}
+use Rattle.gix_spec.specs.Tree.{fine, faulty}
+use Rattle.gix_spec.specs.Run.{IsRun, Outcome, ended}
 use Rattle.gix_spec.specs.Parse.{meaning_of}
 use Rattle.gix_spec.specs.Reading.{pieces_of, unread_of}
 use Rattle.gix_spec.specs.Trees.{takes_memory}
-use Rattle.std.specs.List.{AllPass}
 
 -- a delegate that may answer anything, and keeps what it was called with and what it answered
 abbrev pub Records : List (Call × Answer) → Call → Answer → List (Call × Answer) → Type 0
@@ -19,15 +24,39 @@ abbrev pub DoneIsLast : Type 0
 DoneIsLast = (text : List ℕ) (now : Time) (s : List (Call × Answer)) → IsRun Records [] (meaning_of text now) s (ended fine) →
     (before : List (Call × Answer)) × (s ≡ before ++ (done, accepted) ∷ [])
 
--- the same of any delegate: the run came to a state, and `done` led from there to the last one
-abbrev pub EndsInDone : {S : Type 0} → (step : S → Call → Answer → S → Type 0) → Type 0
-EndsInDone {S} step = (text : List ℕ) (now : Time) (s u : S) → IsRun step s (meaning_of text now) u (ended fine) →
-    (v : S) × IsBeginning step s (meaning_of text now) v × step v done accepted u
-
 -- a parse that ends well left no byte unread
 abbrev pub ReadsAll : {S : Type 0} → (step : S → Call → Answer → S → Type 0) → Type 0
 ReadsAll {S} step = (text : List ℕ) (now : Time) (s u : S) → IsRun step s (meaning_of text now) u (ended fine) → unread_of text ≡ []
 
--- a text without braces takes no memory
-abbrev pub TakesNoneWithoutBraces : Type 0
-TakesNoneWithoutBraces = (text : List ℕ) → AllPass (λ b. not (b == 123)) text → takes_memory (pieces_of text) ≡ false
+-- a fault of the text is its last piece
+abbrev pub FaultIsLast : Type 0
+FaultIsLast = (text : List ℕ) (before after : List Piece) (f : Fault) (input : Option (List ℕ)) → pieces_of text ≡ before ++ fault f input ∷ after → after ≡ []
+
+-- no text takes memory
+abbrev pub TakesNone : Type 0
+TakesNone = (text : List ℕ) → takes_memory (pieces_of text) ≡ false
+
+-- no call is for a parent or a branch of number 0, or for an index stage past 3
+abbrev pub is_numbered : Call → Bool
+is_numbered (traverse (NthParent n)) = nat_lt 0 n
+is_numbered (branch n) = nat_lt 0 n
+is_numbered (index path stage) = nat_le stage 3
+is_numbered _ = true
+
+abbrev pub CallsAreNumbered : Type 0
+CallsAreNumbered = (text : List ℕ) (now : Time) (s : List (Call × Answer)) (o : Outcome) → IsRun Records [] (meaning_of text now) s o →
+    list_all (λ x. is_numbered x.0) s ≡ true
+
+-- the bytes of a text from one place to another
+abbrev pub IsPartOf : (part text : List ℕ) → Type 0
+IsPartOf part text = (before : List ℕ) × (after : List ℕ) × (text ≡ before ++ (part ++ after))
+
+-- the part that a fault names is a part of the text
+abbrev pub NamesPart : {S : Type 0} → (step : S → Call → Answer → S → Type 0) → Type 0
+NamesPart {S} step = (text : List ℕ) (now : Time) (s u : S) (f : Fault) (input : List ℕ) (first second : Option Exn) →
+    IsRun step s (meaning_of text now) u (ended (faulty f (Some input) first second)) → IsPartOf input text
+
+-- two refusals led to a fault only where a name was refused
+abbrev pub SecondIsOfName : {S : Type 0} → (step : S → Call → Answer → S → Type 0) → Type 0
+SecondIsOfName {S} step = (text : List ℕ) (now : Time) (s u : S) (f : Fault) (input : Option (List ℕ)) (first : Option Exn) (second : Exn) →
+    IsRun step s (meaning_of text now) u (ended (faulty f input first (Some second))) → f ≡ NameRefused

@@ -34,8 +34,14 @@ abbrev pub ReadsBack : Spec → Type 0
 ReadsBack spec = (now : Time) (s : List Call) (o : Outcome) → IsRun Accepts [] (meaning_of (spec_text spec) now) s o →
     (s ≡ heard_of spec) × (o ≡ ended fine)
 
--- the forms that are read today
+-- the ids of a spec are of twenty bytes
+abbrev pub HasIds : Spec → Type 0
+HasIds (Include a) = IsId a
+HasIds (Exclude a) = IsId a
+HasIds (Range a b) = IsId a × IsId b
+HasIds (Merge a b) = IsId a × IsId b
+HasIds (IncludeOnlyParents a) = IsId a
+HasIds (ExcludeParents a) = IsId a
+
 abbrev pub PrintedReadsBack : Type 0
-PrintedReadsBack =
-    ((a : ObjectId) → IsId a → ReadsBack (Include a)) × ((a : ObjectId) → IsId a → ReadsBack (Exclude a))
-    × ((a b : ObjectId) → IsId a → IsId b → ReadsBack (Range a b)) × ((a b : ObjectId) → IsId a → IsId b → ReadsBack (Merge a b))
+PrintedReadsBack = (spec : Spec) → HasIds spec → ReadsBack spec

@@ -5,6 +5,15 @@ pub mod Run
 pub mod Context
 pub mod Pieces
 pub mod Trees
+pub mod Marks
+pub mod Part
+pub mod Cut
+pub mod Number
+pub mod DescribeText
+pub mod Found
+pub mod Names
+pub mod Steps
+pub mod ColonForms
 pub mod Reading
 pub mod Parse
 pub mod Performs

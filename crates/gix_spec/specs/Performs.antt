@@ -1,9 +1,10 @@
 -- What a part of a parse does to the run, whatever follows it.
-use Rattle.std.specs.Prelude.{true, false, option_map, ◌≡◌, ℕ, List, ◌++◌, Option, Some, None, Result, Ok, Err}
+use Rattle.std.specs.Prelude.{true, false, option_map, ◌≡◌, ℕ, List, ◌++◌, Option, Some, None, Result, Ok, Err, IfOk}
 use Rattle.gix_base.specs.declared.error.Exn.{Exn, out-Exn}
 use Rattle.gix_spec.specs.declared.spec.parse.fault.Fault.{Fault}
 use Rattle.gix_spec.specs.declared.spec.parse.Error.{Error}
 use Rattle.gix_spec.specs.declared.spec.parse.Error.TheVariants.{OutOfMemory, Refused}
+use Rattle.gix_spec.specs.declared.spec.parse.part.Behind.{Behind}
 use Rattle.gix_spec.specs.Call.{Call}
 use Rattle.gix_spec.specs.Answer.{Answer}
 use Rattle.gix_spec.specs.Tree.{Tree}
@@ -11,6 +12,8 @@ use Rattle.gix_spec.specs.Run.{IsRun, Outcome}
 use Rattle.gix_spec.specs.Context.{Context}
 use Rattle.gix_spec.specs.Pieces.{Piece}
 use Rattle.gix_spec.specs.Trees.{tree_of}
+use Rattle.gix_spec.specs.Part.{Part}
+use Rattle.gix_spec.specs.Found.{way_of}
 use Rattle.gix_spec.specs.Parse.{Fails}
 
 -- From s with the tree t ahead, the calls led to u with the tree v ahead.
@@ -25,6 +28,15 @@ GoesTo step s t u (Err e) v = Fails step s t u e
 -- The calls did what these pieces mean, whatever follows them, and what is known went from m to n.
 pub record Performs {S X : Type 0} (step : S → Call → Answer → S → Type 0) (ps : List Piece) (s : S) (m : Context) (u : S) (n : Context) (out : Result X Error) : Type 0 where
   pub performs : (more : List Piece) → GoesTo step s (tree_of (ps ++ more) m) u out (tree_of more n)
+
+-- The calls that a tree begins with were made, whatever follows them.
+pub record Asks {S X : Type 0} (step : S → Call → Answer → S → Type 0) (begin : Tree → Tree) (s u : S) (out : Result X Error) : Type 0 where
+  pub asks : (onward : Tree) → GoesTo step s (begin onward) u out onward
+
+-- A part was read: the calls did what its pieces mean, and where they went well this is what is left of the text, and the way on.
+pub record Reads {S : Type 0} (step : S → Call → Answer → S → Type 0) (p : Part) (s : S) (m : Context) (u : S) (n : Context) (out : Result Behind Error) : Type 0 where
+  pub calls : Performs step p.pieces s m u n out
+  pub behind : IfOk out (λ b. (b.rest.now ≡ p.rest) × (way_of b.way ≡ p.way))
 
 -- What became of a call that has to be accepted: an error tells of its refusal.
 abbrev pub TellsOf : Exn → Fault → Option (List ℕ) → Error → Type 0

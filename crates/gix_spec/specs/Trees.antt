@@ -1,6 +1,7 @@
 -- The tree that the pieces of a text mean.
 use Rattle.std.specs.Prelude.{ℕ, List, [], ◌∷◌, Option, Some, None, Bool, true, false, ◌||◌}
 use Rattle.gix_base.specs.declared.date.Time.{Time}
+use Rattle.gix_spec.specs.declared.spec.Kind.{Kind}
 use Rattle.gix_spec.specs.declared.spec.Kind.TheVariants.{ExcludeReachable, RangeBetween}
 use Rattle.gix_spec.specs.declared.spec.parse.delegate.ReflogLookup.TheVariants.{Date as AtDate}
 use Rattle.gix_spec.specs.declared.spec.parse.delegate.Traversal.TheVariants.{NthParent}
@@ -38,6 +39,17 @@ attempts text whole (Some p) m onward =
     ask (prefix p.0 p.1) (onward (after_prefix m p.0 p.1))
     (λ e. ask (find_ref text) (onward (after_reference m text)) (λ d. leaf (faulty NameRefused (Some whole) (Some e) (Some d))))
 
+-- what `^!` and `^@` ask for
+abbrev pub closing_calls : Kind → (rest : List ℕ) → Tree → Tree
+closing_calls k rest onward = demand (kind k) (KindRefused k) (Some rest) (demand done DoneRefusedInNavigation (Some rest) onward)
+
+-- what `^-n` asks for
+abbrev pub without_parent_calls : (number : ℕ) (after rest : List ℕ) → Option Call → Tree → Tree
+without_parent_calls number after rest anchor onward =
+    demand (traverse (NthParent number)) (TraverseRefused (NthParent number)) (Some after)
+    (demand (kind RangeBetween) (KindRefused RangeBetween) (Some after)
+    (repeat anchor after (demand done DoneRefusedInNavigation (Some rest) onward)))
+
 -- The tree of some pieces, where this is known from those before.
 abbrev pub tree_of : List Piece → Context → Tree
 tree_of [] m = leaf fine
@@ -57,12 +69,8 @@ tree_of (unescaped ∷ ps) m = takes (tree_of ps m)
 tree_of (step t after ∷ ps) m = demand (traverse t) (TraverseRefused t) (Some after) (tree_of ps m)
 tree_of (peel target after ∷ ps) m = demand (calls.peel target) PeelRefused (Some after) (tree_of ps m)
 tree_of (path p ∷ ps) m = demand (calls.peel (calls.path p)) PeelRefused (Some p) (tree_of ps m)
-tree_of (closer k rest ∷ ps) m =
-    demand (kind k) (KindRefused k) (Some rest) (demand done DoneRefusedInNavigation (Some rest) (tree_of ps m))
-tree_of (without_parent number after rest ∷ ps) m =
-    demand (traverse (NthParent number)) (TraverseRefused (NthParent number)) (Some after)
-    (demand (kind RangeBetween) (KindRefused RangeBetween) (Some after)
-    (repeat m.anchor after (demand done DoneRefusedInNavigation (Some rest) (tree_of ps m))))
+tree_of (closer k rest ∷ ps) m = closing_calls k rest (tree_of ps m)
+tree_of (without_parent number after rest ∷ ps) m = without_parent_calls number after rest m.anchor (tree_of ps m)
 tree_of (range k ∷ ps) m = demand (kind k) (KindRefused k) None (tree_of ps (next_revision m))
 tree_of (finish ∷ ps) m = demand done DoneRefused None (tree_of ps m)
 tree_of (finished ∷ ps) m = tree_of ps m

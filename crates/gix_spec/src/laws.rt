@@ -1,10 +1,11 @@
 //! Laws of the definitions, each the contract of a function without parameters.
 
-ghost use Rattle.gix_spec.specs.Ends.{DoneIsLast, EndsInDone, ReadsAll, TakesNoneWithoutBraces};
+ghost use Rattle.gix_spec.specs.Ends.{DoneIsLast, ReadsAll, FaultIsLast, TakesNone};
+ghost use Rattle.gix_spec.specs.Ends.{CallsAreNumbered, NamesPart, SecondIsOfName};
+ghost use Rattle.gix_spec.specs.Heard.{PrintedReadsBack};
 ghost use Rattle.gix_base.specs.Laws.{OrderAgrees, HashAgrees, OrderIs};
 ghost use Rattle.std.specs.Prelude.{◌≡◌};
 ghost use Rattle.gix_spec.specs.Orders.{spec_order, kind_order, step_order, sibling_order, hint_order, lookup_order, target_order};
-ghost use Rattle.gix_spec.specs.Heard.{PrintedReadsBack};
 
 use crate::spec::parse::Delegate;
 use crate::spec::parse::delegate::{PeelTo, PrefixHint, ReflogLookup, SiblingBranch, Traversal};
@@ -13,27 +14,45 @@ use gix_base::laws::{hash_agrees, order_agrees};
 use std::hash::Hash;
 
 /// A parse that ends well has `done` as its last call, whatever the delegate answered before.
-#[tactic(auto, using(crate::proofs::LastCall::done_is_last))]
+#[tactic(auto, using(crate::proofs::Promises::done_is_last))]
 pub fn done_is_last()
     ensures { DoneIsLast }
 {}
 
-/// The same of any delegate: it came to a state from which `done`, accepted, led to the last one.
-#[tactic(auto, using(crate::proofs::LastCall::ends_in_done))]
-pub fn ends_in_done<D: Delegate>()
-    ensures { EndsInDone D.step }
-{}
-
 /// A parse that ends well left no byte of the text unread.
-#[tactic(auto, using(crate::proofs::LastCall::reads_all))]
+#[tactic(auto, using(crate::proofs::Promises::reads_all))]
 pub fn reads_all<D: Delegate>()
     ensures { ReadsAll D.step }
 {}
 
-/// A text without braces takes no memory, so that only its delegate can want some.
-#[tactic(auto, using(crate::proofs::Frugal::takes_none_without_braces))]
-pub fn texts_without_braces_take_no_memory()
-    ensures { TakesNoneWithoutBraces }
+/// A fault of a text is its last piece.
+#[tactic(auto, using(crate::proofs::Promises::fault_is_last))]
+pub fn fault_is_last()
+    ensures { FaultIsLast }
+{}
+
+/// No text takes memory, so that only its delegate can want some.
+#[tactic(auto, using(crate::proofs::Promises::texts_take_none))]
+pub fn texts_take_no_memory()
+    ensures { TakesNone }
+{}
+
+/// No call is for a parent or a branch of number 0, or for an index stage past 3.
+#[tactic(auto, using(crate::proofs::Promises::calls_are_numbered))]
+pub fn calls_are_numbered()
+    ensures { CallsAreNumbered }
+{}
+
+/// The part that a fault names is a part of the text.
+#[tactic(auto, using(crate::proofs::Promises::names_part))]
+pub fn faults_name_parts<D: Delegate>()
+    ensures { NamesPart D.step }
+{}
+
+/// A second refusal comes with a refused name alone.
+#[tactic(auto, using(crate::proofs::Promises::second_is_of_name))]
+pub fn second_refusal_is_of_name<D: Delegate>()
+    ensures { SecondIsOfName D.step }
 {}
 
 /// A printed spec is read back: a delegate that accepts every call hears one prefix of 40 digits for

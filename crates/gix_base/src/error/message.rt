@@ -1,8 +1,9 @@
 //! The fault of `describe`.
 
-ghost use Rattle.std.specs.Prelude.{Some};
+ghost use Rattle.std.specs.Prelude.{◌≡◌, Some};
 
 use crate::hash::ObjectId;
+use std::alloc::AllocError;
 use std::fmt;
 use thiserror::Error;
 
@@ -33,5 +34,15 @@ impl fmt::Display for Message {
             Message::CounterFull => f.write_str("a counter is full"),
             Message::OutOfMemory => f.write_str("out of memory"),
         }
+    }
+}
+
+impl From<AllocError> for Message {
+    ghost use Rattle.gix_base.specs.declared.error.message.Message.TheVariants.{OutOfMemory};
+
+    ghost from_gives = { λ _ m. m ≡ OutOfMemory };
+
+    fn from(_error: AllocError) -> Message {
+        Message::OutOfMemory
     }
 }

@@ -1,18 +1,22 @@
 //! The nearest name of a commit.
 
-ghost use Rattle.std.specs.Prelude.{◌≡◌, ◌≤◌, min, IfOk, IfErr, IfSome, IsOk, IsTrue, None, Some};
+ghost use Rattle.std.specs.Prelude.{◌≡◌, min, IfOk, IfErr, IfSome, IsOk, IsTrue, None, Some};
 ghost use Rattle.std.specs.Option.{option_map};
 ghost use Rattle.gix_base.specs.declared.hash.ObjectId.{ObjectId};
+ghost use Rattle.gix_revwalk.specs.Faults.{count_after};
+ghost use Rattle.gix_describe.specs.DescribeRefusals.{is_source_fault};
 ghost use Rattle.gix_describe.specs.Described.{name_at, named, nothing_to_find, unnamed};
 ghost use Rattle.gix_describe.specs.Outcomes.{names_of, names_in, cap_of, description_of, Describes, Keeps, Walks, Refuses};
+ghost use Rattle.gix_describe.specs.Counted.{CountsPops};
+ghost use Rattle.gix_describe.specs.Ties.{Holds, Ties};
+ghost use Rattle.gix_revwalk.specs.Graph.{held_at};
 
-use crate::describe::nearest::measure;
 use crate::describe::options::{Names, Options};
 use crate::describe::outcome::Outcome;
+use crate::describe::walk::{Found, Search, find_name};
 use gix_base::error::Message;
 use gix_base::hash::ObjectId;
-use gix_revwalk::graph::Graph;
-use gix_revwalk::graph::find::Find;
+use gix_revwalk::graph::{Find, Graph};
 use std::alloc::Allocator;
 
 /// The answer without a name, where it is asked for.
@@ -52,10 +56,7 @@ fn with_name_of<'name, A: Allocator + Copy>(
     ensures refused { IfErr result (λ e. e ≡ Message.OutOfMemory) }
 {
     let copied = match name_by_oid.get(&named_id) {
-        Some(name) => match name.clone() {
-            Ok(copied) => copied,
-            Err(_) => return Err(Message::OutOfMemory),
-        },
+        Some(name) => name.clone()?,
         None => return Ok(None),
     };
     Ok(Some(Outcome {
@@ -74,6 +75,89 @@ fn is_idle<'name, A: Allocator>(names: &Names<'name, A>, max_candidates: usize) 
     max_candidates == 0 || names.is_empty()
 }
 
+/// How many names are weighed against each other: a mark is one of 32 bits.
+fn room(max_candidates: usize) -> usize
+    ensures { result ≡ min max_candidates 32 }
+{
+    max_candidates.min(32)
+}
+
+/// What [`describe`] answers, and how many commits left the queue for it: 0 where no walk is made.
+///
+/// Where the answer has a name the number is that of the commits seen or one more, since a commit that
+/// is given up for want of room leaves the queue again. Where no ancestor is named it is the number of
+/// ancestors.
+///
+/// # Errors
+///
+/// [`Message::ParentsOf`] only where the source failed: its count of faults is then one more, unless
+/// it is full, and after every other answer it is as it was;
+/// [`Message::MissingStart`] where the source lacks `commit` and the history has to be walked;
+/// [`Message::CounterFull`] only where more commits than the greatest `u32` are reachable;
+/// [`Message::OutOfMemory`] where there was no memory. The graph can be used again after each.
+pub fn counted<'name, S: Find, A: Allocator + Copy>(
+    alloc: A,
+    commit: &ObjectId,
+    graph: &mut Graph<S, u32, A>,
+    options: Options<'name, A>,
+) -> Result<(Option<Outcome<'name, A>>, u128), Message>
+    ensures described { IfOk result
+        (λ r. Describes (S.history graph.old.source) commit.now options.entry r.0) }
+    ensures kept { IfOk result (λ r. Keeps commit.now options.entry r.0) }
+    ensures tied { IfOk result
+        (λ r. Ties (S.history graph.old.source) commit.now options.entry r.0) }
+    ensures held { IfOk result
+        (λ r. Holds (S.history graph.old.source) commit.now options.entry r.0 (held_at graph.new)) }
+    ensures pops { IfOk result
+        (λ r. CountsPops (S.history graph.old.source) commit.now options.entry r.0 r.1) }
+    ensures refused { IfErr result
+        (Refuses (S.history graph.old.source) commit.now options.entry) }
+    ensures untouched { (¬ Walks commit.now options.entry) → graph.new ≡ graph.old }
+    // Without a name to find no memory is taken.
+    ensures no_walk { name_at (names_in options.entry) commit.now ≡ None
+        → IsTrue (nothing_to_find (names_in options.entry) (cap_of options.entry)) → IsOk result }
+    ensures history { S.history graph.new.source ≡ S.history graph.old.source }
+    ensures count { S.fault_count graph.new.source
+        ≡ count_after (is_source_fault result) (S.fault_count graph.old.source) }
+{
+    let Options {
+        name_by_oid,
+        max_candidates,
+        fallback_to_oid,
+        first_parent,
+    } = options;
+    if name_by_oid.contains_key(commit) {
+        return match with_name_of(*commit, *commit, 0, name_by_oid, 0) {
+            Ok(found) => Ok((found, 0)),
+            Err(refused) => Err(refused),
+        };
+    }
+    if is_idle(&name_by_oid, max_candidates) {
+        return Ok((without_name(*commit, name_by_oid, fallback_to_oid, 0), 0));
+    }
+    graph.clear();
+    let search = Search {
+        start: *commit,
+        cap: room(max_candidates),
+        first_parent,
+    };
+    let found = match find_name(alloc, &name_by_oid, search, graph) {
+        Ok(found) => found,
+        Err(refused) => return Err(refused),
+    };
+    let Found { best, seen, pops } = found;
+    match best {
+        None => Ok((
+            without_name(*commit, name_by_oid, fallback_to_oid, seen),
+            pops,
+        )),
+        Some((id, depth)) => match with_name_of(id, *commit, depth, name_by_oid, seen) {
+            Ok(named) => Ok((named, pops)),
+            Err(refused) => Err(refused),
+        },
+    }
+}
+
 /// The nearest name of a commit, and how far it is: git-describe.
 ///
 /// A commit that has a name is answered with it, depth 0 and 0 commits seen. Where there are no names
@@ -85,9 +169,16 @@ fn is_idle<'name, A: Allocator>(names: &Names<'name, A>, max_candidates: usize) 
 /// strictly older and at most `max_candidates` (and 32) of them are named. Where no ancestor is
 /// named, the answer is the id alone or `None` as above.
 ///
+/// There is one answer: of the commits that were met the newest is visited next, of one time (in
+/// seconds) the one with the smaller id; the walk ends where all that is left lies below each of the
+/// nearest names, or where one more name than may be weighed is met; and of the names that are nearest
+/// then the smaller one by its bytes is taken, then the one of the smaller id. Afterwards the graph
+/// holds `commit` and the parents of all commits seen but the last.
+///
 /// # Errors
 ///
-/// [`Message::ParentsOf`] only where the source failed in this call, or its count of faults is full;
+/// [`Message::ParentsOf`] only where the source failed: its count of faults is then one more, unless
+/// it is full, and after every other answer it is as it was;
 /// [`Message::MissingStart`] where the source lacks `commit` and the history has to be walked;
 /// [`Message::CounterFull`] only where more commits than the greatest `u32` are reachable;
 /// [`Message::OutOfMemory`] where there was no memory. The graph can be used again after each.
@@ -100,34 +191,22 @@ pub fn describe<'name, S: Find, A: Allocator + Copy>(
     ensures described { IfOk result
         (Describes (S.history graph.old.source) commit.now options.entry) }
     ensures kept { IfOk result (Keeps commit.now options.entry) }
-    ensures refused { IfErr result (Refuses (S.history graph.old.source) commit.now options.entry
-        (S.fault_count graph.old.source) (S.fault_count graph.new.source)) }
+    ensures tied { IfOk result
+        (Ties (S.history graph.old.source) commit.now options.entry) }
+    ensures held { IfOk result
+        (λ r. Holds (S.history graph.old.source) commit.now options.entry r (held_at graph.new)) }
+    ensures refused { IfErr result
+        (Refuses (S.history graph.old.source) commit.now options.entry) }
     ensures untouched { (¬ Walks commit.now options.entry) → graph.new ≡ graph.old }
     // Without a name to find no memory is taken.
     ensures no_walk { name_at (names_in options.entry) commit.now ≡ None
         → IsTrue (nothing_to_find (names_in options.entry) (cap_of options.entry)) → IsOk result }
     ensures history { S.history graph.new.source ≡ S.history graph.old.source }
-    ensures count { S.fault_count graph.old.source ≤ S.fault_count graph.new.source }
+    ensures count { S.fault_count graph.new.source
+        ≡ count_after (is_source_fault result) (S.fault_count graph.old.source) }
 {
-    let Options {
-        name_by_oid,
-        max_candidates,
-        fallback_to_oid,
-        first_parent,
-    } = options;
-    if name_by_oid.contains_key(commit) {
-        return with_name_of(*commit, *commit, 0, name_by_oid, 0);
-    }
-    if is_idle(&name_by_oid, max_candidates) {
-        return Ok(without_name(*commit, name_by_oid, fallback_to_oid, 0));
-    }
-    graph.clear();
-    let measured = match measure(alloc, *commit, &name_by_oid, first_parent, graph) {
-        Ok(measured) => measured,
-        Err(refused) => return Err(refused),
-    };
-    match measured.1 {
-        None => Ok(without_name(*commit, name_by_oid, fallback_to_oid, measured.0)),
-        Some(best) => with_name_of(best.0, *commit, best.1, name_by_oid, measured.0),
+    match counted(alloc, commit, graph, options) {
+        Ok((answer, _)) => Ok(answer),
+        Err(refused) => Err(refused),
     }
 }

@@ -1,15 +1,17 @@
-//! What the calls of the trait answer for the marks of a commit, in plain numbers.
+//! What the calls of the trait `bitflags::Flags` answer for the marks of a commit, as numbers.
+//!
+//! Each function is named like the call whose answer it states.
 
 ghost use Rattle.std.specs.Prelude.{◌≡◌, ◌==◌, [], ◌∷◌};
 ghost use Rattle.std.specs.Int.RustNames.{bit_or};
 ghost use Rattle.bitflags.specs.Sets.{without};
 ghost use Rattle.gix_merge_base.specs.Flags.{bits_of, has_all};
 
-use crate::merge_base::flags::Flags;
+use crate::merge_base::Flags;
 use bitflags::Flags as BitFlags;
 
-/// The bits of `COMMIT1`, `COMMIT2`, `STALE` and `RESULT`.
-pub fn named() -> [u8; 4]
+/// The bits of the constants `COMMIT1`, `COMMIT2`, `STALE` and `RESULT`.
+pub fn constants() -> [u8; 4]
     ensures { result ≡ 1 ∷ 2 ∷ 4 ∷ 8 ∷ [] }
 {
     [
@@ -20,62 +22,65 @@ pub fn named() -> [u8; 4]
     ]
 }
 
-/// `from_bits_retain` keeps every bit, and `bits` gives them back.
-pub fn kept(bits: u8) -> u8
-    ensures { result ≡ bits }
+/// Every bit is kept.
+pub fn from_bits_retain(bits: u8) -> Flags
+    ensures { bits_of result ≡ bits }
 {
-    Flags::from_bits_retain(bits).bits()
+    Flags::from_bits_retain(bits)
 }
 
-/// `bits` are those of the set.
+/// The bits of the set.
 pub fn bits(flags: Flags) -> u8
     ensures { result ≡ bits_of flags }
 {
     flags.bits()
 }
 
-/// `empty` and the default have no bit.
-pub fn none() -> (Flags, Flags)
-    ensures { (bits_of result.0 ≡ 0) × (bits_of result.1 ≡ 0) }
+/// No bit.
+pub fn empty() -> Flags
+    ensures { bits_of result ≡ 0 }
 {
-    (Flags::empty(), Flags::default())
+    Flags::empty()
 }
 
-/// `all` has the bits of the four marks.
-pub fn every() -> Flags
+/// No bit.
+pub fn default() -> Flags
+    ensures { bits_of result ≡ 0 }
+{
+    Flags::default()
+}
+
+/// The bits of the four marks.
+pub fn all() -> Flags
     ensures { bits_of result ≡ 15 }
 {
     Flags::all()
 }
 
-/// `is_empty` says whether there is no bit.
-pub fn is_none(flags: Flags) -> bool
+/// Whether there is no bit.
+pub fn is_empty(flags: Flags) -> bool
     ensures { result ≡ (bits_of flags == 0) }
 {
     flags.is_empty()
 }
 
-/// `contains` says whether every bit of the argument is set.
-pub fn contained(flags: Flags, other: Flags) -> bool
+/// Whether every bit of the argument is set.
+pub fn contains(flags: Flags, other: Flags) -> bool
     ensures { result ≡ has_all flags other }
 {
     flags.contains(other)
 }
 
-/// `insert` sets the bits of the argument.
-pub fn with(flags: Flags, other: Flags) -> Flags
-    ensures { bits_of result ≡ bit_or (bits_of flags) (bits_of other) }
+/// The bits of the argument are set as well.
+pub fn insert(flags: &mut Flags, other: Flags)
+    ensures { bits_of flags.new ≡ bit_or (bits_of flags.old) (bits_of other) }
 {
-    let mut more = flags;
-    more.insert(other);
-    more
+    flags.insert(other);
 }
 
-/// `remove` clears the bits of the argument.
-pub fn less(flags: Flags, other: Flags) -> Flags
-    ensures { bits_of result ≡ without 8 (bits_of flags) (bits_of other) }
+/// The bits of the argument are cleared.
+pub fn remove(flags: &mut Flags, other: Flags)
+    ensures { bits_of flags.new ≡ without 8 (bits_of flags.old) (bits_of other) }
 {
-    let mut left = flags;
-    left.remove(other);
-    left
+    flags.remove(other);
 }

@@ -1,12 +1,12 @@
 //! Why no merge base is answered.
 
-ghost use Rattle.std.specs.Prelude.{◌≡◌, ℕ, Some, codes};
-ghost use Rattle.gix_merge_base.specs.ErrorTexts.{merge_base_error_text, refusal_text};
-ghost use Rattle.gix_merge_base.specs.Refusals.{HasCause};
-ghost use Rattle.gix_revwalk.specs.declared.graph.Error.TheVariants.{Source as SourceFailed};
-ghost use Rattle.gix_revwalk.specs.Faults.{FaultSeen};
+ghost use Rattle.std.specs.Prelude.{◌≡◌, Some, Err};
+ghost use Rattle.gix_merge_base.specs.ErrorTexts.{merge_base_error_text};
+ghost use Rattle.gix_merge_base.specs.Refusals.{HasInsertText, is_source_fault};
+ghost use Rattle.gix_revwalk.specs.Faults.{is_source_fault as is_graph_fault};
 
 use gix_revwalk::graph;
+use std::alloc::AllocError;
 use std::fmt;
 use thiserror::Error as StdError;
 
@@ -25,8 +25,8 @@ impl fmt::Display for Simple {
 /// Why `merge_base` and `octopus` give no answer. The next call on the graph meets its contract.
 #[derive(Clone, Copy, Debug, PartialEq, Eq, Drop, StdError)]
 pub enum Error {
-    /// The source failed while a commit that was handed in, or a parent, was taken from it: its count
-    /// of faults grew in this call, or stands at the greatest `u64`.
+    /// The source failed while a commit that was handed in, or a parent, was taken from it: its
+    /// count of faults is one more than before, or still the greatest `u64`.
     Source(Simple),
     /// There was no memory, for the call or for the source's answer.
     OutOfMemory,
@@ -43,12 +43,21 @@ impl fmt::Display for Error {
     }
 }
 
+impl From<AllocError> for Error {
+    ghost use Rattle.gix_merge_base.specs.declared.merge_base.error.Error.TheVariants.{OutOfMemory};
+
+    ghost from_gives = { λ _ e. e ≡ OutOfMemory };
+
+    fn from(_refused: AllocError) -> Error {
+        Error::OutOfMemory
+    }
+}
+
 /// The refusal for a commit that was handed in and could not be taken from the source.
 pub(crate) fn commit_refused(error: graph::Error) -> Error
-    ensures text { merge_base_error_text result
-        ≡ refusal_text (codes "could not insert commit into graph") error }
-    ensures cause { (before after : ℕ) → (error ≡ SourceFailed → FaultSeen before after)
-        → HasCause before after result }
+    ensures cause { HasInsertText result }
+    ensures same { is_source_fault {T = Unit {0}} (Err result)
+        ≡ is_graph_fault {T = Unit {0}} (Err error) }
 {
     match error {
         graph::Error::Source => Error::Source(Simple("could not insert commit into graph")),
@@ -58,10 +67,9 @@ pub(crate) fn commit_refused(error: graph::Error) -> Error
 
 /// The refusal for a parent that could not be taken from the source.
 pub(crate) fn parent_refused(error: graph::Error) -> Error
-    ensures text { merge_base_error_text result
-        ≡ refusal_text (codes "could not insert parent commit into graph") error }
-    ensures cause { (before after : ℕ) → (error ≡ SourceFailed → FaultSeen before after)
-        → HasCause before after result }
+    ensures cause { HasInsertText result }
+    ensures same { is_source_fault {T = Unit {0}} (Err result)
+        ≡ is_graph_fault {T = Unit {0}} (Err error) }
 {
     match error {
         graph::Error::Source => Error::Source(Simple("could not insert parent commit into graph")),

@@ -1,6 +1,8 @@
 //! The marks of a commit: from which side it was reached, and what became of it.
 
-ghost use Rattle.std.specs.Prelude.{⊤, [], ◌∷◌, codes};
+ghost use Rattle.std.specs.Prelude.{⊤, ◌≡◌, [], ◌∷◌, codes};
+ghost use Rattle.gix_merge_base.specs.Marks.{marks_of, joined as joined_marks, has_marks, handed_on as marks_handed_on};
+ghost use Rattle.gix_merge_base.specs.Marks.{noted as noted_marks, becomes_result as becomes_one};
 
 use bitflags::{Flag, Flags as BitFlags};
 
@@ -20,6 +22,80 @@ impl Flags {
 
     /// Found as a common ancestor.
     pub const RESULT: Flags = Flags(8);
+
+    /// All but that of a result, which is never handed on.
+    const HANDED_ON: u8 = 7;
+
+    /// Whether it was reached from the first commit.
+    fn is_ours(self) -> bool
+        ensures { result ≡ (marks_of self).one }
+    {
+        self.contains(Flags::COMMIT1)
+    }
+
+    /// Whether it was reached from one of the others.
+    fn is_theirs(self) -> bool
+        ensures { result ≡ (marks_of self).two }
+    {
+        self.contains(Flags::COMMIT2)
+    }
+
+    /// Whether it is stale.
+    pub(crate) fn is_stale(self) -> bool
+        ensures { result ≡ (marks_of self).stale }
+    {
+        self.contains(Flags::STALE)
+    }
+
+    /// Whether it was found as a common ancestor.
+    pub(crate) fn is_result(self) -> bool
+        ensures { result ≡ (marks_of self).result }
+    {
+        self.contains(Flags::RESULT)
+    }
+
+    /// These marks beside `old`, which stays a result where it was one.
+    pub(crate) fn joined(self, old: Flags) -> Flags
+        ensures { marks_of result ≡ joined_marks (marks_of self) (marks_of old) }
+    {
+        Flags((Flags::HANDED_ON & self.0) | old.0)
+    }
+
+    /// Whether each of the marks is here, but for that of a result.
+    pub(crate) fn has(self, marks: Flags) -> bool
+        ensures { result ≡ has_marks (marks_of self) (marks_of marks) }
+    {
+        (!marks.is_ours() || self.is_ours())
+            && (!marks.is_theirs() || self.is_theirs())
+            && (!marks.is_stale() || self.is_stale())
+    }
+
+    /// What a commit with these marks hands on to its parents: what lies below a commit that both
+    /// sides reach is stale.
+    pub(crate) fn handed_on(self) -> Flags
+        ensures { marks_of result ≡ marks_handed_on (marks_of self) }
+    {
+        let marks = Flags::HANDED_ON & self.0;
+        if self.is_ours() && self.is_theirs() {
+            Flags(marks | Flags::STALE.0)
+        } else {
+            Flags(marks)
+        }
+    }
+
+    /// Whether a commit with these marks becomes a result.
+    pub(crate) fn becomes_result(self) -> bool
+        ensures { result ≡ becomes_one (marks_of self) }
+    {
+        self.is_ours() && self.is_theirs() && !self.is_stale() && !self.is_result()
+    }
+
+    /// The marks, and that of a result.
+    pub(crate) fn noted(self) -> Flags
+        ensures { marks_of result ≡ noted_marks (marks_of self) }
+    {
+        Flags(Flags::RESULT.0 | self.0)
+    }
 }
 
 const NAMED: [Flag<Flags>; 4] = [

@@ -1,27 +1,27 @@
 //! The best commit that all of several heads go back to.
 
-ghost use Rattle.std.specs.Prelude.{◌≡◌, ◌≤◌, Some, IfOk, OnOk, Ok, IfErr, IsTrue, false};
+ghost use Rattle.std.specs.Prelude.{◌≡◌, Some, IfOk, OnOk, Ok, IfErr, IsTrue, false};
 ghost use Rattle.std.specs.List.{list_all};
-ghost use Rattle.std.specs.Ordering.{is_gt};
-ghost use Rattle.gix_base.specs.declared.hash.ObjectId.{ObjectId};
-ghost use Rattle.gix_revwalk.specs.History.{same_id, IsAncestorOfAll, IsAcyclic, GenerationsNeverRise};
+ghost use Rattle.gix_revwalk.specs.History.{same_id, IsAcyclic, GenerationsNeverRise};
+ghost use Rattle.gix_revwalk.specs.Faults.{count_after};
+ghost use Rattle.gix_revwalk.specs.Walks.{KeepsHeld};
 ghost use Rattle.gix_merge_base.specs.Octopus.{IsOctopusBase, IsCommonToAll};
-ghost use Rattle.gix_merge_base.specs.OctopusSteps.{AddsBases, CoversEach, AreUnreached, AreOctopusBases, IsStep, IsBestOf, candidate_at, preference, better_of};
-ghost use Rattle.gix_merge_base.specs.Refusals.{HasCause};
+ghost use Rattle.gix_merge_base.specs.OctopusSteps.{AddsBases, CoversEach, IsStep};
+ghost use Rattle.gix_merge_base.specs.OctopusSteps.{AreOctopusBases, IsBestOf, candidate_at};
+ghost use Rattle.gix_merge_base.specs.Refusals.{HasInsertText, is_source_fault};
+ghost use Rattle.gix_merge_base.specs.AfterCall.{AfterCall};
 
 use crate::merge_base::error::{Error, commit_refused};
 use crate::merge_base::flags::Flags;
-use crate::merge_base::function::{merge_base, without};
-use crate::merge_base::gather::{reached_from, take_in};
+use crate::merge_base::function::merge_base;
+use crate::merge_base::gather::take_in;
 use crate::merge_base::gen_then_time::GenThenTime;
-use bitflags::Flags as BitFlags;
+use crate::merge_base::reduction::reduce;
 use gix_base::hash::ObjectId;
-use gix_revwalk::graph::Graph;
-use gix_revwalk::graph::commit::Commit;
-use gix_revwalk::graph::find::Find;
+use gix_revwalk::graph::{Commit, Find, Graph};
 use gix_revwalk::seen::Seen;
 use std::alloc::Allocator;
-use std::cmp::Ordering;
+use std::cmp::Reverse;
 
 /// Whether each of `ids` is `id`.
 fn all_are(ids: &[ObjectId], id: ObjectId) -> bool
@@ -40,17 +40,13 @@ fn add_bases<S: Find, A: Allocator + Copy>(
 ) -> Result<(), Error>
     ensures added { IsAcyclic (S.history graph.old.source)
         → OnOk result (AddsBases (S.history graph.old.source) base other all.old all.new) }
-    ensures history { S.history graph.new.source ≡ S.history graph.old.source }
-    ensures cause { IfErr result
-        (HasCause (S.fault_count graph.old.source) (S.fault_count graph.new.source)) }
-    ensures count { S.fault_count graph.old.source ≤ S.fault_count graph.new.source }
+    ensures after { AfterCall S.history S.fault_count graph.old graph.new result }
 {
     let Some(found) = merge_base(alloc, base, &[other], graph)? else {
         return Ok(());
     };
-    if all.add(found.head).is_err() || all.add_all(&found.tail).is_err() {
-        return Err(Error::OutOfMemory);
-    }
+    all.add(found.head)?;
+    all.add_all(&found.tail)?;
     Ok(())
 }
 
@@ -63,10 +59,7 @@ fn bases_with<S: Find, A: Allocator + Copy>(
 ) -> Result<Seen<A>, Error>
     ensures all { IsAcyclic (S.history graph.old.source)
         → IfOk result (CoversEach (S.history graph.old.source) bases.now other) }
-    ensures history { S.history graph.new.source ≡ S.history graph.old.source }
-    ensures cause { IfErr result
-        (HasCause (S.fault_count graph.old.source) (S.fault_count graph.new.source)) }
-    ensures count { S.fault_count graph.old.source ≤ S.fault_count graph.new.source }
+    ensures after { AfterCall S.history S.fault_count graph.old graph.new result }
 {
     let mut all = Seen::new(alloc);
     for base in bases {
@@ -75,92 +68,43 @@ fn bases_with<S: Find, A: Allocator + Copy>(
     Ok(all)
 }
 
-/// The ids that no other one reaches.
-fn unreached<S: Find, A: Allocator + Copy>(
-    alloc: A,
-    ids: Seen<A>,
-    graph: &mut Graph<S, Commit<Flags, A>, A>,
-) -> Result<Vec<ObjectId, A>, Error>
-    ensures kept { IsAcyclic (S.history graph.old.source)
-        → IfOk result (λ kept. AreUnreached (S.history graph.old.source) ids kept.items) }
-    ensures history { S.history graph.new.source ≡ S.history graph.old.source }
-    ensures cause { IfErr result
-        (HasCause (S.fault_count graph.old.source) (S.fault_count graph.new.source)) }
-    ensures count { S.fault_count graph.old.source ≤ S.fault_count graph.new.source }
-{
-    let reached = reached_from(alloc, ids.as_slice(), graph)?;
-    Ok(without(ids.into_vec(), reached))
-}
+/// What decides which commit is answered, the greatest first: generation, time, and the smaller id.
+type Candidate = (GenThenTime, Reverse<ObjectId>);
 
-/// A commit that may be answered, with its key.
-#[derive(Clone, Copy)]
-struct Candidate {
-    key: GenThenTime,
-    id: ObjectId,
-}
-
-/// The key of a commit, which is taken in from the source unless it is held.
+/// The commit under `id`, which is taken in from the source unless it is held; `None` where the
+/// source lacks it.
 fn candidate_of<S: Find, A: Allocator + Copy>(
     alloc: A,
     id: ObjectId,
     graph: &mut Graph<S, Commit<Flags, A>, A>,
-) -> Result<Candidate, Error>
+) -> Result<Option<Candidate>, Error>
     ensures candidate { IfOk result (λ c. c ≡ candidate_at (S.history graph.old.source) id) }
-    ensures history { S.history graph.new.source ≡ S.history graph.old.source }
-    ensures cause { IfErr result
-        (HasCause (S.fault_count graph.old.source) (S.fault_count graph.new.source)) }
-    ensures count { S.fault_count graph.old.source ≤ S.fault_count graph.new.source }
+    ensures after { AfterCall S.history S.fault_count graph.old graph.new result }
 {
     if let Err(error) = take_in(alloc, id, graph) {
         return Err(commit_refused(error));
     }
-    let key = match graph.get(&id) {
-        Some(commit) => GenThenTime::from(commit),
-        None => GenThenTime {
-            generation: u32::MAX,
-            time: 0,
-        },
-    };
-    Ok(Candidate { key, id })
-}
-
-/// Whether `a` is chosen after `b`: the greater generation, then the greater time, then the
-/// smaller id comes first.
-fn comes_after(a: &Candidate, b: &Candidate) -> bool
-    ensures { result ≡ is_gt (preference a.now b.now) }
-{
-    b.key.cmp(&a.key).then(a.id.cmp(&b.id)) == Ordering::Greater
-}
-
-/// The one of the two that is chosen; `next` where there was none.
-fn better(best: Option<Candidate>, next: Candidate) -> Candidate
-    ensures { result ≡ better_of best next }
-{
-    match best {
-        Some(chosen) if !comes_after(&chosen, &next) => chosen,
-        _ => next,
+    match graph.get(&id) {
+        Some(commit) => Ok(Some((GenThenTime::from(commit), Reverse(id)))),
+        None => Ok(None),
     }
 }
 
-/// The one of `ids` that is chosen before all others.
+/// The one of `ids` that is chosen before all others; `None` where the source has none of them.
 fn best_of<S: Find, A: Allocator + Copy>(
     alloc: A,
     ids: &[ObjectId],
     graph: &mut Graph<S, Commit<Flags, A>, A>,
 ) -> Result<Option<ObjectId>, Error>
     ensures best { IfOk result (IsBestOf (S.history graph.old.source) ids.now) }
-    ensures history { S.history graph.new.source ≡ S.history graph.old.source }
-    ensures cause { IfErr result
-        (HasCause (S.fault_count graph.old.source) (S.fault_count graph.new.source)) }
-    ensures count { S.fault_count graph.old.source ≤ S.fault_count graph.new.source }
+    ensures after { AfterCall S.history S.fault_count graph.old graph.new result }
 {
     let mut best: Option<Candidate> = None;
     for id in ids {
-        let next = candidate_of(alloc, *id, graph)?;
-        best = Some(better(best, next));
+        best = best.max(candidate_of(alloc, *id, graph)?);
     }
     match best {
-        Some(chosen) => Ok(Some(chosen.id)),
+        Some((_, Reverse(id))) => Ok(Some(id)),
         None => Ok(None),
     }
 }
@@ -174,16 +118,15 @@ fn step<S: Find, A: Allocator + Copy>(
 ) -> Result<Vec<ObjectId, A>, Error>
     ensures step { IsAcyclic (S.history graph.old.source)
         → IfOk result (λ left. IsStep (S.history graph.old.source) bases.now other left.items) }
-    ensures history { S.history graph.new.source ≡ S.history graph.old.source }
-    ensures cause { IfErr result
-        (HasCause (S.fault_count graph.old.source) (S.fault_count graph.new.source)) }
-    ensures count { S.fault_count graph.old.source ≤ S.fault_count graph.new.source }
+    ensures after { AfterCall S.history S.fault_count graph.old graph.new result }
 {
     let found = bases_with(alloc, bases, other, graph)?;
-    unreached(alloc, found, graph)
+    let left = reduce(alloc, found.as_slice(), graph)?;
+    Ok(left)
 }
 
-/// The maximal ones among the ancestors common to `first` and all of `others`.
+/// Ancestors common to `first` and all of `others`, with all maximal ones, and these alone where no
+/// parent has a greater generation than its child.
 fn octopus_bases<S: Find, A: Allocator + Copy>(
     alloc: A,
     first: ObjectId,
@@ -194,15 +137,9 @@ fn octopus_bases<S: Find, A: Allocator + Copy>(
         → list_all (same_id first) others.now ≡ false
         → IfOk result (λ left.
         AreOctopusBases (S.history graph.old.source) first others.now left.items) }
-    ensures history { S.history graph.new.source ≡ S.history graph.old.source }
-    ensures cause { IfErr result
-        (HasCause (S.fault_count graph.old.source) (S.fault_count graph.new.source)) }
-    ensures count { S.fault_count graph.old.source ≤ S.fault_count graph.new.source }
+    ensures after { AfterCall S.history S.fault_count graph.old graph.new result }
 {
-    let mut left = Vec::new(alloc);
-    if left.push(first).is_err() {
-        return Err(Error::OutOfMemory);
-    }
+    let mut left = [first].to_vec(alloc)?;
     for other in others {
         left = step(alloc, &left, *other, graph)?;
     }
@@ -216,12 +153,18 @@ fn octopus_bases<S: Find, A: Allocator + Copy>(
 /// are common to all the ids: the one with the greatest generation, then the greatest time, then
 /// the smaller id; `None` where nothing is common. An id that the source lacks has no ancestors.
 ///
-/// Where a parent's generation exceeds its child's, the answer is a commit common to all.
+/// The source must have no cycles, and no parent may have a greater generation than its child, an
+/// absent one counting as the greatest. Where a parent has one, the answer is still a commit common
+/// to all, and `None` only where nothing is. With cycles the call returns, and its answer has no
+/// promise.
+///
+/// What the graph held it still holds, refused or not; the data beside it may have changed.
 ///
 /// # Errors
 ///
-/// [`Error::Source`] only where the source failed in this call, or its count of faults is full;
-/// [`Error::OutOfMemory`] where there was no memory. The graph can be used again after either.
+/// [`Error::Source`] where the source failed: its count of faults is then one more than before, or
+/// still the greatest `u64`, and after every other answer it is as it was. [`Error::OutOfMemory`]
+/// where there was no memory. The graph can be used again after either.
 pub fn octopus<S: Find, A: Allocator + Copy>(
     alloc: A,
     first: ObjectId,
@@ -236,13 +179,14 @@ pub fn octopus<S: Find, A: Allocator + Copy>(
         → IfOk result (IsCommonToAll (S.history graph.old.source) first others.now) }
 
     // Nothing is looked up.
-    ensures plain { IsTrue (list_all (same_id first) others.now)
+    ensures trivial { IsTrue (list_all (same_id first) others.now)
         → (result ≡ Ok (Some first)) × (graph.new ≡ graph.old) }
 
     ensures history { S.history graph.new.source ≡ S.history graph.old.source }
-    ensures cause { IfErr result
-        (HasCause (S.fault_count graph.old.source) (S.fault_count graph.new.source)) }
-    ensures count { S.fault_count graph.old.source ≤ S.fault_count graph.new.source }
+    ensures cause { IfErr result HasInsertText }
+    ensures count { S.fault_count graph.new.source
+        ≡ count_after (is_source_fault result) (S.fault_count graph.old.source) }
+    ensures held { KeepsHeld graph.old graph.new }
 {
     if all_are(others, first) {
         return Ok(Some(first));

@@ -1,7 +1,7 @@
 //! Lists of calls on one graph.
 
-ghost use Rattle.std.specs.Prelude.{◌≡◌, ◌≤◌, length, IfOk, IfErr};
-ghost use Rattle.gix_revwalk.specs.Calls.{AreCalls, FewRefused};
+ghost use Rattle.std.specs.Prelude.{◌≡◌, IfOk, IfErr};
+ghost use Rattle.gix_revwalk.specs.Calls.{AreCalls, count_after_answers};
 ghost use Rattle.gix_merge_base.specs.Queries.{AreRight, IsCall, is_refused_by_source};
 
 use crate::merge_base::error::Error;
@@ -10,9 +10,7 @@ use crate::merge_base::function::merge_base;
 use crate::merge_base::heads::octopus;
 use gix_base::error::NonEmpty;
 use gix_base::hash::ObjectId;
-use gix_revwalk::graph::Graph;
-use gix_revwalk::graph::commit::Commit;
-use gix_revwalk::graph::find::Find;
+use gix_revwalk::graph::{Commit, Find, Graph};
 use std::alloc::{Allocator, Global};
 
 /// A call of [`merge_base`] or of [`octopus`].
@@ -21,12 +19,16 @@ use std::alloc::{Allocator, Global};
 pub enum Query<A: Allocator = Global> {
     /// The merge bases of `first` and a hypothetical merge of `others`.
     MergeBase {
+        /// The commit whose ancestors they are.
         first: ObjectId,
+        /// The commits of which at least one has them as an ancestor.
         others: Vec<ObjectId, A>,
     },
     /// The octopus base of `first` and `others` together.
     Octopus {
+        /// One of the commits that have it as an ancestor.
         first: ObjectId,
+        /// The other ones.
         others: Vec<ObjectId, A>,
     },
 }
@@ -63,10 +65,12 @@ fn answer_to<S: Find, A: Allocator + Copy>(
     }
 }
 
-/// Makes the calls one after another on one graph: one answer for each query, in order.
+/// Makes the calls one after another on one graph: one answer for each query, in order. Each is what
+/// [`merge_base`] or [`octopus`] promises of its call, under their premises: a source without cycles,
+/// and no parent with a greater generation than its child.
 ///
-/// A refused query does not end the list. At most as many answers are refused for the source as
-/// its count of faults grew, unless the count ends full.
+/// A refused query does not end the list. The count of faults grows by one for each answer that is
+/// refused for the source, up to the greatest `u64`; what the graph held it still holds.
 ///
 /// # Errors
 ///
@@ -79,18 +83,14 @@ pub fn run<S: Find, A: Allocator + Copy>(
 ) -> Result<Vec<Answer<A>, A>, Error>
     ensures answers { IfOk result (λ answers.
         AreRight (S.history graph.old.source) queries.now answers.items) }
-    ensures one_each { IfOk result (λ answers. length answers.items ≡ length queries.now) }
     ensures calls { IfOk result (λ answers.
         AreCalls (IsCall S.history S.fault_count) queries.now answers.items graph.old graph.new) }
-    ensures few_refused { IfOk result (λ answers. FewRefused is_refused_by_source
-        (S.fault_count graph.old.source) (S.fault_count graph.new.source) answers.items) }
+    ensures count { IfOk result (λ answers. S.fault_count graph.new.source
+        ≡ count_after_answers is_refused_by_source answers.items (S.fault_count graph.old.source)) }
     ensures room { IfErr result (λ error. (error ≡ Error.OutOfMemory) × (graph.new ≡ graph.old)) }
     ensures history { S.history graph.new.source ≡ S.history graph.old.source }
-    ensures count { S.fault_count graph.old.source ≤ S.fault_count graph.new.source }
 {
-    let Ok(mut answers) = Vec::with_capacity(alloc, queries.len()) else {
-        return Err(Error::OutOfMemory);
-    };
+    let mut answers = Vec::with_capacity(alloc, queries.len())?;
     for query in queries {
         answers.push_reserved(answer_to(alloc, graph, query));
     }

@@ -1,14 +1,14 @@
 //! Held commits, and a graph of them: what was taken from the source, with data beside each.
 
-ghost use Rattle.std.specs.Prelude.{◌≡◌, ◌≤◌, Some, IfSome, IfOk, OnOk, OnErr, IsTrue, is_some};
+ghost use Rattle.std.specs.Prelude.{◌≡◌, IfOk, IsOkAnd, IsTrue, is_some, map};
 ghost use Rattle.std.specs.Option.{option_copied_mut, option_map};
 ghost use Rattle.std.specs.Borrow.{sem};
+ghost use Rattle.gix_revwalk.specs.History.{entry_at};
 ghost use Rattle.gix_revwalk.specs.Graph.{held_at, held_len};
-ghost use Rattle.gix_revwalk.specs.History.{entry_at, parents_in};
-ghost use Rattle.gix_revwalk.specs.Faults.{FaultSeen, faults_after};
+ghost use Rattle.gix_revwalk.specs.CommitNodes.{given};
 
-use crate::graph::find::{Find, FindFault, SourceCommit};
-use crate::graph::{Error, Graph, Held};
+use crate::graph::{Error, Find, Graph, Held, Node, SourceCommit};
+use crate::numbers;
 use gix_base::hash::ObjectId;
 use std::alloc::{Allocator, Global};
 
@@ -20,7 +20,7 @@ pub struct Commit<D: Drop, A: Allocator = Global> {
     parents: Vec<ObjectId, A>,
     time: i64,
     generation: Option<u32>,
-    data: D,
+    pub(crate) data: D,
 }
 
 impl<D: Drop, A: Allocator> Held for Commit<D, A> {
@@ -34,7 +34,7 @@ impl<D: Drop, A: Allocator> Commit<D, A> {
     ghost use Rattle.gix_revwalk.specs.Held.{entry_of};
 
     /// What a source gave, with data beside it.
-    fn copy_of(found: SourceCommit<A>, new: D) -> Self
+    pub(crate) fn copy_of(found: SourceCommit<A>, new: D) -> Self
         ensures entry { copied_entry result ≡ entry_of found }
         ensures payload { data_of result ≡ new }
     {
@@ -80,42 +80,19 @@ impl<D: Drop, A: Allocator> Commit<D, A> {
     }
 }
 
-impl<S: Find, D: Drop, A: Allocator + Copy> Graph<S, Commit<D, A>, A> {
-    ghost use Rattle.gix_revwalk.specs.Lends.{lends_data, rests_full, AfterAsking, graph_of, id_of};
-    ghost use Rattle.gix_revwalk.specs.Data.{TakesIn, SameData, data_at, len_after};
-    ghost use Rattle.gix_base.specs.declared.hash.ObjectId.{ObjectId};
-
-    /// Takes a commit in from the source, unless it is held. Whether the source has it.
-    fn take_in(&mut self, alloc: A, id: ObjectId, new: D) -> Result<bool, Error>
-        ensures history { S.history self.new.source ≡ S.history self.old.source }
-        ensures has { IfOk result (λ b. b ≡ is_some (entry_at (S.history self.old.source) id)) }
-        ensures held { IfOk result (λ b. b ≡ is_some (held_at self.new id)) }
-        ensures taken { OnOk result (TakesIn (S.history self.old.source) self.old id new self.new) }
-        ensures fault { result ≡ Err Error.Source
-            → FaultSeen (S.fault_count self.old.source) (S.fault_count self.new.source) }
-        ensures refused { OnErr result (SameData self.old self.new) }
-        ensures count { S.fault_count self.old.source ≤ S.fault_count self.new.source }
-        ensures len { OnOk result
-            (held_len self.new ≡ len_after (S.history self.old.source) self.old id) }
-        ensures refused_len { OnErr result (held_len self.new ≡ held_len self.old) }
-        ensures faults { S.fault_count self.new.source
-            ≡ faults_after result (S.fault_count self.old.source) }
-    {
-        if self.held.contains_key(&id) {
-            return Ok(true);
-        }
-        match self.source.find(alloc, id) {
-            Ok(Some(found)) => {
-                match self.held.insert(id, Commit::copy_of(found, new)) {
-                    Ok(_) => Ok(true),
-                    Err(_) => Err(Error::OutOfMemory),
-                }
-            }
-            Ok(None) => Ok(false),
-            Err(FindFault::Failed) => Err(Error::Source),
-            Err(FindFault::OutOfMemory) => Err(Error::OutOfMemory),
-        }
+/// Gives the commit of each node the data `value`.
+fn give_all<D: Drop + Copy, A: Allocator>(nodes: &mut [Node<Commit<D, A>>], value: D)
+    ensures { nodes.new ≡ map (given value) nodes.old }
+{
+    for node in nodes.iter_mut() {
+        node.value.data = value;
     }
+}
+
+impl<S: Find, D: Drop, A: Allocator + Copy> Graph<S, Commit<D, A>, A> {
+    ghost use Rattle.gix_revwalk.specs.Lends.{lends_data, rests_full, graph_of, id_of};
+    ghost use Rattle.gix_revwalk.specs.Data.{TakesIn, data_at, len_after};
+    ghost use Rattle.gix_base.specs.declared.hash.ObjectId.{ObjectId};
 
     /// The place of the commit under `id`, which is taken from the source with data `new` unless it
     /// is held already. [`FullCommit::data`] of the answer lends its data, and is `None` where the
@@ -139,10 +116,15 @@ impl<S: Find, D: Drop, A: Allocator + Copy> Graph<S, Commit<D, A>, A> {
             (λ p. (graph_of p).ghost_name ≡ self.entry.ghost_name) }
         ensures id { IfOk result (λ p. id_of p ≡ id) }
 
-        // The graph in the place: the source has answered, and the commit is held where there is one.
-        ensures asked { IfOk result
-            (λ p. AfterAsking S.row D.row A.row S.Find A.Allocator self.old (graph_of p).now) }
-        ensures faults { IfOk result
+        // A held commit is not asked for.
+        ensures held { IsTrue (is_some (held_at self.old id))
+            → IsOkAnd result (λ p. (graph_of p).now ≡ self.old) }
+
+        // The graph in the place: the source has answered, and the commit is held where it has
+        // one.
+        ensures history { IfOk result
+            (λ p. S.history (graph_of p).now.source ≡ S.history self.old.source) }
+        ensures count { IfOk result
             (λ p. S.fault_count (graph_of p).now.source ≡ S.fault_count self.old.source) }
         ensures found { IfOk result
             (λ p. is_some (held_at (graph_of p).now id)
@@ -153,7 +135,7 @@ impl<S: Find, D: Drop, A: Allocator + Copy> Graph<S, Commit<D, A>, A> {
             (λ p. held_len (graph_of p).now
             ≡ len_after (S.history self.old.source) self.old id) }
     {
-        self.take_in(alloc, id, new)?;
+        numbers::take(self, alloc, id, new)?;
         Ok(FullCommit { graph: self, id })
     }
 
@@ -166,10 +148,7 @@ impl<S: Find, D: Drop, A: Allocator + Copy> Graph<S, Commit<D, A>, A> {
             → data_at self.new q ≡ option_map (λ _. value) (held_at self.old q) }
         ensures len { held_len self.new ≡ held_len self.old }
     {
-        self.held.retain(|_, commit| {
-            commit.data = value;
-            true
-        });
+        give_all(&mut self.nodes, value);
     }
 
     /// The data of a held commit; `None` where the id is not held.
@@ -178,17 +157,18 @@ impl<S: Find, D: Drop, A: Allocator + Copy> Graph<S, Commit<D, A>, A> {
             (lends_data S.row D.row A.row S.Find A.Allocator self.entry id.now result) }
         ensures value { option_copied_mut result ≡ data_at self.old id.now }
     {
-        match self.held.get_mut(id) {
-            Some(commit) => Some(&mut commit.data),
-            None => None,
-        }
+        let Some(number) = numbers::number_of(self, id) else {
+            return None;
+        };
+        let node = &mut self.nodes[number.place()];
+        Some(&mut node.value.data)
     }
 }
 
 /// The place in a graph of a commit that was asked for ([`Graph::get_or_insert_full_commit`]).
 ///
-/// A caller that has written through [`FullCommit::data`] knows what the graph is then, which it could
-/// not know if the `Option<&mut D>` itself came inside a `Result`.
+/// A caller that has written through [`FullCommit::data`] knows what the graph is then, which it
+/// could not know if the `Option<&mut D>` itself came inside a `Result`.
 #[derive(Drop)]
 pub struct FullCommit<'a, S: Find, D: Drop, A: Allocator> {
     graph: &'a mut Graph<S, Commit<D, A>, A>,

@@ -1,19 +1,18 @@
 //! A graph of numbers, as the marks of `describe` are.
 
-ghost use Rattle.std.specs.Prelude.{◌≡◌, ◌≤◌, ◌+◌, IfOk, IfErr, OnOk, OnErr, Some, Err};
+ghost use Rattle.std.specs.Prelude.{◌≡◌, ◌+◌, IfOk, IfErr, OnOk, OnErr, Some};
 ghost use Rattle.std.specs.Prelude.{is_some, if◌then◌else◌};
 ghost use Rattle.std.specs.Option.{option_copied_mut, option_map};
 ghost use Rattle.std.specs.Borrow.{sem};
-ghost use Rattle.gix_revwalk.specs.Faults.{FaultSeen, faults_after};
-ghost use Rattle.gix_revwalk.specs.Followed.{timed, followed_at};
-ghost use Rattle.gix_revwalk.specs.Graph.{held_at, held_len};
-ghost use Rattle.gix_revwalk.specs.Held.{entry_of};
-ghost use Rattle.gix_revwalk.specs.History.{entry_at, same_id};
-ghost use Rattle.gix_revwalk.specs.declared.graph.Error.TheVariants.{OutOfMemory};
 ghost use Rattle.gix_base.specs.declared.hash.ObjectId.{ObjectId};
+ghost use Rattle.gix_revwalk.specs.Faults.{count_after, is_source_fault};
+ghost use Rattle.gix_revwalk.specs.History.{same_id};
+ghost use Rattle.gix_revwalk.specs.Graph.{held_at, held_len};
+ghost use Rattle.gix_revwalk.specs.Followed.{timed, followed_at};
+ghost use Rattle.gix_revwalk.specs.declared.graph.Error.TheVariants.{OutOfMemory};
 
-use crate::graph::find::{Find, FindFault, SourceCommit};
-use crate::graph::{Error, Graph, Held};
+use crate::graph::{Error, Find, Graph, Held};
+use crate::numbers;
 use gix_base::hash::ObjectId;
 use std::alloc::Allocator;
 
@@ -40,10 +39,11 @@ impl<S: Find, A: Allocator + Copy> Graph<S, u32, A> {
         ensures refused { OnErr result (self.new ≡ self.old) }
         ensures cause { IfErr result (λ e. e ≡ OutOfMemory) }
     {
-        let Ok(old) = self.held.insert(id, value) else {
-            return Err(Error::OutOfMemory);
-        };
-        Ok(old)
+        if let Some(number) = numbers::number_of(self, &id) {
+            return Ok(Some(numbers::put(self, number, value)));
+        }
+        numbers::add(self, id, value)?;
+        Ok(None)
     }
 
     /// The held value; `None` where the id is not held.
@@ -52,26 +52,11 @@ impl<S: Find, A: Allocator + Copy> Graph<S, u32, A> {
             (lends_mark S.row A.row S.Find A.Allocator self.entry id.now result) }
         ensures value { option_copied_mut result ≡ held_at self.old id.now }
     {
-        self.held.get_mut(id)
-    }
-
-    /// What the source has under an id.
-    fn ask(&mut self, alloc: A, id: ObjectId) -> Result<Option<SourceCommit<A>>, Error>
-        ensures held { self.new.held ≡ self.old.held }
-        ensures history { S.history self.new.source ≡ S.history self.old.source }
-        ensures found { IfOk result
-            (λ found. option_map entry_of found ≡ entry_at (S.history self.old.source) id) }
-        ensures fault { result ≡ Err Error.Source
-            → FaultSeen (S.fault_count self.old.source) (S.fault_count self.new.source) }
-        ensures count { S.fault_count self.old.source ≤ S.fault_count self.new.source }
-        ensures faults { S.fault_count self.new.source
-            ≡ faults_after result (S.fault_count self.old.source) }
-    {
-        match self.source.find(alloc, id) {
-            Ok(found) => Ok(found),
-            Err(FindFault::Failed) => Err(Error::Source),
-            Err(FindFault::OutOfMemory) => Err(Error::OutOfMemory),
-        }
+        let Some(number) = numbers::number_of(self, id) else {
+            return None;
+        };
+        let node = &mut self.nodes[number.place()];
+        Some(&mut node.value)
     }
 
     /// Those of the parents that the source has, with their times.
@@ -84,18 +69,13 @@ impl<S: Find, A: Allocator + Copy> Graph<S, u32, A> {
         ensures history { S.history self.new.source ≡ S.history self.old.source }
         ensures timed { IfOk result
             (λ v. v.items ≡ timed (S.history self.old.source) parents.now) }
-        ensures fault { result ≡ Err Error.Source
-            → FaultSeen (S.fault_count self.old.source) (S.fault_count self.new.source) }
-        ensures count { S.fault_count self.old.source ≤ S.fault_count self.new.source }
-        ensures faults { S.fault_count self.new.source
-            ≡ faults_after result (S.fault_count self.old.source) }
+        ensures count { S.fault_count self.new.source
+            ≡ count_after (is_source_fault result) (S.fault_count self.old.source) }
     {
         let mut all = Vec::new(alloc);
         for parent in parents {
             if let Some(found) = self.ask(alloc, *parent)? {
-                if all.push((*parent, found.time)).is_err() {
-                    return Err(Error::OutOfMemory);
-                }
+                all.push((*parent, found.time))?;
             }
         }
         Ok(all)
@@ -121,11 +101,8 @@ impl<S: Find, A: Allocator + Copy> Graph<S, u32, A> {
         ensures history { S.history self.new.source ≡ S.history self.old.source }
         ensures parents { IfOk result (λ found. option_map (λ v. v.items) found
             ≡ followed_at first_parent (S.history self.old.source) id) }
-        ensures fault { result ≡ Err Error.Source
-            → FaultSeen (S.fault_count self.old.source) (S.fault_count self.new.source) }
-        ensures count { S.fault_count self.old.source ≤ S.fault_count self.new.source }
-        ensures faults { S.fault_count self.new.source
-            ≡ faults_after result (S.fault_count self.old.source) }
+        ensures count { S.fault_count self.new.source
+            ≡ count_after (is_source_fault result) (S.fault_count self.old.source) }
     {
         let Some(found) = self.ask(alloc, id)? else {
             return Ok(None);

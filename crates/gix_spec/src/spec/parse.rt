@@ -7,10 +7,17 @@ use std::fmt;
 use thiserror::Error;
 
 pub(crate) mod calls;
+pub(crate) mod colon_form;
 pub(crate) mod context;
+pub(crate) mod cut;
 pub mod delegate;
+pub(crate) mod describe_text;
 pub(crate) mod fault;
 pub(crate) mod function;
+pub(crate) mod name;
+pub(crate) mod number;
+pub(crate) mod part;
+pub(crate) mod step;
 
 pub use delegate::Delegate;
 pub use fault::Fault;

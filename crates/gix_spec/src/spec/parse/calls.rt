@@ -1,19 +1,19 @@
 //! The calls that the pieces of a text mean.
 
 ghost use Rattle.std.specs.Prelude.{◌≡◌, Some, None, [], ◌∷◌, option_map};
-ghost use Rattle.gix_base.specs.Prefix.{prefix_text};
-ghost use Rattle.gix_spec.specs.Call.{hint_of};
-ghost use Rattle.gix_spec.specs.Pieces.{exclude, head, name, range, finish};
-ghost use Rattle.gix_spec.specs.Context.{context_of};
-ghost use Rattle.gix_spec.specs.Performs.{Performs, Demanded};
+ghost use Rattle.gix_spec.specs.Pieces.{head, name, range};
+ghost use Rattle.gix_spec.specs.Context.{context_of, call_of};
+ghost use Rattle.gix_spec.specs.Found.{piece_of, attempt_found, slice_of};
+ghost use Rattle.gix_spec.specs.Trees.{repeat, closing_calls, without_parent_calls};
+ghost use Rattle.gix_spec.specs.Performs.{Performs, Asks, Demanded};
 
 use super::Error;
 use super::context::{Anchor, Context};
-use super::delegate::{Delegate, PrefixHint};
+use super::delegate::{Delegate, PeelTo, Traversal};
 use super::fault::Fault;
+use super::part::{Attempt, Piece};
 use crate::spec::Kind;
 use gix_base::error::Exn;
-use gix_base::hash::Prefix;
 
 /// A fault of the text itself.
 pub(crate) fn fault<'a>(fault: Fault, input: Option<&'a [u8]>) -> Error<'a>
@@ -33,7 +33,7 @@ fn demanded<'a>(
     fault: Fault,
     input: Option<&'a [u8]>,
 ) -> Result<(), Error<'a>>
-    ensures { Demanded answer fault (option_map (λ x. x.now) input.entry) result }
+    ensures { Demanded answer fault (slice_of input.entry) result }
 {
     match answer {
         Ok(()) => Ok(()),
@@ -47,23 +47,8 @@ fn demanded<'a>(
     }
 }
 
-/// The exclude mark.
-pub(crate) fn call_exclude<'a, D: Delegate>(
-    context: &mut Context<'a>,
-    delegate: &mut D,
-) -> Result<(), Error<'a>>
-    ensures { Performs D.step (exclude ∷ [])
-        delegate.old (context_of context.old) delegate.new (context_of context.new) result }
-{
-    let kind = Kind::ExcludeReachable;
-    demanded(delegate.kind(kind), Fault::KindRefused(kind), None)
-}
-
-/// HEAD, written or implied.
-pub(crate) fn call_head<'a, D: Delegate>(
-    context: &mut Context<'a>,
-    delegate: &mut D,
-) -> Result<(), Error<'a>>
+// HEAD, written or implied.
+fn call_head<'a, D: Delegate>(context: &mut Context<'a>, delegate: &mut D) -> Result<(), Error<'a>>
     ensures { Performs D.step (head ∷ [])
         delegate.old (context_of context.old) delegate.new (context_of context.new) result }
 {
@@ -73,19 +58,34 @@ pub(crate) fn call_head<'a, D: Delegate>(
     Ok(())
 }
 
-/// A name that can be the prefix of an id: its prefix, and where that is refused the reference.
-pub(crate) fn call_prefix<'a, D: Delegate>(
+// A name that can be no prefix of an id.
+fn call_reference<'a, D: Delegate>(
     text: &'a [u8],
     whole: &'a [u8],
-    prefix: Prefix,
-    hint: Option<PrefixHint<'a>>,
     context: &mut Context<'a>,
     delegate: &mut D,
 ) -> Result<(), Error<'a>>
-    ensures { Performs D.step
-        (name text.now whole.now (Some (prefix_text prefix, option_map hint_of hint.entry)) ∷ [])
+    ensures { Performs D.step (name text.now whole.now None ∷ [])
         delegate.old (context_of context.old) delegate.new (context_of context.new) result }
 {
+    demanded(delegate.find_ref(text), Fault::NameRefused, Some(whole))?;
+    context.anchor = Some(Anchor::Reference(text));
+    context.own_prefix = false;
+    Ok(())
+}
+
+// A name that can be the prefix of an id: its prefix, and where that is refused the reference.
+fn call_prefix<'a, D: Delegate>(
+    text: &'a [u8],
+    whole: &'a [u8],
+    attempt: Attempt<'a>,
+    context: &mut Context<'a>,
+    delegate: &mut D,
+) -> Result<(), Error<'a>>
+    ensures { Performs D.step (name text.now whole.now (Some (attempt_found attempt.entry)) ∷ [])
+        delegate.old (context_of context.old) delegate.new (context_of context.new) result }
+{
+    let Attempt { prefix, hint } = attempt;
     let Err(first) = delegate.disambiguate_prefix(prefix, hint) else {
         context.anchor = Some(Anchor::ByPrefix(prefix, hint));
         context.own_prefix = true;
@@ -110,8 +110,8 @@ pub(crate) fn call_prefix<'a, D: Delegate>(
     })
 }
 
-/// A range mark, after which the second revision begins.
-pub(crate) fn call_range<'a, D: Delegate>(
+// A range mark, behind which the second revision begins.
+fn call_range<'a, D: Delegate>(
     kind: Kind,
     context: &mut Context<'a>,
     delegate: &mut D,
@@ -124,13 +124,126 @@ pub(crate) fn call_range<'a, D: Delegate>(
     Ok(())
 }
 
-/// The end of the text.
-pub(crate) fn call_finish<'a, D: Delegate>(
+// `^!` and `^@`.
+fn call_closer<'a, D: Delegate>(
+    kind: Kind,
+    rest: &'a [u8],
+    delegate: &mut D,
+) -> Result<(), Error<'a>>
+    ensures { Asks D.step (closing_calls kind rest.now) delegate.old delegate.new result }
+{
+    demanded(delegate.kind(kind), Fault::KindRefused(kind), Some(rest))?;
+    demanded(delegate.done(), Fault::DoneRefusedInNavigation, Some(rest))
+}
+
+// The call that was accepted last, once more.
+fn call_again<'a, D: Delegate>(
+    anchor: Option<Anchor<'a>>,
+    after: &'a [u8],
+    delegate: &mut D,
+) -> Result<(), Error<'a>>
+    ensures { Asks D.step (repeat (option_map call_of anchor.entry) after.now)
+        delegate.old delegate.new result }
+{
+    let Some(anchor) = anchor else {
+        return Err(fault(Fault::Unconsumed, Some(after)));
+    };
+    let refused = Fault::RepeatRefused;
+    match anchor {
+        Anchor::Head => demanded(delegate.find_ref(b"HEAD"), refused, Some(after)),
+        Anchor::Reference(name) => demanded(delegate.find_ref(name), refused, Some(after)),
+        Anchor::ByPrefix(prefix, hint) => {
+            let answer = delegate.disambiguate_prefix(prefix, hint);
+            demanded(answer, refused, Some(after))
+        }
+    }
+}
+
+// `^-n`.
+fn call_without_parent<'a, D: Delegate>(
+    number: usize,
+    after: &'a [u8],
+    rest: &'a [u8],
+    anchor: Option<Anchor<'a>>,
+    delegate: &mut D,
+) -> Result<(), Error<'a>>
+    ensures { Asks D.step
+        (without_parent_calls number after.now rest.now (option_map call_of anchor.entry))
+        delegate.old delegate.new result }
+{
+    let step = Traversal::NthParent(number);
+    demanded(
+        delegate.traverse(step),
+        Fault::TraverseRefused(step),
+        Some(after),
+    )?;
+    let kind = Kind::RangeBetween;
+    demanded(delegate.kind(kind), Fault::KindRefused(kind), Some(after))?;
+    call_again(anchor, after, delegate)?;
+    demanded(delegate.done(), Fault::DoneRefusedInNavigation, Some(rest))
+}
+
+/// Makes the calls that a piece means.
+pub(crate) fn perform<'a, D: Delegate>(
+    piece: Piece<'a>,
     context: &mut Context<'a>,
     delegate: &mut D,
 ) -> Result<(), Error<'a>>
-    ensures { Performs D.step (finish ∷ [])
+    ensures { Performs D.step (piece_of piece.entry ∷ [])
         delegate.old (context_of context.old) delegate.new (context_of context.new) result }
 {
-    demanded(delegate.done(), Fault::DoneRefused, None)
+    match piece {
+        Piece::Exclude => {
+            let kind = Kind::ExcludeReachable;
+            demanded(delegate.kind(kind), Fault::KindRefused(kind), None)
+        }
+        Piece::Regex {
+            wanted,
+            raw,
+            negated,
+        } => {
+            demanded(
+                delegate.find(wanted, negated),
+                Fault::FindRefused,
+                Some(raw),
+            )
+        }
+        Piece::Index { path, stage } => {
+            let answer = delegate.index_lookup(path, stage);
+            demanded(answer, Fault::IndexRefused(stage), Some(path))
+        }
+        Piece::Head => call_head(context, delegate),
+        Piece::Name {
+            text,
+            whole,
+            attempt: None,
+        } => { call_reference(text, whole, context, delegate) }
+        Piece::Name {
+            text,
+            whole,
+            attempt: Some(attempt),
+        } => { call_prefix(text, whole, attempt, context, delegate) }
+        Piece::Step { step, after } => {
+            demanded(
+                delegate.traverse(step),
+                Fault::TraverseRefused(step),
+                Some(after),
+            )
+        }
+        Piece::Peel { target, after } => {
+            demanded(delegate.peel_until(target), Fault::PeelRefused, Some(after))
+        }
+        Piece::Path(path) => {
+            let answer = delegate.peel_until(PeelTo::Path(path));
+            demanded(answer, Fault::PeelRefused, Some(path))
+        }
+        Piece::Closer { kind, rest } => call_closer(kind, rest, delegate),
+        Piece::WithoutParent {
+            number,
+            after,
+            rest,
+        } => { call_without_parent(number, after, rest, context.anchor, delegate) }
+        Piece::Range(kind) => call_range(kind, context, delegate),
+        Piece::Finish => demanded(delegate.done(), Fault::DoneRefused, None),
+    }
 }

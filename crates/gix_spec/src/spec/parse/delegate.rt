@@ -84,6 +84,10 @@ impl SiblingBranch {
 }
 
 /// What each call of a delegate may do. An implementor names the relation, and its functions keep it.
+///
+/// `Ok` accepts a call. An `Exn` with `out_of_memory` ends the parse at once, with
+/// `Error::OutOfMemory` and no further call. Any other `Exn` refuses the call: a refused prefix
+/// leads to `find_ref` of the name as it is written, and every other refusal to a fault.
 pub trait Listener {
     /// From the first value, the call may be answered so and leave the second value.
     ghost step: { Self → Call → Answer → Self → Type 0 };
@@ -95,7 +99,7 @@ pub trait Revision: Listener {
     fn find_ref(&mut self, name: &[u8]) -> Result<(), Exn>
         ensures { Self.step self.old (find_ref name.now) (answer_of result) self.new };
 
-    /// The digits of an id are to be completed.
+    /// The digits of an id are to be completed. Refused, `find_ref` of the whole name follows.
     fn disambiguate_prefix(
         &mut self,
         prefix: Prefix,

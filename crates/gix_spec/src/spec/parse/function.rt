@@ -1,26 +1,126 @@
 //! Reading a text from its front, and calling the delegate on the way.
 
-ghost use Rattle.std.specs.Prelude.{◌≡◌, IfOk, IfSome, Some, None, option_map, false, IsErrOf};
-ghost use Rattle.std.specs.Str.{str_to_ascii_lowercase};
-ghost use Rattle.gix_base.specs.Prefix.{prefix_text};
+ghost use Rattle.std.specs.Prelude.{◌≡◌, Some, None, option_map, false, IsErrOf};
 ghost use Rattle.gix_spec.specs.Trees.{takes_memory};
 ghost use Rattle.gix_spec.specs.Run.{IsRun, IsBeginning, without_memory};
 ghost use Rattle.gix_spec.specs.Context.{context_of};
+ghost use Rattle.gix_spec.specs.Found.{part_of};
+ghost use Rattle.gix_spec.specs.Names.{anchor_at};
+ghost use Rattle.gix_spec.specs.Steps.{navigation};
 ghost use Rattle.gix_spec.specs.Parse.{Parses, meaning_of};
-ghost use Rattle.gix_spec.specs.Performs.{Performs};
-ghost use Rattle.gix_spec.specs.Reading.{pieces_of, text_at, sides_at, exclude_mark, excluded_at};
-ghost use Rattle.gix_spec.specs.Reading.{revision_at, second_side, range_at, implied_head, end_at};
-ghost use Rattle.gix_spec.specs.Reading.{range_mark, forty_digits, unread_of};
+ghost use Rattle.gix_spec.specs.Performs.{Performs, Reads};
+ghost use Rattle.gix_spec.specs.Reading.{named_revision, revision_at, range_mark, implied_head};
+ghost use Rattle.gix_spec.specs.Reading.{end_at, second_side, range_at, ranged};
+ghost use Rattle.gix_spec.specs.Reading.{sides_at, exclude_mark, excluded_at, pieces_of};
 
 use super::Error;
-use super::calls::{call_exclude, call_finish, call_head, call_prefix, call_range, fault};
+use super::calls::{fault, perform};
+use super::colon_form::colon_form;
 use super::context::Context;
+use super::cut::cut;
 use super::delegate::Delegate;
 use super::fault::Fault;
+use super::name::{at_part, named, without_name};
+use super::part::{Behind, Found, Part, Piece, Way};
+use super::step::next_step;
 use crate::spec::Kind;
 use gix_base::date::Time;
-use gix_base::hash::Prefix;
 use std::alloc::Allocator;
+
+/// Makes the calls of what was found at the front of a text.
+fn read<'a, D: Delegate>(
+    found: Found<'a>,
+    context: &mut Context<'a>,
+    delegate: &mut D,
+) -> Result<Behind<'a>, Error<'a>>
+    ensures { Reads D.step (part_of found.entry)
+        delegate.old (context_of context.old) delegate.new (context_of context.new) result }
+{
+    let part = match found {
+        Ok(part) => part,
+        Err(refusal) => return Err(fault(refusal.fault, refusal.input)),
+    };
+    if let Some(piece) = part.piece {
+        perform(piece, context, delegate)?;
+    }
+    Ok(Behind {
+        rest: part.rest,
+        way: part.way,
+    })
+}
+
+/// Reads the name of a revision, and an `@` behind it.
+#[tactic(auto, unfolding(crate::specs::Names::anchor_at))]
+fn anchor<'a, D: Delegate>(
+    text: &'a [u8],
+    context: &mut Context<'a>,
+    delegate: &mut D,
+) -> Result<Behind<'a>, Error<'a>>
+    ensures { Reads D.step (anchor_at text.now)
+        delegate.old (context_of context.old) delegate.new (context_of context.new) result }
+{
+    let len = cut(text);
+    if len == 0 {
+        return read(without_name(text), context, delegate);
+    }
+    let name = read(named(text, len), context, delegate)?;
+    read(at_part(name.rest), context, delegate)
+}
+
+/// Reads steps until none follows, or a closer ends them.
+fn navigate<'a, D: Delegate>(
+    text: &'a [u8],
+    context: &mut Context<'a>,
+    delegate: &mut D,
+) -> Result<Behind<'a>, Error<'a>>
+    ensures { Reads D.step (navigation text.now)
+        delegate.old (context_of context.old) delegate.new (context_of context.new) result }
+{
+    let mut rest = text;
+    'steps: loop {
+        let step = read(next_step(rest), context, delegate)?;
+        if step.rest.len() >= rest.len() {
+            return Ok(step);
+        }
+        match step.way {
+            Way::Onward => rest = step.rest,
+            Way::Closed => return Ok(step),
+        }
+    }
+}
+
+/// Reads a name and its steps.
+fn named_revision<'a, D: Delegate>(
+    text: &'a [u8],
+    context: &mut Context<'a>,
+    delegate: &mut D,
+) -> Result<Behind<'a>, Error<'a>>
+    ensures { Reads D.step (named_revision text.now)
+        delegate.old (context_of context.old) delegate.new (context_of context.new) result }
+{
+    let name = anchor(text, context, delegate)?;
+    match name.way {
+        Way::Onward => navigate(name.rest, context, delegate),
+        Way::Closed => Ok(name),
+    }
+}
+
+/// Reads a revision.
+#[tactic(auto, unfolding(crate::specs::Reading::revision_at))]
+fn revision<'a, D: Delegate>(
+    text: &'a [u8],
+    context: &mut Context<'a>,
+    delegate: &mut D,
+) -> Result<Behind<'a>, Error<'a>>
+    ensures { Reads D.step (revision_at text.now)
+        delegate.old (context_of context.old) delegate.new (context_of context.new) result }
+{
+    match text {
+        [b':', after @ ..] => read(colon_form(after, text), context, delegate),
+        [b'~', ..] => read(Part::refusal(Fault::TildeFirst, None), context, delegate),
+        _ => named_revision(text, context, delegate),
+    }
+}
 
 /// The range mark that a text begins with, and what follows it.
 #[tactic(auto, unfolding(crate::specs::Reading::range_mark))]
@@ -36,52 +136,6 @@ fn mark(text: &[u8]) -> Option<(Kind, &[u8])>
     None
 }
 
-/// A name of forty digits: as a prefix, as it is written, and what follows it.
-#[derive(Clone, Copy)]
-struct Digits<'a> {
-    prefix: Prefix,
-    text: &'a [u8],
-    rest: &'a [u8],
-}
-
-/// The forty hex digits that a text begins with.
-#[tactic(auto, unfolding(crate::specs::Reading::forty_digits))]
-fn forty(text: &[u8]) -> Option<Digits<'_>>
-    ensures read { option_map (λ d. (d.text.now, d.rest.now)) result ≡ forty_digits text.now }
-    ensures prefix { IfSome result (λ d. prefix_text d.prefix ≡ str_to_ascii_lowercase d.text.now) }
-{
-    if text.len() < 40 {
-        return None;
-    }
-    let (digits, rest) = text.split_at(40);
-    match Prefix::from_hex(digits) {
-        Ok(prefix) => Some(Digits {
-            prefix,
-            text: digits,
-            rest,
-        }),
-        Err(_) => None,
-    }
-}
-
-/// Reads a revision, and answers what is left of the text.
-#[tactic(auto, unfolding(crate::specs::Reading::revision_at))]
-fn revision<'a, D: Delegate>(
-    text: &'a [u8],
-    context: &mut Context<'a>,
-    delegate: &mut D,
-) -> Result<&'a [u8], Error<'a>>
-    ensures ran { Performs D.step (revision_at text.now).pieces
-        delegate.old (context_of context.old) delegate.new (context_of context.new) result }
-    ensures rest { IfOk result (λ rest. rest.now ≡ (revision_at text.now).rest) }
-{
-    let Some(digits) = forty(text) else {
-        return Ok(text);
-    };
-    call_prefix(digits.text, text, digits.prefix, None, context, delegate)?;
-    Ok(digits.rest)
-}
-
 /// Calls for HEAD where a side of a range consumed nothing.
 fn imply_head<'a, D: Delegate>(
     text: &'a [u8],
@@ -93,7 +147,7 @@ fn imply_head<'a, D: Delegate>(
         delegate.old (context_of context.old) delegate.new (context_of context.new) result }
 {
     if rest.len() == text.len() {
-        return call_head(context, delegate);
+        return perform(Piece::Head, context, delegate);
     }
     Ok(())
 }
@@ -108,7 +162,7 @@ fn end<'a, D: Delegate>(
         delegate.old (context_of context.old) delegate.new (context_of context.new) result }
 {
     if rest.is_empty() {
-        return call_finish(context, delegate);
+        return perform(Piece::Finish, context, delegate);
     }
     Err(fault(Fault::Unconsumed, Some(rest)))
 }
@@ -123,9 +177,9 @@ fn second<'a, D: Delegate>(
     ensures { Performs D.step (second_side text.now)
         delegate.old (context_of context.old) delegate.new (context_of context.new) result }
 {
-    let rest = revision(text, context, delegate)?;
-    imply_head(text, rest, context, delegate)?;
-    end(rest, context, delegate)
+    let side = revision(text, context, delegate)?;
+    imply_head(text, side.rest, context, delegate)?;
+    end(side.rest, context, delegate)
 }
 
 /// The first side of a text: whether an exclude mark stands before it, the text from it on, and
@@ -138,7 +192,7 @@ struct First<'a> {
 }
 
 /// Reads a range from its mark on.
-#[tactic(auto, using(crate::proofs::Runs::performs_then, crate::proofs::Runs::performs_stop, crate::proofs::Runs::performs_fault))]
+#[tactic(auto, using(crate::proofs::Runs::performs_fault, crate::proofs::Runs::performs_then, crate::proofs::Runs::performs_stop))]
 fn range_side<'a, D: Delegate>(
     first: First<'a>,
     kind: Kind,
@@ -155,8 +209,25 @@ fn range_side<'a, D: Delegate>(
         return Err(fault(Fault::KindTwice { was, now: kind }, None));
     }
     imply_head(first.text, first.rest, context, delegate)?;
-    call_range(kind, context, delegate)?;
+    perform(Piece::Range(kind), context, delegate)?;
     second(after, context, delegate)
+}
+
+/// Reads what stands behind the first side.
+fn after_side<'a, D: Delegate>(
+    first: First<'a>,
+    context: &mut Context<'a>,
+    delegate: &mut D,
+) -> Result<(), Error<'a>>
+    ensures { Performs D.step
+        (ranged first.entry.excluded first.entry.text.now first.entry.rest.now
+        (range_mark first.entry.rest.now))
+        delegate.old (context_of context.old) delegate.new (context_of context.new) result }
+{
+    match mark(first.rest) {
+        Some((kind, after)) => range_side(first, kind, after, context, delegate),
+        None => end(first.rest, context, delegate),
+    }
 }
 
 /// Reads one side, or two.
@@ -170,15 +241,16 @@ fn sides<'a, D: Delegate>(
     ensures { Performs D.step (sides_at excluded text.now)
         delegate.old (context_of context.old) delegate.new (context_of context.new) result }
 {
-    let rest = revision(text, context, delegate)?;
+    let side = revision(text, context, delegate)?;
     let first = First {
         excluded,
         text,
-        rest,
+        rest: side.rest,
     };
-    match mark(rest) {
-        Some((kind, after)) => range_side(first, kind, after, context, delegate),
-        None => end(rest, context, delegate),
+    match side.way {
+        Way::Onward => after_side(first, context, delegate),
+        Way::Closed if side.rest.is_empty() => Ok(()),
+        Way::Closed => Err(fault(Fault::Unconsumed, Some(side.rest))),
     }
 }
 
@@ -202,52 +274,13 @@ fn exclude<'a, D: Delegate>(
         delegate.old (context_of context.old) delegate.new (context_of context.new) result }
 {
     if excluded {
-        return call_exclude(context, delegate);
+        return perform(Piece::Exclude, context, delegate);
     }
     Ok(())
 }
 
-/// What is left of a text behind a revision.
-#[tactic(auto, unfolding(crate::specs::Reading::revision_at))]
-fn after_revision(text: &[u8]) -> &[u8]
-    ensures { result.now ≡ (revision_at text.now).rest }
-{
-    match forty(text) {
-        Some(digits) => digits.rest,
-        None => text,
-    }
-}
-
-/// What is left of a text behind its one or two sides.
-#[tactic(auto, unfolding(crate::specs::Reading::unread_of))]
-fn unread(text: &[u8]) -> &[u8]
-    ensures { result.now ≡ unread_of text.now }
-{
-    let (_, sides) = strip_exclude(text);
-    let rest = after_revision(sides);
-    match mark(rest) {
-        Some((_, after)) => after_revision(after),
-        None => rest,
-    }
-}
-
-/// Reads a text of the shape that is read today.
-#[tactic(auto, unfolding(crate::specs::Reading::text_at), using(crate::proofs::Runs::performs_then, crate::proofs::Runs::performs_stop))]
-fn marked<'a, D: Delegate>(
-    text: &'a [u8],
-    context: &mut Context<'a>,
-    delegate: &mut D,
-) -> Result<(), Error<'a>>
-    ensures { Performs D.step (text_at (exclude_mark text.now))
-        delegate.old (context_of context.old) delegate.new (context_of context.new) result }
-{
-    let (excluded, sides_text) = strip_exclude(text);
-    exclude(excluded, context, delegate)?;
-    sides(excluded, sides_text, context, delegate)
-}
-
 /// Reads a text.
-#[tactic(auto, unfolding(crate::specs::Reading::pieces_of), using(crate::proofs::Runs::performs_fault))]
+#[tactic(auto, unfolding(crate::specs::Reading::pieces_of), using(crate::proofs::Runs::performs_then, crate::proofs::Runs::performs_stop))]
 fn whole<'a, D: Delegate>(
     text: &'a [u8],
     context: &mut Context<'a>,
@@ -256,10 +289,9 @@ fn whole<'a, D: Delegate>(
     ensures { Performs D.step (pieces_of text.now)
         delegate.old (context_of context.old) delegate.new (context_of context.new) result }
 {
-    if !unread(text).is_empty() {
-        return Err(fault(Fault::NotYet, Some(text)));
-    }
-    marked(text, context, delegate)
+    let (excluded, sides_text) = strip_exclude(text);
+    exclude(excluded, context, delegate)?;
+    sides(excluded, sides_text, context, delegate)
 }
 
 /// Reads the revision text `input` and tells `delegate` what it says, in calls from the front of the
@@ -268,10 +300,10 @@ fn whole<'a, D: Delegate>(
 /// `Ok` where the text is read to its end and the delegate accepted each call that has to be.
 /// `Error::Refused` names the fault, the part of `input` that is at fault, and the delegate's
 /// refusals that led to it. `Error::OutOfMemory` where the delegate answered so; it is not called
-/// again. A text without braces takes no memory itself. `now` is the moment that dates are read at.
+/// again. The parse takes no memory itself. `now` is the moment that dates are read at.
 ///
-/// Today a side of a range is empty or an id of 40 hex digits. Every other text is refused with
-/// `Fault::NotYet` and the whole text, before any call.
+/// A brace behind an `@` or a `^` is not read yet: it is refused with `Fault::NotYet` and the text
+/// from that brace on, after the calls that stand before it.
 #[tactic(auto, using(crate::proofs::Runs::runs_whole))]
 pub fn parse<'a, A: Allocator + Copy, D: Delegate>(
     alloc: A,

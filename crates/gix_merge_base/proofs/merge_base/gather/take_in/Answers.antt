@@ -8,14 +8,14 @@ pub returns-in-Some-clause-history : goal.returns-in-Some-clause-history
 returns-in-Some-clause-history g c =
     let wrote = on_some _ _ c.in-Some.is (c.data.follows.holds c.in-Some.field-0.now) in
     let same = c.in_ok-place.ensures.same_reference in
-    let is : g.S.Find.history (c.data.follows.lender c.in-Some.field-0.now).source ≡ g.S.Find.history c.args.graph.now.source = ap g.S.Find.history wrote.0 ∙ c.in_ok-place.ensures.asked.0 in
+    let is : g.S.Find.history (c.data.follows.lender c.in-Some.field-0.now).source ≡ g.S.Find.history c.args.graph.now.source = ap g.S.Find.history wrote.0 ∙ c.in_ok-place.ensures.history in
     search rules
 
 pub returns-in-Some-clause-count : goal.returns-in-Some-clause-count
 returns-in-Some-clause-count g c =
     let wrote = on_some _ _ c.in-Some.is (c.data.follows.holds c.in-Some.field-0.now) in
     let same = c.in_ok-place.ensures.same_reference in
-    let is : g.S.Find.fault_count (c.data.follows.lender c.in-Some.field-0.now).source ≡ g.S.Find.fault_count c.args.graph.now.source = ap g.S.Find.fault_count wrote.0 ∙ c.in_ok-place.ensures.faults in
+    let is : g.S.Find.fault_count (c.data.follows.lender c.in-Some.field-0.now).source ≡ g.S.Find.fault_count c.args.graph.now.source = ap g.S.Find.fault_count wrote.0 ∙ c.in_ok-place.ensures.count in
     search rules
 
 pub returns-in-Some-clause-held : goal.returns-in-Some-clause-held

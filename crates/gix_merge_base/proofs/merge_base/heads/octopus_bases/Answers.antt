@@ -1,21 +1,22 @@
-use Rattle.std.proofs.Common.{◌≡◌, refl, ◌∙◌, ◌<◌, ◌≤◌, ◌∷◌, [], length, arith, rules}
+use Rattle.std.proofs.Common.{◌≡◌, ◌<◌, ◌≤◌, ◌∷◌, [], length, arith}
 use Rattle.std.proofs.lemmas.List.{take_all}
+use Rattle.gix_merge_base.proofs.AfterCalls.{after_none, after_more, after_ok}
 use Rattle.gix_merge_base.proofs.Heads.{stand_first, stand_next, stand_last}
 use Rattle.gix_merge_base.proofs.merge_base.heads.octopus_bases.Goals as goal
 
 pub loop-other-init : goal.loop-other-init
 loop-other-init g c =
-    let items : c.push.new.self.items ≡ c.args.first ∷ [] = search rules in
-    record { stand = λ acyclic. rw items (stand_first _ c.args.first); history = refl; count = omega arith }
+    let items : c.in_ok-left.left.items ≡ c.args.first ∷ [] = c.in_ok-left.ensures.items_if_clones_equal (λ x y same. same) in
+    record { stand = λ acyclic. rw items (stand_first _ c.args.first); after = after_none _ }
 
 pub loop-other-preserved : goal.loop-other-preserved
 loop-other-preserved g c =
     let test : c.loop-other.other-index < length c.args.others.now = omega arith in
-    let step = rw (c.loop-other.invariant.history, c.deref.ensures.value) at c.in_ok-left.ensures.step in
+    let next = c.in_ok-left-2.ensures in
+    let step = rw (c.loop-other.invariant.after.same_history, c.deref.ensures.value) at next.step in
     record {
       stand = λ acyclic. stand_next _ _ _ _ _ _ _ test (c.loop-other.invariant.stand acyclic) (step acyclic);
-      history = c.step.ensures.history ∙ c.loop-other.invariant.history;
-      count = omega (arith, c.step.ensures.count, c.loop-other.invariant.count);
+      after = after_more _ _ _ _ c.loop-other.invariant.after (after_ok _ _ _ next.after);
     }
 
 pub returns-clause-bases : goal.returns-clause-bases

@@ -1,7 +1,8 @@
 use Rattle.std.proofs.Common.{◌≡◌, ◌<◌, ◌≤◌, length, arith, get_or, sym}
 use Rattle.std.proofs.lemmas.List.{take_all}
-use Rattle.gix_revwalk.proofs.Calls.{calls_count, calls_keep, calls_refused, calls_next}
-use Rattle.gix_merge_base.proofs.BaseCalls.{rises, keeps, seen, calls_right}
+use Rattle.gix_revwalk.proofs.Calls.{calls_counted, calls_keep, calls_next}
+use Rattle.gix_merge_base.specs.Queries.{is_refused_by_source}
+use Rattle.gix_merge_base.proofs.BaseCalls.{counts, keeps, calls_right}
 use Rattle.gix_merge_base.proofs.merge_base.queries.run.Goals as goal
 
 pub loop-query-preserved : goal.loop-query-preserved
@@ -20,14 +21,10 @@ returns-clause-answers g c =
     let calls = rw (take_all c.loop-query.query-index c.args.queries.now done) at c.loop-query.invariant.calls in
     calls_right _ _ _ _ _ _ calls
 
-pub returns-clause-few_refused : goal.returns-clause-few_refused
-returns-clause-few_refused g c =
-    calls_refused _ _ (λ graph. g.S.Find.fault_count graph.source) (rises _ _) (seen _ _) _ _ _ _ c.loop-query.invariant.calls
+pub returns-clause-count : goal.returns-clause-count
+returns-clause-count g c =
+    calls_counted _ is_refused_by_source (λ graph. g.S.Find.fault_count graph.source) (counts _ _) _ _ _ _ c.loop-query.invariant.calls
 
 pub returns-clause-history : goal.returns-clause-history
 returns-clause-history g c =
     calls_keep _ (λ graph. g.S.Find.history graph.source) (keeps _ _) _ _ _ _ c.loop-query.invariant.calls
-
-pub returns-clause-count : goal.returns-clause-count
-returns-clause-count g c =
-    calls_count _ (λ graph. g.S.Find.fault_count graph.source) (rises _ _) _ _ _ _ c.loop-query.invariant.calls

@@ -1,4 +1,20 @@
+use Rattle.std.proofs.Common.{◌∙◌, sym, ap}
+use Rattle.std.specs.Map.{lookup}
+use Rattle.gix_revwalk.specs.History.{same_id}
+use Rattle.gix_revwalk.proofs.Places.{number-within, lookup-at, lookup-none, lookup-push, place-item}
 use Rattle.gix_revwalk.proofs.graph.marks.Graph+S+u32+A.insert.Goals as goal
 
+pub put-requires : goal.put-requires
+put-requires g c = number-within c.args.self.now.held c.args.id _ (sym c.in-Some.ensures)
+
+pub returns-in-Some-clause-old : goal.returns-in-Some-clause-old
+returns-in-Some-clause-old g c = sym (lookup-at c.args.self.now.held c.args.id _ c.in-Some.ensures ∙ c.put.ensures.old)
+
+pub returns-in-Some-clause-put : goal.returns-in-Some-clause-put
+returns-in-Some-clause-put g c = c.put.ensures.put.held c.args.id (place-item _ c.args.id _ (sym c.in-Some.ensures))
+
+pub returns-clause-old : goal.returns-clause-old
+returns-clause-old g c = sym (lookup-none c.args.self.now.held c.args.id c.in_default.ensures)
+
 pub returns-clause-put : goal.returns-clause-put
-returns-clause-put g c = rw (← c.self.view_is) c.in-Ok.ensures.updates.0
+returns-clause-put g c q = ap (lookup (same_id q)) c.in_ok-add.ensures.held ∙ lookup-push c.args.self.now.held c.args.id q c.args.value (sym c.in_default.ensures)

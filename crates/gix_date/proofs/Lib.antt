@@ -1,0 +1,11 @@
+pub mod Holds
+pub mod Numbers
+pub mod Months
+pub mod Words
+pub mod Counts
+pub mod Times
+pub mod Readings
+pub mod Printed
+pub mod Apart
+pub mod Earlier
+pub mod Refused

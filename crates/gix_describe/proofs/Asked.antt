@@ -1,0 +1,47 @@
+-- Questions to a source, one after another.
+use Rattle.std.proofs.Common.{◌≡◌, ℕ, false, sym, ap, subst, ◌∙◌, Option, Some, None}
+use Rattle.std.specs.Prelude.{IfSome}
+use Rattle.gix_base.specs.declared.error.message.Message.{Message}
+use Rattle.gix_base.specs.declared.error.message.Message.TheVariants.{OutOfMemory}
+use Rattle.gix_revwalk.specs.History.{History}
+use Rattle.gix_revwalk.specs.Faults.{count_after}
+use Rattle.gix_describe.specs.Asks.{Asks}
+use Rattle.gix_describe.specs.DescribeRefusals.{is_parents_fault, is_for_source}
+
+module _ {S : Type 0} (history : S → History) (faults : S → ℕ) where
+  -- a cause is one for more
+  pub asks_more : (C D : Message → Type 0) (a b : S) (r : Option Message) → ((e : Message) → D e → C e) → Asks history faults D a b r → Asks history faults C a b r
+  asks_more C D a b r more asked = record { same_history = asked.same_history; count = asked.count; cause = by r asked.cause }
+    where
+      by : (r : Option Message) → IfSome r D → IfSome r C
+      by None k = k
+      by (Some e) k = more e k
+
+  -- an answer has no cause
+  pub asks_answered : (C D : Message → Type 0) (a b : S) → Asks history faults D a b None → Asks history faults C a b None
+  asks_answered C D a b asked = record { same_history = asked.same_history; count = asked.count; cause = tt }
+
+  -- after questions that were answered, one more
+  pub asks_on : (C D : Message → Type 0) (a b c : S) (r : Option Message) → Asks history faults D a b None → Asks history faults C b c r → Asks history faults C a c r
+  asks_on C D a b c r first next = record {
+    same_history = next.same_history ∙ first.same_history;
+    count = next.count ∙ ap (count_after (is_for_source r)) first.count;
+    cause = next.cause;
+  }
+
+  -- a refusal that the source has no part in
+  pub asks_refused : (C D : Message → Type 0) (a b : S) (e : Message) → is_parents_fault e ≡ false → C e
+      → Asks history faults D a b None → Asks history faults C a b (Some e)
+  asks_refused C D a b e other cause asked = record {
+    same_history = asked.same_history;
+    count = asked.count ∙ sym (ap (λ x. count_after x (faults a)) other);
+    cause = cause;
+  }
+
+  pub asks_memory : (C D : Message → Type 0) (a b : S) (e : Message) → e ≡ OutOfMemory → C OutOfMemory
+      → Asks history faults D a b None → Asks history faults C a b (Some e)
+  asks_memory C D a b e is cause asked = asks_refused C D a b e (ap is_parents_fault is) (subst C (sym is) cause) asked
+
+  -- nothing is asked
+  pub asks_nothing : (C : Message → Type 0) (a b : S) → b ≡ a → Asks history faults C a b None
+  asks_nothing C a b is = record { same_history = ap history is; count = ap faults is; cause = tt }

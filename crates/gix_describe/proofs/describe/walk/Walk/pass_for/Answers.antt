@@ -1,0 +1,107 @@
+use Rattle.std.proofs.Common.{Some, ◌≡◌, ◌<◌, ◌≤◌, ◌+◌, ◌-◌, ◌∙◌, sym, ap, subst, refl, true, false, [], ◌∷◌, ◌++◌, length, get_or, arith, inl, inr}
+use Rattle.std.specs.Int.{bit_at}
+use Rattle.std.proofs.lemmas.List.{length_push}
+use Rattle.std.proofs.lemmas.Nat.Bits.{bit_at-lt}
+use Rattle.gix_base.specs.declared.hash.ObjectId.{ObjectId}
+use Rattle.gix_revwalk.specs.Followed.{followed}
+use Rattle.gix_revwalk.specs.Graph.{held_at}
+use Rattle.gix_describe.specs.Trace.{has_mark, late_of}
+use Rattle.gix_describe.specs.WalkState.{others, IsCompletedAt}
+use Rattle.gix_describe.specs.Handing.{bit}
+use Rattle.gix_revwalk.proofs.Members.{one_of-left}
+use Rattle.gix_describe.proofs.WalkSteps.{marked_more_by, queue_more, goes_more, hand_refused, many, left_marked, late_le, bit_true, late_next, split_push}
+use Rattle.gix_describe.proofs.describe.walk.Walk.pass_for.Goals.{else-late-eq0-via-then-late-eq0+else-all_marked, else-late-eq0-via-else-late-eq0}
+use Rattle.gix_describe.proofs.Asked.{asks_more, asks_answered}
+use Rattle.gix_describe.proofs.describe.walk.Walk.pass_for.Goals as goal
+
+pub returns-then-self-clause-asked : goal.returns-then-self-clause-asked
+returns-then-self-clause-asked g c =
+    let a = c.requires.taken.1 in
+    let h = followed c.args.search.first_parent (g.S.Find.history c.args.graph.now.source) in
+    let len : length a.popped ≡ 4294967295 = sym a.at.seen ∙ c.if-self.true in
+    record { same_history = refl; count = refl; cause = many h c.args.search.start a.popped c.args.id 4294967295 a.at.walk a.next a.at.known len (omega arith) }
+
+pub returns-then-all_marked-clause-passed : goal.returns-then-all_marked-clause-passed
+returns-then-all_marked-clause-passed g c = λ cut a.
+    let h = followed c.args.search.first_parent (g.S.Find.history c.args.graph.now.source) in
+    let s = c.args.search.start in
+    let x = c.args.id in
+    let t = get_or c.args.self.now.candidates.items c.args.place s in
+    let low : bit_at c.marks_of-marks.result c.args.place < 2 = bit_at-lt c.marks_of-marks.result c.args.place in
+    let lacks : 1 - bit_at c.marks_of-marks.result c.args.place ≡ 0 = ap (λ b. 1 - b) (sym c.bit_of-late.ensures) ∙ c.if-late-eq0.true in
+    let one : bit_at c.marks_of-marks.result c.args.place ≡ 1 = omega arith in
+    let own : has_mark h t a.popped x ≡ true = bit_true _ (sym (a.at.marked.marks c.args.place a.inside x) ∙ ap (λ m. bit_at m c.args.place) (sym c.marks_of-marks.ensures) ∙ one) in
+    let pushed : length (a.popped ++ x ∷ []) ≡ length a.popped + 1 = length_push a.popped x in
+    let others_marked : (q : ObjectId) → others h s a.popped x q ≡ true → has_mark h t a.popped q ≡ true =
+    λ q k. bit_true _ (sym (a.at.marked.marks c.args.place a.inside q) ∙ c.all_marked.ensures.0 c.if-all_marked.true q (a.at.queue.ids q ∙ k)) in
+    record {
+      popped = a.popped ++ x ∷ [];
+      walk = goes_more h s a.popped x a.at.walk a.next;
+      has = a.has;
+      own = one_of-left a.popped (x ∷ []) t a.own;
+      count_is = let more = late_next h t a.popped x true own 0 refl in let is : c.args.count ≡ length (late_of h t a.popped) = a.count_is in omega (arith, more);
+      seen_is = let seen : c.args.self.now.seen ≡ length a.popped = a.at.seen in omega arith;
+      left = λ d o. left_marked h s a.popped x t others_marked own d o;
+      past = let low : cut ≤ length a.popped = a.past in omega arith;
+      before = λ ys rest z y e low. elim (split_push a.popped x ys (y ∷ rest) z e) as (λ _. ¬ IsCompletedAt h s t ys z) [
+        | inl k ↦ absurd (let f : y ∷ rest ≡ [] = k.2 in cc)
+        | inr k ↦ a.since ys k.0 z k.1 low
+      ];
+      stop = inl (record { ys = a.popped; x = x; is = refl; in_ys = a.own; completed = record { own = own; left = others_marked } });
+      held_is = record { ys = a.popped; x = x; is = refl; met = a.at.marked.met };
+    }
+
+pub overflow_add-result : goal.overflow_add-result
+overflow_add-result g c =
+    let a = c.requires.taken.1 in
+    let h = followed c.args.search.first_parent (g.S.Find.history c.args.graph.now.source) in
+    let t = get_or c.args.self.now.candidates.items c.args.place c.args.search.start in
+    let le : length (late_of h t a.popped) ≤ length a.popped = late_le h _ a.popped in
+    let is : c.args.count ≡ length (late_of h t a.popped) = a.count_is in
+    let seen : c.args.self.now.seen ≡ length a.popped = a.at.seen in
+    omega arith
+
+pub returns-in-Ok-clause-passed : goal.returns-in-Ok-clause-passed
+returns-in-Ok-clause-passed g c = λ cut a.
+    let h = followed c.args.search.first_parent (g.S.Find.history c.args.graph.now.source) in
+    let s = c.args.search.start in
+    let x = c.args.id in
+    let w = c.args.self.now in
+    let t = get_or w.candidates.items c.args.place s in
+    let on = rw c.marks_of-marks.ensures at c.in-Ok.ensures.handed in
+    let pushed : length (a.popped ++ x ∷ []) ≡ length a.popped + 1 = length_push a.popped x in
+    let mark : bit_at c.marks_of-marks.result c.args.place ≡ bit (has_mark h t a.popped x) = ap (λ m. bit_at m c.args.place) c.marks_of-marks.ensures ∙ a.at.marked.marks c.args.place a.inside x in
+    let refuted : IsCompletedAt h s t a.popped x → ⊥ = λ st. elim c.else-late-eq0.branch as (λ _. ⊥) [
+      | else-late-eq0-via-then-late-eq0+else-all_marked b ↦
+          let t = b.all_marked.ensures.1 (λ q k. a.at.marked.marks c.args.place a.inside q ∙ ap bit (st.left q (sym (a.at.queue.ids q) ∙ k))) in
+          let f : true ≡ false = sym t ∙ b.if-all_marked.false in cc
+      | else-late-eq0-via-else-late-eq0 b ↦ b.if-late-eq0.false (ap (λ b. 1 - b) (c.bit_of-late.ensures ∙ mark ∙ ap bit st.own))
+    ] in
+    record {
+      popped = a.popped ++ x ∷ [];
+      at = record {
+        walk = goes_more h s a.popped x a.at.walk a.next;
+        known = inr a.has;
+        queue = queue_more h s a.popped w.candidates.items x (held_at c.args.graph.now) (held_at c.hand_on.new.graph) w.queue c.hand_on.new.queue a.at.walk a.next a.at.marked a.at.queue on;
+        marked = marked_more_by h s a.popped w.candidates.items x (held_at c.args.graph.now) (held_at c.hand_on.new.graph) w.queue c.hand_on.new.queue a.at.walk a.next a.at.marked a.at.queue on;
+        seen = let seen : w.seen ≡ length a.popped = a.at.seen in omega arith;
+      };
+      has = a.has;
+      inside = a.inside;
+      own = one_of-left a.popped (x ∷ []) t a.own;
+      count_is = let more = late_next h t a.popped x (has_mark h t a.popped x) refl (1 - c.bit_of-late.result) (ap (λ b. 1 - b) (c.bit_of-late.ensures ∙ mark)) in let is : c.args.count ≡ length (late_of h t a.popped) = a.count_is in omega (arith, more);
+      past = let low : cut ≤ length a.popped = a.past in inl (omega (arith, pushed));
+      since = λ ys rest z e low. elim (split_push a.popped x ys rest z e) as (λ _. ¬ IsCompletedAt h s t ys z) [
+        | inl k ↦ λ st. absurd (refuted (subst (λ l. IsCompletedAt h s t l x) k.0 (subst (λ q. IsCompletedAt h s t ys q) k.1 st)))
+        | inr k ↦ a.since ys k.0 z k.1 low
+      ];
+    }
+
+pub returns-in-Ok-clause-asked : goal.returns-in-Ok-clause-asked
+returns-in-Ok-clause-asked g c = asks_answered _ _ _ _ _ _ c.in-Ok.ensures.asked
+
+pub returns-in-Err-clause-asked : goal.returns-in-Err-clause-asked
+returns-in-Err-clause-asked g c =
+    let a = c.requires.taken.1 in
+    let h = followed c.args.search.first_parent (g.S.Find.history c.args.graph.now.source) in
+    asks_more _ _ _ _ _ _ (Some c.in-Err.refused) (hand_refused h c.args.search.start a.popped c.args.id a.at.walk a.next a.at.known) c.in-Err.ensures.asked

@@ -1,0 +1,39 @@
+use Rattle.std.proofs.Common.{refl, Some, None, ◌≡◌, ◌≤◌, ◌<◌, ◌-◌, ◌+◌, ◌∙◌, ℕ, ap, length, arith}
+use Rattle.gix_revwalk.specs.History.{History}
+use Rattle.gix_revwalk.specs.Followed.{followed}
+use Rattle.gix_describe.specs.Outcomes.{names_of}
+use Rattle.gix_describe.proofs.WalkSteps.{bounded}
+use Rattle.gix_describe.proofs.Asked.{asks_on}
+use Rattle.gix_describe.proofs.WalkEnds.{rests_ended}
+use Rattle.gix_describe.proofs.describe.walk.Walk.run.Goals as goal
+
+fewer : (n h k i j : ℕ) → h ≡ n → k ≡ n → j ≡ i + 1 → j ≤ n → k - j < h - i
+fewer n h k i j a b c d = omega arith
+
+pub loop-next-smaller : goal.loop-next-smaller
+loop-next-smaller g c =
+    let size = λ (x : History). length (followed c.args.search.first_parent x) in
+    let hist : g.S.Find.history c.admit.new.graph.source ≡ g.S.Find.history c.args.graph.now.source = ap g.S.Find.history c.admit.ensures.source ∙ c.loop-next.invariant.asked.same_history in
+    let rests = rw (hist, c.in-Ok-false-pass.field-0-test) at c.in-Ok-false-pass.ensures.passed in
+    let few = bounded _ _ rests.popped rests.at.walk rests.at.known in
+    let seen : c.pass.new.self.seen ≡ length rests.popped = rests.at.seen in
+    let more : c.pass.new.self.seen ≡ c.loop-next.self.seen + 1 = c.in-Ok-false-pass.ensures.seen ∙ ap (λ n. n + 1) (c.admit.ensures.seen ∙ c.next.ensures.seen) in
+    fewer _ _ _ _ _ (ap size c.loop-next.invariant.asked.same_history) (ap size (c.pass.ensures.asked.same_history ∙ hist)) more (omega (arith, few))
+
+pub loop-next-preserved : goal.loop-next-preserved
+loop-next-preserved g c =
+    let same = c.loop-next.invariant.asked.same_history in
+    record {
+      rests = rw (c.admit.ensures.source, same, c.in-Ok-false-pass.field-0-test) at c.in-Ok-false-pass.ensures.passed;
+      asked = asks_on _ _ _ _ _ _ _ None c.loop-next.invariant.asked (rw (c.admit.ensures.source, same) at c.in-Ok-false-pass.ensures.asked);
+    }
+
+pub returns-in-Err-pass-clause-asked : goal.returns-in-Err-pass-clause-asked
+returns-in-Err-pass-clause-asked g c =
+    let same = c.loop-next.invariant.asked.same_history in
+    asks_on _ _ _ _ _ _ _ (Some c.in-Err-pass.refused) c.loop-next.invariant.asked (rw (c.admit.ensures.source, same) at c.in-Err-pass.ensures.asked)
+
+pub returns-clause-ended : goal.returns-clause-ended
+returns-clause-ended g c =
+    rests_ended (followed c.args.search.first_parent (g.S.Find.history c.args.graph.now.source)) c.args.search.start (names_of c.args.names.now.entries) c.args.search.cap c.loop-next.self c.next.new.self c.loop-next.graph c.loop-next.invariant.rests
+    (c.in_default.ensures.none refl) (ap (λ v. v.items) c.next.ensures.candidates) (ap (λ v. v.items) c.next.ensures.counts) c.next.ensures.seen

@@ -1,0 +1,43 @@
+-- Which candidate is chosen, and what a walk finds.
+use Rattle.std.specs.Prelude.{◌≡◌, ℕ, ◌+◌, ◌<◌, ◌⊎◌, false, List, [], length, slice_index, get_or, Option, Some, None, MatchOption}
+use Rattle.std.specs.Option.{unwrap_or}
+use Rattle.std.specs.Ordering.{nat_cmp, on, then_cmp, is_gt}
+use Rattle.std.specs.Cmp.Lexicographic.{slice_cmp}
+use Rattle.std.specs.declared.cmp.Ordering.{Ordering}
+use Rattle.gix_base.specs.declared.hash.ObjectId.{ObjectId}
+use Rattle.gix_revwalk.specs.History.{History, Has, IsAncestor}
+use Rattle.gix_revwalk.specs.Sizes.{HasSize}
+use Rattle.gix_describe.specs.Described.{Names, name_at, IsNamedBy}
+
+-- a candidate's count, name and id
+abbrev pub Rank : Type 0
+Rank = ℕ × List ℕ × List ℕ
+
+-- by count, then by name, then by id
+abbrev pub rank_order : Rank → Rank → Ordering
+rank_order = then_cmp (then_cmp (on (λ r. r.0) nat_cmp) (on (λ r. r.1) (slice_cmp nat_cmp))) (on (λ r. r.2) (slice_cmp nat_cmp))
+
+-- the name of a commit; no bytes where it has none
+abbrev pub name_of : Names → ObjectId → List ℕ
+name_of names c = unwrap_or (name_at names c) []
+
+abbrev pub rank_of : Names → ℕ → ObjectId → Rank
+rank_of names count id = (count, name_of names id, id.0)
+
+-- the rank of the candidate at a place
+abbrev pub rank_at : Names → List ObjectId → List ℕ → ObjectId → ℕ → Rank
+rank_at names candidates counts d j = rank_of names (slice_index counts j) (get_or candidates j d)
+
+-- none of the candidates comes before the one at place j
+abbrev pub IsChosen : Names → List ObjectId → List ℕ → ℕ → Type 0
+IsChosen names candidates counts j =
+    (j < length candidates) × ((d : ObjectId) (k : ℕ) → k < length candidates
+    → is_gt (rank_order (rank_at names candidates counts d j) (rank_at names candidates counts d k)) ≡ false)
+
+-- the named ancestor with its depth, or none; how many commits were seen, and how many were popped
+abbrev pub IsFound : History → ObjectId → Names → ℕ → Option (ObjectId × ℕ) → ℕ → ℕ → Type 0
+IsFound h s names cap best seen pops =
+    Has h s × MatchOption best
+    (((c : ObjectId) → IsAncestor h s c → name_at names c ≡ None) × HasSize (IsAncestor h s) seen × (pops ≡ seen))
+    (λ p. (name : List ℕ) × (name_at names p.0 ≡ Some name) × IsNamedBy h s names cap p.0 name p.1 seen
+    × ((pops ≡ seen) ⊎ (pops ≡ seen + 1)))

@@ -1,0 +1,487 @@
+//! The walk that stops early: the newest of the queued commits is popped, and its parents are queued.
+
+ghost use Rattle.std.specs.Prelude.{◌≡◌, ◌≤◌, ◌<◌, ◌↔◌, ◌+◌, ◌^◌, ◌++◌, ◌∷◌, [], ℕ, IfOk, IfErr, IfSome, IsNone, OnOk, Some, None, List, cond, bit_or, length, slice_index, get_or, IsTrue, MatchBool, MatchOption, false};
+ghost use Rattle.std.specs.Option.{option_map};
+ghost use Rattle.std.specs.Int.{bit_at};
+ghost use Rattle.gix_base.specs.declared.hash.ObjectId.{ObjectId};
+ghost use Rattle.gix_revwalk.specs.Followed.{followed};
+ghost use Rattle.gix_revwalk.specs.Graph.{Graphed, held_at};
+ghost use Rattle.gix_revwalk.specs.History.{History, is_one_of, same_id};
+ghost use Rattle.std.specs.Ordering.{is_lt, is_gt};
+ghost use Rattle.gix_describe.specs.Asks.{Asks, IsWalkRefused};
+ghost use Rattle.gix_describe.specs.DescribeRefusals.{refusal};
+ghost use Rattle.gix_describe.specs.Choice.{rank_order, rank_at, name_of, IsChosen, IsFound};
+ghost use Rattle.gix_describe.specs.Described.{name_at};
+ghost use Rattle.gix_describe.specs.Handing.{bits, queued_ids};
+ghost use Rattle.gix_describe.specs.Order.{HoldsFirst, IsTied};
+ghost use Rattle.gix_describe.specs.Outcomes.{names_of};
+
+use crate::describe::handing::{count_late, hand_on, is_settled, mark, marks_of};
+use crate::describe::key::Key;
+use crate::describe::options::Names;
+use gix_base::error::Message;
+use gix_base::hash::ObjectId;
+use gix_revwalk::graph::{Find, Graph};
+use gix_revwalk::queue::PriorityQueue;
+use std::alloc::Allocator;
+use std::cmp::Ordering;
+
+/// What is searched: from where, how many names are weighed, and along which edges.
+#[derive(Clone, Copy)]
+pub(crate) struct Search {
+    pub(crate) start: ObjectId,
+    pub(crate) cap: usize,
+    pub(crate) first_parent: bool,
+}
+
+/// What is queued, and the named commits that were popped, each with its count. The bit of a
+/// candidate's place is its mark.
+#[derive(Drop)]
+pub(crate) struct Walk<A: Allocator> {
+    queue: PriorityQueue<Key, ObjectId, A>,
+    candidates: Vec<ObjectId, A>,
+    counts: Vec<u32, A>,
+    seen: u32,
+}
+
+/// The name of a commit; no bytes where it has none.
+fn name_bytes<'a, 'name, A: Allocator + Copy>(names: &'a Names<'name, A>, id: &ObjectId) -> &'a [u8]
+    ensures { result.now ≡ name_of (names_of names.now.entries) id.now }
+{
+    match names.get(id) {
+        Some(name) => name.as_slice(),
+        None => &[],
+    }
+}
+
+/// The bit of a place.
+fn bit_of(marks: u32, place: usize) -> u32
+    requires few { place < 32 }
+    ensures { result ≡ bit_at marks place }
+{
+    (marks >> place) & 1
+}
+
+/// Whether each queued commit has the mark of a place.
+fn all_marked<S: Find, A: Allocator + Copy>(
+    queue: &PriorityQueue<Key, ObjectId, A>,
+    place: usize,
+    graph: &Graph<S, u32, A>,
+) -> bool
+    requires few { place < 32 }
+    ensures { IsTrue result ↔ ((c : ObjectId) → IsTrue (is_one_of (queued_ids queue.now) c)
+        → bit_at (bits (held_at graph.now c)) place ≡ 1) }
+{
+    for id in queue.iter_unordered() {
+        if bit_of(marks_of(*id, graph), place) == 0 {
+            return false;
+        }
+    }
+    true
+}
+
+impl<A: Allocator + Copy> Walk<A> {
+    ghost use Rattle.gix_describe.specs.Handing.{key_of};
+    ghost use Rattle.gix_describe.specs.Trace.{is_open, IsNext, IsWalk};
+    ghost use Rattle.gix_describe.specs.WalkState.{others, IsQueue, Rests, Takes, Admits, IsEnded, IsFull, Completes, CompletesTaken, IsComplete};
+
+    /// The start alone is queued, under the greatest of times, and held without marks.
+    fn begin<S: Find>(
+        alloc: A,
+        search: Search,
+        graph: &mut Graph<S, u32, A>,
+    ) -> Result<Walk<A>, Message>
+        requires empty { (q : ObjectId) → held_at graph.old q ≡ None }
+        ensures begun { IfOk result (λ w. (names : List (ObjectId × List ℕ))
+            → Rests (followed search.first_parent (S.history graph.old.source)) search.start names search.cap w graph.new) }
+        ensures refused { IfErr result (λ e. e ≡ Message.OutOfMemory) }
+        ensures source { graph.new.source ≡ graph.old.source }
+    {
+        let mut queue = PriorityQueue::new(alloc);
+        let key = Key {
+            time: i64::MAX,
+            id: search.start,
+        };
+        if queue.insert(key, search.start).is_err() || graph.insert(search.start, 0).is_err() {
+            return Err(Message::OutOfMemory);
+        }
+        Ok(Walk {
+            queue,
+            candidates: Vec::new(alloc),
+            counts: Vec::new(alloc),
+            seen: 0,
+        })
+    }
+
+    /// The next commit, with its key; `None` where the queue is empty.
+    fn next(&mut self) -> Option<(Key, ObjectId)>
+        ensures none { IsNone result → self.old.queue ≡ [] }
+        ensures next { IfSome result (λ p. (h : History) (s : ObjectId) (popped : List ObjectId) → IsWalk h s popped
+            → IsQueue h s self.old.queue (is_open h s popped)
+            → IsNext h s popped p.1 × (p.0 ≡ key_of h s p.1) × IsQueue h s self.new.queue (others h s popped p.1)) }
+        ensures candidates { self.new.candidates ≡ self.old.candidates }
+        ensures counts { self.new.counts ≡ self.old.counts }
+        ensures seen { self.new.seen ≡ self.old.seen }
+    {
+        self.queue.pop()
+    }
+
+    /// A popped commit becomes a candidate: it gets the next mark, and all that were popped before
+    /// it are late.
+    fn take_up<S: Find>(
+        &mut self,
+        id: ObjectId,
+        graph: &mut Graph<S, u32, A>,
+    ) -> Result<(), Message>
+        requires room { length self.old.candidates.items < 32 }
+        ensures candidates { OnOk result (self.new.candidates.items ≡ self.old.candidates.items ++ id ∷ []) }
+        ensures counts { OnOk result (self.new.counts.items ≡ self.old.counts.items ++ self.old.seen ∷ []) }
+        ensures marks { (q : ObjectId) → held_at graph.new q ≡ cond (same_id id q)
+            (option_map (λ k. bit_or k (2 ^ length self.old.candidates.items)) (held_at graph.old q)) (held_at graph.old q) }
+        ensures queue { self.new.queue ≡ self.old.queue }
+        ensures seen { self.new.seen ≡ self.old.seen }
+        ensures source { graph.new.source ≡ graph.old.source }
+        ensures refused { IfErr result (λ e. e ≡ Message.OutOfMemory) }
+    {
+        let _ = mark(id, 1 << self.candidates.len(), graph);
+        if self.candidates.push(id).is_err() || self.counts.push(self.seen).is_err() {
+            return Err(Message::OutOfMemory);
+        }
+        Ok(())
+    }
+
+    /// A popped commit becomes a candidate where it is named. Where there is no room for it, it goes
+    /// back to the queue: `true`.
+    fn admit<'name, S: Find>(
+        &mut self,
+        next: (Key, ObjectId),
+        names: &Names<'name, A>,
+        search: Search,
+        graph: &mut Graph<S, u32, A>,
+    ) -> Result<bool, Message>
+        requires some { 0 < search.cap }
+        requires cap { search.cap ≤ 32 }
+        requires taken { Takes (followed search.first_parent (S.history graph.old.source)) search.start
+            (names_of names.now.entries) search.cap next self.old graph.old }
+        ensures admitted { IfOk result (λ full. MatchBool full
+            (IsFull (followed search.first_parent (S.history graph.old.source)) search.start
+            (names_of names.now.entries) search.cap self.new graph.new)
+            (Admits (followed search.first_parent (S.history graph.old.source)) search.start
+            (names_of names.now.entries) search.cap next.1 self.new graph.new)) }
+        ensures refused { IfErr result (λ e. e ≡ Message.OutOfMemory) }
+        ensures seen { self.new.seen ≡ self.old.seen }
+        ensures source { graph.new.source ≡ graph.old.source }
+    {
+        let (key, id) = next;
+        if !names.contains_key(&id) {
+            return Ok(false);
+        }
+        if self.candidates.len() < search.cap {
+            self.take_up(id, graph)?;
+            return Ok(false);
+        }
+        if self.queue.insert(key, id).is_err() {
+            return Err(Message::OutOfMemory);
+        }
+        Ok(true)
+    }
+
+    /// A popped commit is counted, and its parents are met. Where all that is left lies below each
+    /// candidate of the least count the walk ends: `true`.
+    fn pass<S: Find>(
+        &mut self,
+        alloc: A,
+        id: ObjectId,
+        names: &Names<'_, A>,
+        search: Search,
+        graph: &mut Graph<S, u32, A>,
+    ) -> Result<bool, Message>
+        requires cap { search.cap ≤ 32 }
+        requires unnamed { name_at (names_of names.now.entries) search.start ≡ None }
+        requires admitted { Admits (followed search.first_parent (S.history graph.old.source)) search.start
+            (names_of names.now.entries) search.cap id self.old graph.old }
+        ensures passed { IfOk result (λ settled. MatchBool settled
+            (IsEnded (followed search.first_parent (S.history graph.old.source)) search.start
+            (names_of names.now.entries) search.cap self.new graph.new)
+            (Rests (followed search.first_parent (S.history graph.old.source)) search.start
+            (names_of names.now.entries) search.cap self.new graph.new)) }
+        ensures seen { OnOk result (self.new.seen ≡ self.old.seen + 1) }
+        ensures asked { Asks S.history S.fault_count
+            (IsWalkRefused (followed search.first_parent (S.history graph.old.source)) search.start)
+            graph.old.source graph.new.source (refusal result) }
+    {
+        if self.seen == u32::MAX {
+            return Err(Message::CounterFull);
+        }
+        self.seen += 1;
+        let marks = marks_of(id, graph);
+        count_late(&mut self.counts, marks);
+        if self.queue.is_empty() && !self.candidates.is_empty() && is_settled(&self.counts, marks) {
+            return Ok(true);
+        }
+        match hand_on(
+            alloc,
+            id,
+            marks,
+            search.first_parent,
+            &mut self.queue,
+            graph,
+        ) {
+            Ok(()) => Ok(false),
+            Err(refused) => Err(refused),
+        }
+    }
+
+    /// Pops commits until the walk ends: where all that is left lies below each candidate of the least
+    /// count, or where there is no room for the next candidate: `true`.
+    fn run<'name, S: Find>(
+        &mut self,
+        alloc: A,
+        names: &Names<'name, A>,
+        search: Search,
+        graph: &mut Graph<S, u32, A>,
+    ) -> Result<bool, Message>
+        requires some { 0 < search.cap }
+        requires cap { search.cap ≤ 32 }
+        requires unnamed { name_at (names_of names.now.entries) search.start ≡ None }
+        requires rests { Rests (followed search.first_parent (S.history graph.old.source)) search.start
+            (names_of names.now.entries) search.cap self.old graph.old }
+        ensures ended { IfOk result (λ full. MatchBool full
+            (IsFull (followed search.first_parent (S.history graph.old.source)) search.start
+            (names_of names.now.entries) search.cap self.new graph.new)
+            (IsEnded (followed search.first_parent (S.history graph.old.source)) search.start
+            (names_of names.now.entries) search.cap self.new graph.new)) }
+        ensures asked { Asks S.history S.fault_count
+            (IsWalkRefused (followed search.first_parent (S.history graph.old.source)) search.start)
+            graph.old.source graph.new.source (refusal result) }
+    {
+        while let Some(next) = self.next() {
+            match self.admit(next, names, search, graph) {
+                Ok(true) => return Ok(true),
+                Ok(false) => {}
+                Err(refused) => return Err(refused),
+            }
+            match self.pass(alloc, next.1, names, search, graph) {
+                Ok(true) => return Ok(false),
+                Ok(false) => {}
+                Err(refused) => return Err(refused),
+            }
+        }
+        Ok(false)
+    }
+
+    /// Whether the candidate at one place comes before the one at another: by the lesser count, then by
+    /// the smaller name, then by the smaller id.
+    fn precedes<'name>(&self, i: usize, j: usize, names: &Names<'name, A>) -> bool
+        requires each { length self.now.counts.items ≡ length self.now.candidates.items }
+        requires i { i < length self.now.candidates.items }
+        requires j { j < length self.now.candidates.items }
+        ensures { (d : ObjectId) → result ≡ is_lt (rank_order
+            (rank_at (names_of names.now.entries) self.now.candidates.items self.now.counts.items d i)
+            (rank_at (names_of names.now.entries) self.now.candidates.items self.now.counts.items d j)) }
+    {
+        let a = self.candidates[i];
+        let b = self.candidates[j];
+        let counts = self.counts[i].cmp(&self.counts[j]);
+        let by_name = counts.then(name_bytes(names, &a).cmp(&name_bytes(names, &b)));
+        by_name.then(a.cmp(&b)) == Ordering::Less
+    }
+
+    /// The place of the candidate that comes first: the one at `best`, which no earlier one precedes, or
+    /// the one at `i`.
+    fn first_of<'name>(&self, best: usize, i: usize, names: &Names<'name, A>) -> usize
+        requires each { length self.now.counts.items ≡ length self.now.candidates.items }
+        requires best { best < length self.now.candidates.items }
+        requires i { i < length self.now.candidates.items }
+        ensures inside { result < length self.now.candidates.items }
+        ensures first { (d : ObjectId)
+            → ((k : ℕ) → k < i → is_gt (rank_order
+            (rank_at (names_of names.now.entries) self.now.candidates.items self.now.counts.items d best)
+            (rank_at (names_of names.now.entries) self.now.candidates.items self.now.counts.items d k)) ≡ false)
+            → (k : ℕ) → k < i + 1 → is_gt (rank_order
+            (rank_at (names_of names.now.entries) self.now.candidates.items self.now.counts.items d result)
+            (rank_at (names_of names.now.entries) self.now.candidates.items self.now.counts.items d k)) ≡ false }
+    {
+        if self.precedes(i, best, names) {
+            i
+        } else {
+            best
+        }
+    }
+
+    /// The place of the candidate that is chosen; `None` where there is none.
+    fn chosen<'name>(&self, names: &Names<'name, A>) -> Option<usize>
+        requires each { length self.now.counts.items ≡ length self.now.candidates.items }
+        ensures none { IsNone result → self.now.candidates.items ≡ [] }
+        ensures chosen { IfSome result (IsChosen (names_of names.now.entries) self.now.candidates.items self.now.counts.items) }
+    {
+        if self.candidates.is_empty() {
+            return None;
+        }
+        let mut best = 0;
+        for i in 0..self.candidates.len() {
+            best = self.first_of(best, i, names);
+        }
+        Some(best)
+    }
+
+    /// A popped commit is counted for one candidate, and its parents are met. Where it and all that is
+    /// queued have the candidate's mark, the count is complete: `true`.
+    fn pass_for<S: Find>(
+        &mut self,
+        alloc: A,
+        id: ObjectId,
+        place: usize,
+        count: u32,
+        search: Search,
+        graph: &mut Graph<S, u32, A>,
+    ) -> Result<(u32, bool), Message>
+        requires few { place < 32 }
+        requires taken { (cut : ℕ) × CompletesTaken (followed search.first_parent (S.history graph.old.source))
+            search.start place count id cut self.old graph.old }
+        ensures passed { IfOk result (λ r. (cut : ℕ)
+            → CompletesTaken (followed search.first_parent (S.history graph.old.source)) search.start
+            place count id cut self.old graph.old
+            → MatchBool r.1
+            (IsComplete (followed search.first_parent (S.history graph.old.source)) search.start
+            (get_or self.old.candidates.items place search.start) r.0 self.new.seen cut
+            (held_at graph.new))
+            (Completes (followed search.first_parent (S.history graph.old.source)) search.start
+            place r.0 cut self.new graph.new)) }
+        ensures seen { OnOk result (self.new.seen ≡ self.old.seen + 1) }
+        ensures candidates { self.new.candidates ≡ self.old.candidates }
+        ensures asked { Asks S.history S.fault_count
+            (IsWalkRefused (followed search.first_parent (S.history graph.old.source)) search.start)
+            graph.old.source graph.new.source (refusal result) }
+    {
+        if self.seen == u32::MAX {
+            return Err(Message::CounterFull);
+        }
+        self.seen += 1;
+        let marks = marks_of(id, graph);
+        let late = 1 - bit_of(marks, place);
+        if late == 0 && all_marked(&self.queue, place, graph) {
+            return Ok((count, true));
+        }
+        match hand_on(
+            alloc,
+            id,
+            marks,
+            search.first_parent,
+            &mut self.queue,
+            graph,
+        ) {
+            Ok(()) => Ok((count + late, false)),
+            Err(refused) => Err(refused),
+        }
+    }
+
+    /// Goes on for one candidate until its count is complete.
+    fn complete<S: Find>(
+        &mut self,
+        alloc: A,
+        place: usize,
+        count: u32,
+        search: Search,
+        graph: &mut Graph<S, u32, A>,
+    ) -> Result<u32, Message>
+        requires few { place < 32 }
+        requires completes { Completes (followed search.first_parent (S.history graph.old.source)) search.start
+            place count self.old.seen self.old graph.old }
+        ensures complete { IfOk result (λ depth.
+            IsComplete (followed search.first_parent (S.history graph.old.source)) search.start
+            (get_or self.old.candidates.items place search.start) depth self.new.seen self.old.seen
+            (held_at graph.new)) }
+        ensures asked { Asks S.history S.fault_count
+            (IsWalkRefused (followed search.first_parent (S.history graph.old.source)) search.start)
+            graph.old.source graph.new.source (refusal result) }
+    {
+        let mut depth = count;
+        while let Some((_, id)) = self.next() {
+            match self.pass_for(alloc, id, place, depth, search, graph) {
+                Ok((complete, true)) => return Ok(complete),
+                Ok((counted, false)) => depth = counted,
+                Err(refused) => return Err(refused),
+            }
+        }
+        Ok(depth)
+    }
+}
+
+/// One more than a count.
+fn one_more(count: u32) -> u128
+    ensures { result ≡ count + 1 }
+{
+    u128::from(count) + 1
+}
+
+/// What a walk finds.
+#[derive(Drop)]
+pub(crate) struct Found {
+    /// The named ancestor that is chosen, with its depth.
+    pub(crate) best: Option<(ObjectId, u32)>,
+    /// How many commits were seen.
+    pub(crate) seen: u32,
+    /// How many commits left the queue.
+    pub(crate) pops: u128,
+}
+
+/// Walks from the start until a named ancestor is chosen and its depth is complete.
+pub(crate) fn find_name<'name, S: Find, A: Allocator + Copy>(
+    alloc: A,
+    names: &Names<'name, A>,
+    search: Search,
+    graph: &mut Graph<S, u32, A>,
+) -> Result<Found, Message>
+    requires some { 0 < search.cap }
+    requires cap { search.cap ≤ 32 }
+    requires unnamed { name_at (names_of names.now.entries) search.start ≡ None }
+    requires empty { (q : ObjectId) → held_at graph.old q ≡ None }
+    ensures found { IfOk result (λ f. IsFound (followed search.first_parent (S.history graph.old.source)) search.start
+        (names_of names.now.entries) search.cap f.best f.seen f.pops) }
+    ensures tied { IfOk result (λ f. IfSome f.best (λ p. IsTied
+        (followed search.first_parent (S.history graph.old.source)) search.start
+        (names_of names.now.entries) search.cap p.0 p.1 f.seen)) }
+    ensures held { IfOk result (λ f. HoldsFirst
+        (followed search.first_parent (S.history graph.old.source)) search.start f.seen (held_at graph.new)) }
+    ensures asked { Asks S.history S.fault_count
+        (IsWalkRefused (followed search.first_parent (S.history graph.old.source)) search.start)
+        graph.old.source graph.new.source (refusal result) }
+{
+    let mut walk = match Walk::begin(alloc, search, graph) {
+        Ok(walk) => walk,
+        Err(refused) => return Err(refused),
+    };
+    let full = match walk.run(alloc, names, search, graph) {
+        Ok(full) => full,
+        Err(refused) => return Err(refused),
+    };
+    let place = match walk.chosen(names) {
+        Some(place) => place,
+        None => {
+            return Ok(Found {
+                best: None,
+                seen: walk.seen,
+                pops: u128::from(walk.seen),
+            });
+        }
+    };
+    let id = walk.candidates[place];
+    let count = walk.counts[place];
+    if !full {
+        return Ok(Found {
+            best: Some((id, count)),
+            seen: walk.seen,
+            pops: u128::from(walk.seen),
+        });
+    }
+    // The commit that was given up is popped once more.
+    match walk.complete(alloc, place, count, search, graph) {
+        Ok(depth) => Ok(Found {
+            best: Some((id, depth)),
+            seen: walk.seen,
+            pops: one_more(walk.seen),
+        }),
+        Err(refused) => Err(refused),
+    }
+}

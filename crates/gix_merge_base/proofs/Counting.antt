@@ -1,0 +1,207 @@
+-- The count of queued entries whose commit is not stale, over one more entry and over one less.
+use Rattle.std.proofs.Common.{◌≡◌, ℕ, true, false, cond, refl, ap, sym, subst, ◌∙◌, List, [], ◌∷◌, not, ◌+◌, ◌-◌, ◌≤◌, length, arith, IsTrue}
+use Rattle.std.specs.List.{sum_by}
+use Rattle.std.specs.List.Sorted.{IsPermutation}
+use Rattle.std.proofs.lemmas.List.Sums.{sum_by-cons}
+use Rattle.std.proofs.lemmas.List.Sorted.{sum_by_pushed, sum_by_popped}
+use Rattle.gix_base.specs.declared.hash.ObjectId.{ObjectId}
+use Rattle.gix_revwalk.specs.History.{same_id}
+use Rattle.gix_revwalk.proofs.Ids.{same_id-true, same_id-itself}
+use Rattle.gix_merge_base.specs.Marks.{MarkSet, level}
+use Rattle.gix_merge_base.specs.Counting.{times, unstale, Counts}
+
+same_sum : (f g : ObjectId → ℕ) → ((c : ObjectId) → g c ≡ f c) → (q : List ObjectId) → sum_by g q ≡ sum_by f q
+same_sum f g e [] = refl
+same_sum f g e (x ∷ xs) = let a = sum_by-cons f x xs in let b = sum_by-cons g x xs in let i = same_sum f g e xs in let s = e x in omega arith
+
+-- what stands for one at id and now for nothing
+less_sum : (id : ObjectId) (f g : ObjectId → ℕ) → f id ≡ 1 → g id ≡ 0 → ((c : ObjectId) → same_id id c ≡ false → g c ≡ f c) → (q : List ObjectId) → sum_by g q + times id q ≡ sum_by f q
+less_sum id f g one none e [] = refl
+less_sum id f g one none e (x ∷ xs) =
+    let a = sum_by-cons f x xs in
+    let b = sum_by-cons g x xs in
+    let t = sum_by-cons (λ y. level (same_id id y)) x xs in
+    let i = less_sum id f g one none e xs in
+    elim (same_id id x) as (λ s. same_id id x ≡ s → sum_by g (x ∷ xs) + times id (x ∷ xs) ≡ sum_by f (x ∷ xs)) [
+      | true ↦ λ same.
+          let is = same_id-true id x same in
+          let fx : f x ≡ 1 = subst (λ z. f z ≡ 1) is one in
+          let gx : g x ≡ 0 = subst (λ z. g z ≡ 0) is none in
+          let lx : level (same_id id x) ≡ 1 = ap level same in
+          omega arith
+      | false ↦ λ apart.
+          let lx : level (same_id id x) ≡ 0 = ap level apart in
+          let fg = e x apart in
+          omega arith
+    ] refl
+
+-- a commit gets marks and an entry; n is how often it was queued
+module _ (m m' : ObjectId → MarkSet) (n n' : ObjectId → ℕ) (q q' : List ObjectId) (id : ObjectId) (w : MarkSet)
+    (marks : (c : ObjectId) → m' c ≡ cond (same_id id c) w (m c)) (queued : (c : ObjectId) → n' c ≡ cond (same_id id c) (n id + 1) (n c)) (perm : IsPermutation (id ∷ q) q') where
+  counted : (o : ℕ) → Counts m n q o → (c : ObjectId) → n' c ≡ times c q'
+  counted o k c =
+      let pushed = sum_by_pushed (λ x. level (same_id c x)) id q q' perm in
+      let old = k.times in
+      elim (same_id id c) as (λ s. same_id id c ≡ s → n' c ≡ cond s (n id + 1) (n c) → n' c ≡ times c q') [
+        | true ↦ λ same is.
+            let eq = same_id-true id c same in
+            let at : n c ≡ n id = ap n (sym eq) in
+            let one : level (same_id c id) ≡ 1 = ap (λ z. level (same_id c z)) eq ∙ ap level (same_id-itself c) in
+            let here = old c in
+            omega arith
+        | false ↦ λ apart is.
+            let none : level (same_id c id) ≡ 0 = ap level (apart_sym c id apart) in
+            let here = old c in
+            omega arith
+      ] refl (queued c)
+    where
+      apart_sym : (a b : ObjectId) → same_id b a ≡ false → same_id a b ≡ false
+      apart_sym a b e = elim (same_id a b) as (λ s. same_id a b ≡ s → s ≡ false) [
+        | false ↦ λ _. refl
+        | true ↦ λ t. let is = same_id-true a b t in let eq : same_id b a ≡ true = subst (λ z. same_id z a ≡ true) is (same_id-itself a) in cc
+      ] refl
+
+  at_id : m' id ≡ w
+  at_id = marks id ∙ ap (λ b. cond b w (m id)) (same_id-itself id)
+
+  off : (c : ObjectId) → same_id id c ≡ false → m' c ≡ m c
+  off c e = marks c ∙ ap (λ b. cond b w (m c)) e
+
+  -- it was not stale, and is not: one entry more
+  pub counts_open : (o : ℕ) → Counts m n q o → (m id).stale ≡ false → w.stale ≡ false → Counts m' n' q' (o + 1)
+  counts_open o k was is =
+      let now : level (not (m' id).stale) ≡ 1 = ap (λ z. level (not z)) (ap (λ (z : MarkSet). z.stale) at_id ∙ is) in
+      let pushed = sum_by_pushed (λ x. level (not (m' x).stale)) id q q' perm in
+      let same = same_sum (λ x. level (not (m x).stale)) (λ x. level (not (m' x).stale)) (λ c. elim (same_id id c) as (λ s. same_id id c ≡ s → level (not (m' c).stale) ≡ level (not (m c).stale)) [
+        | true ↦ λ e. let eq = same_id-true id c e in subst (λ z. level (not (m' z).stale) ≡ level (not (m z).stale)) eq (now ∙ sym (ap (λ z. level (not z)) was))
+        | false ↦ λ e. ap (λ (z : MarkSet). level (not z.stale)) (off c e)
+      ] refl) q in
+      let old = k.unstale in
+      record { unstale = omega arith; times = counted o k }
+
+  -- it was stale, and is: nothing is counted
+  pub counts_stale : (o : ℕ) → Counts m n q o → (m id).stale ≡ true → w.stale ≡ true → Counts m' n' q' o
+  counts_stale o k was is =
+      let now : level (not (m' id).stale) ≡ 0 = ap (λ z. level (not z)) (ap (λ (z : MarkSet). z.stale) at_id ∙ is) in
+      let pushed = sum_by_pushed (λ x. level (not (m' x).stale)) id q q' perm in
+      let same = same_sum (λ x. level (not (m x).stale)) (λ x. level (not (m' x).stale)) (λ c. elim (same_id id c) as (λ s. same_id id c ≡ s → level (not (m' c).stale) ≡ level (not (m c).stale)) [
+        | true ↦ λ e. let eq = same_id-true id c e in subst (λ z. level (not (m' z).stale) ≡ level (not (m z).stale)) eq (now ∙ sym (ap (λ z. level (not z)) was))
+        | false ↦ λ e. ap (λ (z : MarkSet). level (not z.stale)) (off c e)
+      ] refl) q in
+      let old = k.unstale in
+      record { unstale = omega arith; times = counted o k }
+
+  -- it turns stale: all its entries leave the count
+  pub counts_turned : (o : ℕ) → Counts m n q o → (m id).stale ≡ false → w.stale ≡ true → Counts m' n' q' (o - n id)
+  counts_turned o k was is =
+      let now : level (not (m' id).stale) ≡ 0 = ap (λ z. level (not z)) (ap (λ (z : MarkSet). z.stale) at_id ∙ is) in
+      let before : level (not (m id).stale) ≡ 1 = ap (λ z. level (not z)) was in
+      let pushed = sum_by_pushed (λ x. level (not (m' x).stale)) id q q' perm in
+      let less = less_sum id (λ x. level (not (m x).stale)) (λ x. level (not (m' x).stale)) before now (λ c e. ap (λ (z : MarkSet). level (not z.stale)) (off c e)) q in
+      let old = k.unstale in
+      let own = k.times id in
+      record { unstale = omega arith; times = counted o k }
+
+  -- whichever it is
+  pub counts_hand : (o : ℕ) → Counts m n q o → (IsTrue (m id).stale → IsTrue w.stale) → Counts m' n' q' (cond (not w.stale) (o + 1) (cond (m id).stale o (o - n id)))
+  counts_hand o k stays =
+      elim w.stale as (λ b. w.stale ≡ b → Counts m' n' q' (cond (not b) (o + 1) (cond (m id).stale o (o - n id)))) [
+        | false ↦ λ now. counts_open o k (elim (m id).stale as (λ b. (m id).stale ≡ b → b ≡ false) [
+          | false ↦ λ _. refl
+          | true ↦ λ was. let is = stays was in cc
+        ] refl) now
+        | true ↦ λ now. elim (m id).stale as (λ b. (m id).stale ≡ b → Counts m' n' q' (cond b o (o - n id))) [
+          | true ↦ λ was. counts_stale o k was now
+          | false ↦ λ was. counts_turned o k was now
+        ] refl
+      ] refl
+
+-- the count of one commit is at most the whole, where it is not stale
+pub counts_enough : (m : ObjectId → MarkSet) (n : ObjectId → ℕ) (q : List ObjectId) (o : ℕ) (id : ObjectId) → Counts m n q o → (m id).stale ≡ false → n id ≤ o
+counts_enough m n q o id k was =
+    let before : level (not (m id).stale) ≡ 1 = ap (λ z. level (not z)) was in
+    let own = k.times id in
+    let old = k.unstale in
+    let le = at_most id m before q in
+    omega arith
+  where
+    at_most : (id : ObjectId) (m : ObjectId → MarkSet) → level (not (m id).stale) ≡ 1 → (q : List ObjectId) → times id q ≤ unstale m q
+    at_most id m one [] = omega arith
+    at_most id m one (x ∷ xs) =
+        let a = sum_by-cons (λ y. level (same_id id y)) x xs in
+        let b = sum_by-cons (λ y. level (not (m y).stale)) x xs in
+        let i = at_most id m one xs in
+        elim (same_id id x) as (λ s. same_id id x ≡ s → times id (x ∷ xs) ≤ unstale m (x ∷ xs)) [
+          | true ↦ λ same.
+              let is = same_id-true id x same in
+              let fx : level (not (m x).stale) ≡ 1 = subst (λ z. level (not (m z).stale) ≡ 1) is one in
+              let lx : level (same_id id x) ≡ 1 = ap level same in
+              omega arith
+          | false ↦ λ apart. let lx : level (same_id id x) ≡ 0 = ap level apart in omega arith
+        ] refl
+
+-- no more is counted than is queued
+pub counts_few : (m : ObjectId → MarkSet) (n : ObjectId → ℕ) (q : List ObjectId) (o : ℕ) → Counts m n q o → o ≤ length q
+counts_few m n q o k = let old = k.unstale in let le = at_most m q in omega arith
+  where
+    at_most : (m : ObjectId → MarkSet) (q : List ObjectId) → unstale m q ≤ length q
+    at_most m [] = omega arith
+    at_most m (x ∷ xs) =
+        let b = sum_by-cons (λ y. level (not (m y).stale)) x xs in
+        let i = at_most m xs in
+        elim (not (m x).stale) as (λ s. not (m x).stale ≡ s → unstale m (x ∷ xs) ≤ length (x ∷ xs)) [
+          | true ↦ λ e. let l : level (not (m x).stale) ≡ 1 = ap level e in omega arith
+          | false ↦ λ e. let l : level (not (m x).stale) ≡ 0 = ap level e in omega arith
+        ] refl
+
+-- nothing is counted where each queued commit is stale, and then alone
+pub counts_zero : (m : ObjectId → MarkSet) (n : ObjectId → ℕ) (q : List ObjectId) → Counts m n q 0 → unstale m q ≡ 0
+counts_zero m n q k = sym k.unstale
+
+-- an entry leaves
+pub counts_popped : (m m' : ObjectId → MarkSet) (n n' : ObjectId → ℕ) (q q' : List ObjectId) (id : ObjectId) (o : ℕ)
+    → ((c : ObjectId) → m' c ≡ m c) → ((c : ObjectId) → n' c ≡ cond (same_id id c) (n id - 1) (n c)) → IsPermutation q (id ∷ q')
+    → Counts m n q o → Counts m' n' q' (cond (m id).stale o (o - 1))
+counts_popped m m' n n' q q' id o marks queued perm k =
+    let old = k.unstale in
+    let gone = sum_by_popped (λ x. level (not (m x).stale)) id q q' perm in
+    let same = same_sum (λ x. level (not (m x).stale)) (λ x. level (not (m' x).stale)) (λ c. ap (λ (z : MarkSet). level (not z.stale)) (marks c)) q' in
+    record {
+      unstale = elim (m id).stale as (λ b. (m id).stale ≡ b → cond b o (o - 1) ≡ unstale m' q') [
+        | true ↦ λ e. let l : level (not (m id).stale) ≡ 0 = ap (λ z. level (not z)) e in omega arith
+        | false ↦ λ e. let l : level (not (m id).stale) ≡ 1 = ap (λ z. level (not z)) e in omega arith
+      ] refl;
+      times = λ c.
+          let left = sum_by_popped (λ x. level (same_id c x)) id q q' perm in
+          let had = k.times c in
+          elim (same_id id c) as (λ s. same_id id c ≡ s → n' c ≡ cond s (n id - 1) (n c) → n' c ≡ times c q') [
+            | true ↦ λ e is.
+                let eq = same_id-true id c e in
+                let at : n c ≡ n id = ap n (sym eq) in
+                let one : level (same_id c id) ≡ 1 = ap (λ z. level (same_id c z)) eq ∙ ap level (same_id-itself c) in
+                omega arith
+            | false ↦ λ e is.
+                let none : level (same_id c id) ≡ 0 = ap level (apart c id e) in
+                omega arith
+          ] refl (queued c);
+    }
+  where
+    apart : (a b : ObjectId) → same_id b a ≡ false → same_id a b ≡ false
+    apart a b e = elim (same_id a b) as (λ s. same_id a b ≡ s → s ≡ false) [
+      | false ↦ λ _. refl
+      | true ↦ λ t. let is = same_id-true a b t in let eq : same_id b a ≡ true = subst (λ z. same_id z a ≡ true) is (same_id-itself a) in cc
+    ] refl
+
+-- the same marks and counts
+pub counts_same : (m m' : ObjectId → MarkSet) (n n' : ObjectId → ℕ) (q q' : List ObjectId) (o : ℕ) → ((c : ObjectId) → m' c ≡ m c) → ((c : ObjectId) → n' c ≡ n c) → q' ≡ q → Counts m n q o → Counts m' n' q' o
+counts_same m m' n n' q q' o marks queued is k = rw is record {
+  unstale = k.unstale ∙ sym (same_sum (λ x. level (not (m x).stale)) (λ x. level (not (m' x).stale)) (λ c. ap (λ (z : MarkSet). level (not z.stale)) (marks c)) q);
+  times = λ c. queued c ∙ k.times c;
+}
+
+-- the same commits are stale
+pub counts_noted : (m m' : ObjectId → MarkSet) (n n' : ObjectId → ℕ) (q q' : List ObjectId) (o : ℕ) → ((c : ObjectId) → (m' c).stale ≡ (m c).stale) → ((c : ObjectId) → n' c ≡ n c) → q' ≡ q → Counts m n q o → Counts m' n' q' o
+counts_noted m m' n n' q q' o marks queued is k = rw is record {
+  unstale = k.unstale ∙ sym (same_sum (λ x. level (not (m x).stale)) (λ x. level (not (m' x).stale)) (λ c. ap (λ z. level (not z)) (marks c)) q);
+  times = λ c. queued c ∙ k.times c;
+}

@@ -1,0 +1,67 @@
+use Rattle.std.proofs.Common.{◌≤◌, length, arith, subst, ◌∙◌, IsTrue, ◌↔◌}
+use Rattle.gix_revwalk.specs.History.{is_one_of}
+use Rattle.gix_merge_base.specs.Reducing.{IsIndependent, SomeOf}
+use Rattle.gix_merge_base.proofs.Best.{max_of_painted, few_are_max, few_alike, some_falls, some_once, some_within}
+use Rattle.gix_merge_base.proofs.merge_base.bases.best.Goals as goal
+
+pub returns-then-len-le1-clause-best : goal.returns-then-len-le1-clause-best
+returns-then-len-le1-clause-best g c acyclic hold c' =
+    let h = g.S.Find.history c.args.graph.now.source in
+    let few : length c.in_ok-painted.painted.items ≤ 1 = omega arith in
+    let is = max_of_painted h c.args.first c.args.others.now c.in_ok-painted.painted.items acyclic c.in_ok-painted.ensures.common (c.in_ok-painted.ensures.best acyclic) c' in
+    ((λ k. is.0 (few_are_max h c.in_ok-painted.painted.items few c' k)), (λ max. c.in_ok-painted.ensures.best acyclic c' max))
+
+pub returns-clause-best : goal.returns-clause-best
+returns-clause-best g c acyclic hold c' =
+    let h = g.S.Find.history c.args.graph.now.source in
+    let max = rw c.paint.ensures.history at c.in_ok-left.ensures.independent in
+    let left = subst (λ z. IsTrue (is_one_of c.in_ok-left.left.items c') ↔ IsIndependent h z c') c.deref.ensures.value (max acyclic hold c') in
+    let is = max_of_painted h c.args.first c.args.others.now c.in_ok-painted.painted.items acyclic c.in_ok-painted.ensures.common (c.in_ok-painted.ensures.best acyclic) c' in
+    ((λ k. is.0 (left.0 k)), (λ m. left.1 (is.1 m)))
+
+pub returns-then-len-le1-clause-covers : goal.returns-then-len-le1-clause-covers
+returns-then-len-le1-clause-covers g c acyclic = record { every = c.in_ok-painted.ensures.best acyclic; common = c.in_ok-painted.ensures.common }
+
+pub returns-clause-covers : goal.returns-clause-covers
+returns-clause-covers g c acyclic =
+    let h = g.S.Find.history c.args.graph.now.source in
+    let kept = rw c.paint.ensures.history at c.in_ok-left.ensures.kept in
+    record {
+      every = λ c' m.
+          let left = subst (λ z. IsIndependent h z c' → IsTrue (is_one_of c.in_ok-left.left.items c')) c.deref.ensures.value (kept acyclic c') in
+          let is = max_of_painted h c.args.first c.args.others.now c.in_ok-painted.painted.items acyclic c.in_ok-painted.ensures.common (c.in_ok-painted.ensures.best acyclic) c' in
+          left (is.1 m);
+      common = λ c' k. c.in_ok-painted.ensures.common c' (some_within c.in_ok-painted.painted.items c.in_ok-left.left.items (subst (λ z. SomeOf z c.in_ok-left.left.items) c.deref.ensures.value c.in_ok-left.ensures.some) c' k);
+    }
+
+pub returns-clause-once : goal.returns-clause-once
+returns-clause-once g c = some_once c.deref.result.now c.in_ok-left.left.items c.in_ok-left.ensures.some
+
+pub returns-clause-falling : goal.returns-clause-falling
+returns-clause-falling g c none = some_falls _ c.in_ok-painted.painted.items c.in_ok-left.left.items (subst (λ z. SomeOf z c.in_ok-left.left.items) c.deref.ensures.value c.in_ok-left.ensures.some) (c.in_ok-painted.ensures.falling none)
+
+pub returns-clause-taken : goal.returns-clause-taken
+returns-clause-taken g c acyclic falls alike =
+    let strict = c.in_ok-painted.ensures.strict acyclic falls in
+    let few = few_alike c.in_ok-painted.painted.items c.in_ok-painted.ensures.once (λ a b a_in b_in. alike a b (strict a a_in) (strict b b_in)) in
+    absurd (omega arith)
+
+pub returns-in_err-left-clause-taken : goal.returns-in_err-left-clause-taken
+returns-in_err-left-clause-taken g c acyclic falls alike =
+    let strict = c.in_ok-painted.ensures.strict acyclic falls in
+    let few = few_alike c.in_ok-painted.painted.items c.in_ok-painted.ensures.once (λ a b a_in b_in. alike a b (strict a a_in) (strict b b_in)) in
+    absurd (omega arith)
+
+pub returns-clause-after : goal.returns-clause-after
+returns-clause-after g c = record {
+  same_history = c.in_ok-left.ensures.history ∙ c.in_ok-painted.ensures.history;
+  cause = tt;
+  count = c.in_ok-left.ensures.count ∙ c.in_ok-painted.ensures.count;
+  held = λ q k. c.reduce.ensures.held q (c.paint.ensures.held q k);
+}
+
+pub returns-then-len-le1-clause-most : goal.returns-then-len-le1-clause-most
+returns-then-len-le1-clause-most g c = c.in_ok-painted.ensures.most
+
+pub returns-clause-most : goal.returns-clause-most
+returns-clause-most g c = c.in_ok-painted.ensures.most

@@ -1,0 +1,43 @@
+use Rattle.std.proofs.Common.{sym, subst, IsTrue, ◌↔◌}
+use Rattle.std.specs.List.{IsDistinct}
+use Rattle.gix_revwalk.specs.History.{is_one_of, same_id}
+use Rattle.gix_revwalk.proofs.Members.{one_is_distinct}
+use Rattle.gix_merge_base.specs.Keys.{InFallingOrder}
+use Rattle.gix_merge_base.specs.Bases.{IsBase, CoverBases}
+use Rattle.gix_merge_base.proofs.Answered.{from-vec, not_plain, base-from_max, bases-found}
+use Rattle.gix_merge_base.proofs.merge_base.bases.counted.Goals as goal
+
+pub returns-then-is_empty-clause-once : goal.returns-then-is_empty-clause-once
+returns-then-is_empty-clause-once g c = rw c.new.ensures (one_is_distinct c.args.first)
+
+pub returns-then-is_empty-clause-falling : goal.returns-then-is_empty-clause-falling
+returns-then-is_empty-clause-falling g c none = subst (InFallingOrder (g.S.Find.history c.args.graph.now.source)) (sym c.new.ensures) ((λ y k. cc), tt)
+
+pub returns-clause-bases : goal.returns-clause-bases
+returns-clause-bases g c acyclic hold c' =
+    let h = g.S.Find.history c.args.graph.now.source in
+    subst (λ l. IsTrue (is_one_of l c') ↔ IsBase h c.args.first c.args.others.now c') (sym (from-vec c.from_vec.result c.in_ok-found.found.items c.from_vec.ensures.none c.from_vec.ensures.same))
+    (bases-found h c.args.first c.args.others.now c.in_ok-found.found.items (not_plain c.args.others.now c.args.first _ _ c.is_empty.ensures c.if-is_empty.false c.stands_in.ensures c.if-stands_in.false) c' (c.in_ok-found.ensures.best acyclic hold c'))
+
+pub returns-clause-once : goal.returns-clause-once
+returns-clause-once g c = subst (IsDistinct same_id) (sym (from-vec c.from_vec.result c.in_ok-found.found.items c.from_vec.ensures.none c.from_vec.ensures.same)) c.in_ok-found.ensures.once
+
+pub returns-clause-falling : goal.returns-clause-falling
+returns-clause-falling g c none = subst (InFallingOrder (g.S.Find.history c.args.graph.now.source)) (sym (from-vec c.from_vec.result c.in_ok-found.found.items c.from_vec.ensures.none c.from_vec.ensures.same)) (c.in_ok-found.ensures.falling none)
+
+pub returns-clause-taken : goal.returns-clause-taken
+returns-clause-taken g c acyclic falls alike =
+    let plain = not_plain c.args.others.now c.args.first _ _ c.is_empty.ensures c.if-is_empty.false c.stands_in.ensures c.if-stands_in.false in
+    c.in_ok-found.ensures.taken acyclic falls (λ a b x y. alike a b (base-from_max _ c.args.first c.args.others.now plain a x) (base-from_max _ c.args.first c.args.others.now plain b y))
+
+pub returns-clause-without_generations : goal.returns-clause-without_generations
+returns-clause-without_generations g c acyclic trivial =
+    subst (λ l. CoverBases (g.S.Find.history c.args.graph.now.source) c.args.first c.args.others.now l) (sym (from-vec c.from_vec.result c.in_ok-found.found.items c.from_vec.ensures.none c.from_vec.ensures.same)) (c.in_ok-found.ensures.covers acyclic)
+
+pub returns-in_err-found-clause-taken : goal.returns-in_err-found-clause-taken
+returns-in_err-found-clause-taken g c acyclic falls alike =
+    let plain = not_plain c.args.others.now c.args.first _ _ c.is_empty.ensures c.if-is_empty.false c.stands_in.ensures c.if-stands_in.false in
+    c.best.ensures.taken acyclic falls (λ a b x y. alike a b (base-from_max _ c.args.first c.args.others.now plain a x) (base-from_max _ c.args.first c.args.others.now plain b y))
+
+pub returns-clause-most : goal.returns-clause-most
+returns-clause-most g c = c.in_ok-found.ensures.most

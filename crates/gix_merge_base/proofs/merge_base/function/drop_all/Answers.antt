@@ -1,6 +1,0 @@
-use Rattle.std.proofs.Common.{rules}
-use Rattle.std.proofs.lemmas.Fn.{filter_same}
-use Rattle.gix_merge_base.proofs.merge_base.function.drop_all.Goals as goal
-
-pub returns : goal.returns
-returns g c = filter_same _ _ _ (λ x b f' s. search rules) _ _ c.retain.ensures.filtered

@@ -1,0 +1,58 @@
+use Rattle.std.proofs.Common.{◌≡◌, ◌<◌, ◌+◌, ◌-◌, sym, ap, subst, ◌∙◌, ◌∷◌, cond, not, rules}
+use Rattle.gix_revwalk.specs.History.{same_id}
+use Rattle.gix_revwalk.specs.Graph.{held_len}
+use Rattle.gix_revwalk.specs.Number.{place_in}
+use Rattle.gix_revwalk.specs.declared.numbers.Mark.{Mark}
+use Rattle.gix_revwalk.proofs.Ids.{same_id-true}
+use Rattle.gix_merge_base.specs.Marks.{marks_of, joined}
+use Rattle.gix_merge_base.specs.Counting.{Counts, open_then}
+use Rattle.gix_merge_base.specs.PaintQueue.{marks_at, queued_at, queued_ids, id_at, key_in}
+use Rattle.gix_merge_base.specs.declared.merge_base.flags.Flags.{Flags}
+use Rattle.gix_merge_base.proofs.Counting.{counts_hand}
+use Rattle.gix_merge_base.proofs.Numbered.{same-len, held-permutation, ids-pushed, given-marks, given-queued, joined-at, stays-stale, named-id}
+use Rattle.gix_merge_base.proofs.QueueKeys.{keyed-pushed}
+use Rattle.gix_merge_base.proofs.merge_base.hand.enter.Goals as goal
+
+pub returns-clause-counts : goal.returns-clause-counts
+returns-clause-counts g c k =
+    let old_graph = c.args.graph.now in
+    let new_graph = c.set_mark.new.graph in
+    let id = id_at old_graph (place_in c.args.number) in
+    let m = marks_at old_graph in
+    let n = queued_at old_graph in
+    let w = c.joined-new.result in
+    let o = c.args.open_entries.now in
+    let more : c.in-Some.queued ≡ c.args.old.queued + 1 = search rules in
+    let eq : c.open_after.result ≡ cond (not (marks_of w).stale) (o + 1) (cond (m id).stale o (o - n id)) = c.open_after.ensures ∙ ap (λ z. open_then o z w) c.requires.had in
+    let is : marks_of w ≡ joined (marks_of c.args.marks) (m id) = c.joined-new.ensures ∙ ap (λ (z : Mark Flags). joined (marks_of c.args.marks) (marks_of z.marks)) c.requires.had in
+    subst (λ z. Counts (marks_at new_graph) (queued_at new_graph) (queued_ids new_graph c.insert.new.self) z) (sym eq)
+    (counts_hand m (marks_at new_graph) n (queued_at new_graph) (queued_ids old_graph c.args.queue.now) (queued_ids new_graph c.insert.new.self) id (marks_of w)
+    (given-marks old_graph new_graph (place_in c.args.number) (record { marks = w; queued = c.in-Some.queued }) c.requires.number c.set_mark.ensures)
+    (λ d. given-queued old_graph new_graph (place_in c.args.number) (record { marks = w; queued = c.in-Some.queued }) c.requires.number c.set_mark.ensures d
+    ∙ ap (λ z. cond (same_id id d) z (n d)) (more ∙ ap (λ (z : Mark Flags). z.queued + 1) c.requires.had))
+    (ids-pushed old_graph new_graph c.set_mark.ensures.ids c.from-key.result c.args.number c.args.queue.now c.insert.new.self c.in-Ok.ensures.ok)
+    o k (stays-stale (marks_of c.args.marks) (m id) (marks_of w) is))
+
+pub returns-clause-gives : goal.returns-clause-gives
+returns-clause-gives g c =
+    let old_graph = c.args.graph.now in
+    let new_graph = c.set_mark.new.graph in
+    let id = id_at old_graph (place_in c.args.number) in
+    let m = marks_at old_graph in
+    let w = c.joined-new.result in
+    let is : marks_of w ≡ joined (marks_of c.args.marks) (m id) = c.joined-new.ensures ∙ ap (λ (z : Mark Flags). joined (marks_of c.args.marks) (marks_of z.marks)) c.requires.had in
+    joined-at m id (marks_of c.args.marks) (marks_of w) is (marks_at new_graph) (given-marks old_graph new_graph (place_in c.args.number) (record { marks = w; queued = c.in-Some.queued }) c.requires.number c.set_mark.ensures) (λ d e. same_id-true id d e)
+
+pub returns-clause-queued : goal.returns-clause-queued
+returns-clause-queued g c = ids-pushed c.args.graph.now c.set_mark.new.graph c.set_mark.ensures.ids c.from-key.result c.args.number c.args.queue.now c.insert.new.self c.in-Ok.ensures.ok
+
+pub returns-clause-keyed : goal.returns-clause-keyed
+returns-clause-keyed g c old =
+    let h = g.S.Find.history c.args.graph.now.source in
+    let agrees = c.value.ensures.agrees (id_at c.args.graph.now (place_in c.args.number)) (named-id c.args.graph.now (place_in c.args.number) c.requires.number) in
+    keyed-pushed h c.args.graph.now c.set_mark.new.graph c.set_mark.ensures.ids c.from-key.result c.args.number c.args.queue.now c.insert.new.self
+    (c.from-key.ensures ∙ ap key_in (sym agrees)) c.in-Ok.ensures.ok old
+
+pub returns-clause-valid : goal.returns-clause-valid
+returns-clause-valid g c old =
+    rw (same-len c.args.graph.now c.set_mark.new.graph c.set_mark.ensures.ids) (held-permutation (λ p. place_in p.1 < held_len c.args.graph.now) ((c.from-key.result, c.args.number) ∷ c.args.queue.now) c.insert.new.self c.in-Ok.ensures.ok (c.requires.number, old))

@@ -1,0 +1,74 @@
+use Rattle.std.proofs.Common.{◌≡◌, refl, sym, ap, subst, ◌∙◌, List, [], ◌∷◌, ◌++◌, cond, true, false, is_some}
+use Rattle.std.specs.Option.{unwrap_or}
+use Rattle.gix_base.specs.declared.hash.ObjectId.{ObjectId}
+use Rattle.gix_revwalk.specs.History.{entry_at}
+use Rattle.gix_revwalk.specs.Number.{place_in}
+use Rattle.gix_revwalk.specs.declared.numbers.Mark.{Mark}
+use Rattle.gix_merge_base.specs.Marks.{marks_of, noted}
+use Rattle.gix_merge_base.specs.PaintQueue.{marks_at, ids_at, id_at, AreIn, no_mark}
+use Rattle.gix_merge_base.specs.declared.merge_base.flags.Flags.{Flags}
+use Rattle.gix_merge_base.proofs.Listed.{listed-grown, listed-same, listed-push, noted-same, same-after}
+use Rattle.gix_merge_base.proofs.Numbered.{given-marks}
+use Rattle.gix_merge_base.proofs.QueueKeys.{number-id, kept-grown, kept-same}
+use Rattle.gix_merge_base.proofs.merge_base.reduction.list_one.Goals as goal
+
+append_nil : (l : List ObjectId) → l ++ [] ≡ l
+append_nil [] = refl
+append_nil (x ∷ l) = ap (λ t. x ∷ t) (append_nil l)
+
+pub returns-in-Ok-None-clause-listed : goal.returns-in-Ok-None-clause-listed
+returns-in-Ok-None-clause-listed g c all =
+    let old = c.args.graph.now in
+    let mid = c.take.new.graph in
+    let taken = rw c.in-Ok-None.field-0-is at c.in-Ok-None.ensures in
+    let grown = listed-grown old mid taken.grows c.args.numbers.now.items all in
+    let lacks : is_some (entry_at (g.S.Find.history old.source) c.args.id) ≡ false = sym taken.has in
+    (grown.0, grown.1 ∙ sym (ap (λ b. ids_at old c.args.numbers.now.items ++ cond b (c.args.id ∷ []) []) lacks ∙ append_nil (ids_at old c.args.numbers.now.items)))
+
+pub returns-clause-listed : goal.returns-clause-listed
+returns-clause-listed g c all =
+    let h = g.S.Find.history c.args.graph.now.source in
+    let old = c.args.graph.now in
+    let mid = c.take.new.graph in
+    let new = c.set_mark.new.graph in
+    let taken = rw c.in-Ok-Some.field-0-is at c.in-Ok-Some.ensures in
+    let number = number-id mid c.args.id (place_in c.in-Ok-Some.number) taken.number in
+    let has : is_some (entry_at h c.args.id) ≡ true = sym taken.has in
+    let grown = listed-grown old mid taken.grows c.args.numbers.now.items all in
+    let more = listed-push mid c.args.numbers.now.items c.in-Ok-Some.number c.args.id grown.0 number.0 number.1 in
+    let pushed = listed-same mid new c.set_mark.ensures.ids (c.args.numbers.now.items ++ c.in-Ok-Some.number ∷ []) more.0 in
+    subst (λ l. AreIn new l × (ids_at new l ≡ ids_at old c.args.numbers.now.items ++ cond (is_some (entry_at h c.args.id)) (c.args.id ∷ []) [])) (sym c.in-Ok.ensures.items)
+    (pushed.0, pushed.1 ∙ more.1 ∙ ap (λ l. l ++ c.args.id ∷ []) grown.1 ∙ sym (ap (λ b. ids_at old c.args.numbers.now.items ++ cond b (c.args.id ∷ []) []) has))
+
+pub mark_of-old-requires : goal.mark_of-old-requires
+mark_of-old-requires g c = let taken = rw c.in-Ok-Some.field-0-is at c.in-Ok-Some.ensures in (number-id c.take.new.graph c.args.id (place_in c.in-Ok-Some.number) taken.number).0
+
+pub set_mark-requires : goal.set_mark-requires
+set_mark-requires g c = let taken = rw c.in-Ok-Some.field-0-is at c.in-Ok-Some.ensures in (number-id c.take.new.graph c.args.id (place_in c.in-Ok-Some.number) taken.number).0
+
+pub returns-clause-marks : goal.returns-clause-marks
+returns-clause-marks g c =
+    let old = c.args.graph.now in
+    let mid = c.take.new.graph in
+    let new = c.set_mark.new.graph in
+    let taken = rw c.in-Ok-Some.field-0-is at c.in-Ok-Some.ensures in
+    let lt = (number-id mid c.args.id (place_in c.in-Ok-Some.number) taken.number).0 in
+    let id = id_at mid (place_in c.in-Ok-Some.number) in
+    same-after (marks_at old) (marks_at mid) (marks_at new) (λ d. ap (λ o. marks_of (unwrap_or o no_mark).marks) (taken.marks d))
+    (noted-same (marks_at mid) (marks_at new) id (marks_of c.noted.result) (c.noted.ensures ∙ ap (λ (z : Mark Flags). noted (marks_of z.marks)) c.mark_of-old.ensures)
+    (given-marks mid new (place_in c.in-Ok-Some.number) _ lt c.set_mark.ensures))
+
+pub returns-clause-after : goal.returns-clause-after
+returns-clause-after g c =
+    let taken = rw c.in-Ok-Some.field-0-is at c.in-Ok-Some.ensures in
+    record {
+      same_history = ap g.S.Find.history c.set_mark.ensures.source ∙ taken.history;
+      cause = tt;
+      count = ap g.S.Find.fault_count c.set_mark.ensures.source ∙ taken.count;
+      held = λ q k. kept-same c.take.new.graph c.set_mark.new.graph c.set_mark.ensures.ids q (kept-grown c.args.graph.now c.take.new.graph taken.grows q k);
+    }
+
+pub returns-in-Ok-None-clause-after : goal.returns-in-Ok-None-clause-after
+returns-in-Ok-None-clause-after g c =
+    let taken = rw c.in-Ok-None.field-0-is at c.in-Ok-None.ensures in
+    record { same_history = taken.history; cause = tt; count = taken.count; held = kept-grown c.args.graph.now c.take.new.graph taken.grows }

@@ -1,0 +1,122 @@
+use Rattle.std.proofs.Common.{◌≡◌, ◌<◌, ◌≤◌, ◌+◌, ℕ, Bool, refl, sym, ap, subst, ◌∙◌, ◌∷◌, inr, arith}
+use Rattle.gix_revwalk.specs.Faults.{count_after}
+use Rattle.gix_revwalk.specs.History.{generation_of}
+use Rattle.gix_revwalk.specs.Graph.{held_len}
+use Rattle.gix_revwalk.specs.Number.{place_in}
+use Rattle.gix_merge_base.specs.PaintQueue.{marks_at, queued_ids, ids_at, id_at}
+use Rattle.gix_merge_base.specs.ReduceSteps.{IsSurvey, Alike}
+use Rattle.gix_merge_base.specs.declared.merge_base.gen_then_time.GenThenTime.{GenThenTime}
+use Rattle.gix_merge_base.proofs.AfterCalls.{after_more}
+use Rattle.gix_merge_base.proofs.Numbered.{ids-popped, held-permutation}
+use Rattle.gix_merge_base.proofs.QueueKeys.{keyed-popped, key-popped}
+use Rattle.gix_merge_base.proofs.Reduction.{reduce_goes, reduce_cuts, reduce_permuted, fewer_cut, fewer_left, left_to_meet}
+use Rattle.gix_merge_base.proofs.Surveys.{survey_stays}
+use Rattle.gix_merge_base.proofs.merge_base.reduction.meet.Goals as goal
+
+less : (a b d : ℕ) → a ≡ b → b + 1 ≤ d → a < d
+less a b d e k = omega arith
+
+pub surveyed_again-left-requires-clause-number : goal.surveyed_again-left-requires-clause-number
+surveyed_again-left-requires-clause-number g c = (held-permutation (λ p. place_in p.1 < held_len c.loop-key.graph) c.loop-key.queue _ c.in-Some.ensures.taken c.loop-key.invariant.valid).0
+
+pub hand_parents-requires-clause-number : goal.hand_parents-requires-clause-number
+hand_parents-requires-clause-number g c = (held-permutation (λ p. place_in p.1 < held_len c.loop-key.graph) c.loop-key.queue _ c.in-Some.ensures.taken c.loop-key.invariant.valid).0
+
+pub hand_parents-requires-clause-valid : goal.hand_parents-requires-clause-valid
+hand_parents-requires-clause-valid g c = (held-permutation (λ p. place_in p.1 < held_len c.loop-key.graph) c.loop-key.queue _ c.in-Some.ensures.taken c.loop-key.invariant.valid).1
+
+pub returns-then-left-le1-clause-met : goal.returns-then-left-le1-clause-met
+returns-then-left-le1-clause-met g c =
+    inr (queued_ids c.loop-key.graph c.loop-key.queue, c.loop-key.invariant.at, subst (λ l. Alike l (marks_at c.loop-key.graph)) c.loop-key.invariant.ids (c.surveyed_again-left.ensures.alike c.if-left-le1.true))
+
+pub loop-key-smaller-then-key-left : goal.loop-key-smaller-then-key-left
+loop-key-smaller-then-key-left g c =
+    let graph = c.loop-key.graph in
+    let m = marks_at graph in
+    let id = id_at graph (place_in c.in-Some.number) in
+    let perm = ids-popped graph graph refl c.in-Some.key c.in-Some.number c.loop-key.queue c.pop.new.self c.in-Some.ensures.taken in
+    less _ _ _ refl (fewer_cut (g.S.Find.history graph.source) m id (queued_ids graph c.loop-key.queue) (queued_ids graph c.pop.new.self) perm)
+
+pub loop-key-preserved-then-key-left : goal.loop-key-preserved-then-key-left
+loop-key-preserved-then-key-left g c =
+    let h = g.S.Find.history c.args.graph.now.source in
+    let same = c.loop-key.invariant.after.same_history in
+    let graph = c.loop-key.graph in
+    let ids = ids_at c.args.graph.now c.args.numbers.now in
+    let m = marks_at graph in
+    let id = id_at graph (place_in c.in-Some.number) in
+    let rs = c.pop.new.self in
+    let perm = ids-popped graph graph refl c.in-Some.key c.in-Some.number c.loop-key.queue rs c.in-Some.ensures.taken in
+    let at = reduce_permuted h ids m (queued_ids graph c.loop-key.queue) (id ∷ queued_ids graph rs) perm c.loop-key.invariant.at in
+    let key = key-popped h graph c.in-Some.key c.in-Some.number c.loop-key.queue rs c.in-Some.ensures.taken c.loop-key.invariant.keyed in
+    let generation : c.in-Some.key.generation ≡ generation_of h id = ap (λ (z : GenThenTime). z.generation) key in
+    let left : IsSurvey h ids m c.surveyed_again-left.result.unmet c.surveyed_again-left.result.least =
+    subst (λ z. IsSurvey z ids m c.surveyed_again-left.result.unmet c.surveyed_again-left.result.least) same
+    (subst (λ l. IsSurvey (g.S.Find.history graph.source) l m c.surveyed_again-left.result.unmet c.surveyed_again-left.result.least) c.loop-key.invariant.ids c.surveyed_again-left.ensures) in
+    let low : c.in-Some.key.generation < c.surveyed_again-left.result.least = c.if-key-left.true in
+    record {
+      at = reduce_cuts h ids id m (queued_ids graph rs) at (λ r k out. let l = left.least r k out in omega arith);
+      left = left;
+      inside = c.loop-key.invariant.inside;
+      ids = c.loop-key.invariant.ids;
+      valid = (held-permutation (λ p. place_in p.1 < held_len c.loop-key.graph) c.loop-key.queue _ c.in-Some.ensures.taken c.loop-key.invariant.valid).1;
+      keyed = keyed-popped h graph graph refl c.in-Some.key c.in-Some.number c.loop-key.queue rs c.in-Some.ensures.taken c.loop-key.invariant.keyed;
+      after = c.loop-key.invariant.after;
+    }
+
+pub loop-key-preserved : goal.loop-key-preserved
+loop-key-preserved g c =
+    let h = g.S.Find.history c.args.graph.now.source in
+    let same = c.loop-key.invariant.after.same_history in
+    let graph = c.loop-key.graph in
+    let ids = ids_at c.args.graph.now c.args.numbers.now in
+    let m = marks_at graph in
+    let id = id_at graph (place_in c.in-Some.number) in
+    let rs = c.pop.new.self in
+    let new = c.hand_parents.new.graph in
+    let perm = ids-popped graph graph refl c.in-Some.key c.in-Some.number c.loop-key.queue rs c.in-Some.ensures.taken in
+    let at = reduce_permuted h ids m (queued_ids graph c.loop-key.queue) (id ∷ queued_ids graph rs) perm c.loop-key.invariant.at in
+    let did = rw same at c.in_default-hand_parents.ensures.handed in
+    let keyed = rw same at c.in_default-hand_parents.ensures.keyed in
+    let listed = c.in_default-hand_parents.ensures.listed c.args.numbers.now c.loop-key.invariant.inside in
+    let left : IsSurvey h ids m c.surveyed_again-left.result.unmet c.surveyed_again-left.result.least =
+    subst (λ z. IsSurvey z ids m c.surveyed_again-left.result.unmet c.surveyed_again-left.result.least) same
+    (subst (λ l. IsSurvey (g.S.Find.history graph.source) l m c.surveyed_again-left.result.unmet c.surveyed_again-left.result.least) c.loop-key.invariant.ids c.surveyed_again-left.ensures) in
+    record {
+      at = reduce_goes h ids id m (marks_at new) (queued_ids graph rs) (queued_ids new c.hand_parents.new.queue) at did;
+      left = survey_stays h ids m (marks_at new) _ _ did.more left;
+      inside = listed.0;
+      ids = listed.1 ∙ c.loop-key.invariant.ids;
+      valid = c.in_default-hand_parents.ensures.valid;
+      keyed = keyed (keyed-popped h graph graph refl c.in-Some.key c.in-Some.number c.loop-key.queue rs c.in-Some.ensures.taken c.loop-key.invariant.keyed);
+      after = after_more _ _ _ _ c.loop-key.invariant.after
+          record { same_history = c.in_default-hand_parents.ensures.history; cause = tt; count = c.in_default-hand_parents.ensures.count; held = c.in_default-hand_parents.ensures.kept };
+    }
+
+pub loop-key-smaller : goal.loop-key-smaller
+loop-key-smaller g c =
+    let h = g.S.Find.history c.args.graph.now.source in
+    let same = c.loop-key.invariant.after.same_history in
+    let graph = c.loop-key.graph in
+    let ids = ids_at c.args.graph.now c.args.numbers.now in
+    let m = marks_at graph in
+    let id = id_at graph (place_in c.in-Some.number) in
+    let rs = c.pop.new.self in
+    let new = c.hand_parents.new.graph in
+    let perm = ids-popped graph graph refl c.in-Some.key c.in-Some.number c.loop-key.queue rs c.in-Some.ensures.taken in
+    let at = reduce_permuted h ids m (queued_ids graph c.loop-key.queue) (id ∷ queued_ids graph rs) perm c.loop-key.invariant.at in
+    let did = rw same at c.in_default-hand_parents.ensures.handed in
+    let at2 = reduce_goes h ids id m (marks_at new) (queued_ids graph rs) (queued_ids new c.hand_parents.new.queue) at did in
+    let fewer = fewer_left h ids m (marks_at new) id (queued_ids graph c.loop-key.queue) (queued_ids graph rs) (queued_ids new c.hand_parents.new.queue) perm did at2 in
+    less _ _ _ (ap (λ z. left_to_meet z (marks_at new) (queued_ids new c.hand_parents.new.queue)) (c.hand_parents.ensures.history ∙ same))
+    (subst (λ z. left_to_meet h (marks_at new) (queued_ids new c.hand_parents.new.queue) + 1 ≤ left_to_meet z m (queued_ids graph c.loop-key.queue)) (sym same) fewer)
+
+pub returns-in-Err-clause-after : goal.returns-in-Err-clause-after
+returns-in-Err-clause-after g c =
+    let count = λ (fault : Bool). count_after fault (g.S.Find.fault_count c.loop-key.graph.source) in
+    after_more _ _ _ _ c.loop-key.invariant.after record {
+      same_history = c.hand_parents.ensures.history;
+      cause = c.parent_refused.ensures.cause;
+      count = c.in-Err.ensures.count ∙ ap count (sym c.parent_refused.ensures.same);
+      held = c.hand_parents.ensures.kept;
+    }

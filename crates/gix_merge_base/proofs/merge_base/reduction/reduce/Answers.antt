@@ -1,0 +1,62 @@
+use Rattle.std.proofs.Common.{◌≡◌, sym, ap, subst, ◌∙◌, not, is_some, rules}
+use Rattle.std.specs.List.{filter}
+use Rattle.std.proofs.lemmas.Fn.{filter_same}
+use Rattle.gix_revwalk.specs.History.{entry_at}
+use Rattle.gix_merge_base.specs.PaintQueue.{marks_at, queued_ids, ids_at, AreIn}
+use Rattle.gix_merge_base.specs.Reducing.{firsts}
+use Rattle.gix_merge_base.specs.ReduceSteps.{Reducing, Reduced}
+use Rattle.gix_merge_base.proofs.Alone.{reduced_exactly, reduced_keeps}
+use Rattle.gix_merge_base.proofs.Listed.{known-inside, known-every}
+use Rattle.gix_merge_base.proofs.Reduction.{reduce_begins}
+use Rattle.gix_merge_base.proofs.merge_base.reduction.reduce.Goals as goal
+
+pub meet_parents-requires-clause-inside : goal.meet_parents-requires-clause-inside
+meet_parents-requires-clause-inside g c = subst (AreIn c.list.new.graph) (sym c.deref-2.ensures.value) c.in_ok-numbers.ensures.inside
+
+pub meet-requires-clause-begun : goal.meet-requires-clause-begun
+meet-requires-clause-begun g c =
+    let listed = c.list.new.graph in
+    let new = c.meet_parents.new.graph in
+    let h = g.S.Find.history listed.source in
+    let is : c.deref-3.result.now ≡ c.deref-2.result.now = c.deref-3.ensures.value ∙ sym c.deref-2.ensures.value in
+    let ids : ids_at new c.deref-3.result.now ≡ ids_at listed c.deref-2.result.now = ap (ids_at new) is ∙ c.in_ok-meet_parents.ensures.same.1 in
+    subst (λ z. Reducing z (ids_at new c.deref-3.result.now) (marks_at new) (queued_ids new c.meet_parents.new.queue)) (sym c.in_ok-meet_parents.ensures.after.same_history)
+    (subst (λ l. Reducing h l (marks_at new) (queued_ids new c.meet_parents.new.queue)) (sym ids)
+    (reduce_begins h (ids_at listed c.deref-2.result.now) (marks_at listed) (marks_at new) (queued_ids new c.meet_parents.new.queue) c.in_ok-numbers.ensures.unmarked c.in_ok-meet_parents.ensures.handed))
+
+pub returns-clause-some : goal.returns-clause-some
+returns-clause-some g c = ((λ x. not (marks_at c.meet.new.graph x).stale), filter_same _ _ _ (λ x b f' s. search rules) _ _ c.retain.ensures.filtered ∙ ap (filter (λ x. not (marks_at c.meet.new.graph x).stale)) c.in_ok-left.ensures)
+
+pub returns-clause-kept : goal.returns-clause-kept
+unfolding returns-clause-some
+returns-clause-kept g c acyclic c' max =
+    let h = g.S.Find.history c.args.graph.now.source in
+    let listed = c.list.new.graph in
+    let mid = c.meet_parents.new.graph in
+    let new = c.meet.new.graph in
+    let ids = c.args.ids.now in
+    let ns = ids_at mid c.deref-3.result.now in
+    let three : c.deref-3.result.now ≡ c.deref-2.result.now = c.deref-3.ensures.value ∙ sym c.deref-2.ensures.value in
+    let known : ns ≡ filter (λ p. is_some (entry_at h p)) (firsts ids) =
+    ap (ids_at mid) three ∙ c.in_ok-meet_parents.ensures.same.1 ∙ ap (ids_at listed) c.deref-2.ensures.value ∙ c.in_ok-numbers.ensures.ids
+    ∙ ap (filter (λ p. is_some (entry_at h p))) (c.deref.ensures.value ∙ c.in_ok-left.ensures) in
+    let chain = c.in_ok-meet_parents.ensures.after.same_history ∙ c.in_ok-numbers.ensures.after.same_history in
+    let reduced : Reduced h ns (marks_at new) = subst (λ z. Reduced z ns (marks_at new)) chain c.in_ok-meet.ensures.met in
+    rw ((returns-clause-some g c).1) (reduced_keeps h ids ns (marks_at new) acyclic reduced (known-inside h ids ns known) (known-every h ids ns known) c' max)
+
+pub returns-clause-independent : goal.returns-clause-independent
+unfolding returns-clause-some
+returns-clause-independent g c acyclic never c' =
+    let h = g.S.Find.history c.args.graph.now.source in
+    let listed = c.list.new.graph in
+    let mid = c.meet_parents.new.graph in
+    let new = c.meet.new.graph in
+    let ids = c.args.ids.now in
+    let ns = ids_at mid c.deref-3.result.now in
+    let three : c.deref-3.result.now ≡ c.deref-2.result.now = c.deref-3.ensures.value ∙ sym c.deref-2.ensures.value in
+    let known : ns ≡ filter (λ p. is_some (entry_at h p)) (firsts ids) =
+    ap (ids_at mid) three ∙ c.in_ok-meet_parents.ensures.same.1 ∙ ap (ids_at listed) c.deref-2.ensures.value ∙ c.in_ok-numbers.ensures.ids
+    ∙ ap (filter (λ p. is_some (entry_at h p))) (c.deref.ensures.value ∙ c.in_ok-left.ensures) in
+    let chain = c.in_ok-meet_parents.ensures.after.same_history ∙ c.in_ok-numbers.ensures.after.same_history in
+    let reduced : Reduced h ns (marks_at new) = subst (λ z. Reduced z ns (marks_at new)) chain c.in_ok-meet.ensures.met in
+    rw ((returns-clause-some g c).1) (reduced_exactly h ids ns (marks_at new) acyclic reduced (known-inside h ids ns known) (known-every h ids ns known) never c')

@@ -1,0 +1,25 @@
+-- The count of queued entries whose commit is not stale.
+use Rattle.std.specs.Prelude.{◌≡◌, ℕ, List, not, cond, ◌+◌, ◌-◌}
+use Rattle.std.specs.List.{sum_by}
+use Rattle.gix_base.specs.declared.hash.ObjectId.{ObjectId}
+use Rattle.gix_revwalk.specs.History.{same_id}
+use Rattle.gix_revwalk.specs.declared.numbers.Mark.{Mark}
+use Rattle.gix_merge_base.specs.Marks.{MarkSet, marks_of, level}
+use Rattle.gix_merge_base.specs.declared.merge_base.flags.Flags.{Flags}
+
+-- how often c stands in q
+abbrev pub times : ObjectId → List ObjectId → ℕ
+times c q = sum_by (λ x. level (same_id c x)) q
+
+-- how many entries of q are of a commit that is not stale
+abbrev pub unstale : (ObjectId → MarkSet) → List ObjectId → ℕ
+unstale m q = sum_by (λ x. level (not (m x).stale)) q
+
+-- n is how often each commit stands in q, and open_entries how many are of one that is not stale
+pub record Counts (m : ObjectId → MarkSet) (n : ObjectId → ℕ) (q : List ObjectId) (open_entries : ℕ) : Type 0 where
+  pub unstale : open_entries ≡ unstale m q
+  pub times : (c : ObjectId) → n c ≡ times c q
+
+-- the count once one entry more is queued, of a commit that had a and has the marks w now
+abbrev pub open_then : ℕ → Mark Flags → Flags → ℕ
+open_then n a w = cond (not (marks_of w).stale) (n + 1) (cond (marks_of a.marks).stale n (n - a.queued))

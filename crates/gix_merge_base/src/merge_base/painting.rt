@@ -1,0 +1,172 @@
+//! Painting: common ancestors, each once, with the count of pops.
+
+ghost use Rattle.std.specs.Prelude.{◌≡◌, ◌≤◌, ◌+◌, ◌*◌, ◌∷◌, [], ◌⊎◌, ℕ, length, IsTrue, IfErr, IfOk, OnOk};
+ghost use Rattle.std.specs.List.{IsDistinct};
+ghost use Rattle.gix_base.specs.declared.hash.ObjectId.{ObjectId};
+ghost use Rattle.gix_revwalk.specs.Numbers.{HoldsMore};
+ghost use Rattle.gix_revwalk.specs.History.{Has, IsAcyclic, same_id, is_one_of};
+ghost use Rattle.gix_revwalk.specs.Sizes.{AtMost, HasSize};
+ghost use Rattle.gix_revwalk.specs.Walks.{KeepsHeld};
+ghost use Rattle.gix_revwalk.specs.Faults.{count_after, is_source_fault as is_graph_fault};
+ghost use Rattle.gix_merge_base.specs.AfterCall.{AfterCall};
+ghost use Rattle.gix_merge_base.specs.Bases.{IsCommon, IsMaximal};
+ghost use Rattle.gix_merge_base.specs.Counting.{Counts};
+ghost use Rattle.gix_merge_base.specs.Keys.{KeysFall, NoneRises, InFallingOrder};
+ghost use Rattle.gix_merge_base.specs.Marks.{marks_of};
+ghost use Rattle.gix_merge_base.specs.Painting.{IsUnreached, IsHandedIn, MayBeTaken};
+ghost use Rattle.gix_merge_base.specs.PaintQueue.{marks_at, queued_at, queued_ids, AreHeld, IsHeld, Keyed};
+ghost use Rattle.gix_merge_base.specs.PaintSteps.{Begins, Begun};
+ghost use Rattle.gix_merge_base.specs.Refusals.{HasInsertText, is_source_fault};
+
+use crate::merge_base::error::{Error, commit_refused, parent_refused};
+use crate::merge_base::flags::Flags;
+use crate::merge_base::gen_then_time::GenThenTime;
+use crate::merge_base::hand::{enter, mark_of, pop_open, step};
+use bitflags::Flags as BitFlags;
+use gix_base::hash::ObjectId;
+use gix_revwalk::graph::{self, Commit, Find, Graph};
+use gix_revwalk::numbers::{self, Number};
+use gix_revwalk::queue::PriorityQueue;
+use std::alloc::{AllocError, Allocator};
+
+/// Marks an id that is handed in, and queues it, where the source has it.
+fn begin<S: Find, A: Allocator + Copy>(
+    alloc: A,
+    id: ObjectId,
+    marks: Flags,
+    queue: &mut PriorityQueue<GenThenTime, Number, A>,
+    open_entries: &mut usize,
+    graph: &mut Graph<S, Commit<Flags, A>, A>,
+) -> Result<(), graph::Error>
+    requires { AreHeld graph.old queue.old }
+    ensures begins { OnOk result (Begins (S.history graph.old.source) (marks_of marks) id
+        (marks_at graph.old) (queued_ids graph.old queue.old)
+        (marks_at graph.new) (queued_ids graph.new queue.new)) }
+    ensures counts { OnOk result (Counts (marks_at graph.old) (queued_at graph.old)
+        (queued_ids graph.old queue.old) open_entries.old
+        → Counts (marks_at graph.new) (queued_at graph.new)
+        (queued_ids graph.new queue.new) open_entries.new) }
+    ensures valid { OnOk result (AreHeld graph.new queue.new) }
+    ensures keyed { OnOk result (Keyed (S.history graph.old.source) graph.old queue.old
+        → Keyed (S.history graph.old.source) graph.new queue.new) }
+    ensures holds { HoldsMore (S.history graph.old.source) (id ∷ []) graph.old graph.new }
+    ensures history { S.history graph.new.source ≡ S.history graph.old.source }
+    ensures count { S.fault_count graph.new.source
+        ≡ count_after (is_graph_fault result) (S.fault_count graph.old.source) }
+    ensures kept { KeepsHeld graph.old graph.new }
+{
+    let Some(number) = numbers::take(graph, alloc, id, Flags::empty())? else {
+        return Ok(());
+    };
+    let old = mark_of(graph, number);
+    match enter(number, old, marks, queue, open_entries, graph) {
+        Ok(()) => Ok(()),
+        Err(AllocError) => Err(graph::Error::OutOfMemory),
+    }
+}
+
+/// Begins a walk, and queues what is handed in.
+fn start<S: Find, A: Allocator + Copy>(
+    alloc: A,
+    first: ObjectId,
+    others: &[ObjectId],
+    queue: &mut PriorityQueue<GenThenTime, Number, A>,
+    open_entries: &mut usize,
+    graph: &mut Graph<S, Commit<Flags, A>, A>,
+) -> Result<(), graph::Error>
+    requires empty { queue.old ≡ [] }
+    requires none { open_entries.old ≡ 0 }
+    ensures begun { OnOk result (Begun (S.history graph.old.source) first others.now
+        (marks_at graph.new) (queued_ids graph.new queue.new)) }
+    ensures counts { OnOk result (Counts (marks_at graph.new) (queued_at graph.new)
+        (queued_ids graph.new queue.new) open_entries.new) }
+    ensures valid { OnOk result (AreHeld graph.new queue.new) }
+    ensures keyed { OnOk result (Keyed (S.history graph.old.source) graph.new queue.new) }
+    ensures holds { (q : ObjectId) → IsHeld graph.new q
+        → IsHeld graph.old q ⊎ IsHandedIn first others.now q }
+    ensures history { S.history graph.new.source ≡ S.history graph.old.source }
+    ensures count { S.fault_count graph.new.source
+        ≡ count_after (is_graph_fault result) (S.fault_count graph.old.source) }
+    ensures kept { KeepsHeld graph.old graph.new }
+{
+    numbers::begin_walk(graph);
+    begin(alloc, first, Flags::COMMIT1, queue, open_entries, graph)?;
+    for other in others {
+        begin(alloc, *other, Flags::COMMIT2, queue, open_entries, graph)?;
+    }
+    Ok(())
+}
+
+/// Common ancestors of `first` and a hypothetical merge of `others`, each once and every maximal one
+/// among them, beside the number of pops that the walk made.
+///
+/// The walk takes commits by falling generation, then time, and ends once each that is queued lies
+/// below a common one. So with `n` commits in the source and `m` others it makes at most
+/// `3 * n + 1 + m` pops, and at least one for each ancestor that no other common ancestor reaches.
+/// An id that the source lacks has no ancestors. The source must have no cycles for each maximal one
+/// to be there; with cycles the call returns.
+///
+/// # Errors
+///
+/// As [`merge_base`](crate::merge_base::merge_base).
+pub fn paint<S: Find, A: Allocator + Copy>(
+    alloc: A,
+    first: ObjectId,
+    others: &[ObjectId],
+    graph: &mut Graph<S, Commit<Flags, A>, A>,
+) -> Result<(Vec<ObjectId, A>, u128), Error>
+    ensures common { IfOk result (λ r. (c : ObjectId) → IsTrue (is_one_of r.0.items c)
+        → IsCommon (S.history graph.old.source) first others.now c) }
+    ensures best { IsAcyclic (S.history graph.old.source) → IfOk result (λ r. (c : ObjectId)
+        → IsMaximal (S.history graph.old.source)
+        (IsCommon (S.history graph.old.source) first others.now) c
+        → IsTrue (is_one_of r.0.items c)) }
+    ensures once { IfOk result (λ r. IsDistinct same_id r.0.items) }
+
+    // The pops, over the number of commits that the source has.
+    ensures most { (n : ℕ) → HasSize (Has (S.history graph.old.source)) n
+        → IfOk result (λ r. r.1 ≤ 3 * n + 1 + length others.now) }
+    ensures least { IsAcyclic (S.history graph.old.source) → IfOk result (λ r.
+        AtMost r.1 (IsUnreached (S.history graph.old.source) first others.now)) }
+
+    // Where keys fall along every edge, little is taken in, and each answer is a maximal one.
+    ensures taken { KeysFall (S.history graph.old.source) → (q : ObjectId) → IsHeld graph.new q
+        → IsHeld graph.old q ⊎ MayBeTaken (S.history graph.old.source) first others.now q }
+    ensures strict { IsAcyclic (S.history graph.old.source) → KeysFall (S.history graph.old.source)
+        → IfOk result (λ r. (c : ObjectId) → IsTrue (is_one_of r.0.items c)
+        → IsMaximal (S.history graph.old.source)
+        (IsCommon (S.history graph.old.source) first others.now) c) }
+
+    ensures falling { NoneRises (S.history graph.old.source)
+        → IfOk result (λ r. InFallingOrder (S.history graph.old.source) r.0.items) }
+
+    ensures history { S.history graph.new.source ≡ S.history graph.old.source }
+    ensures cause { IfErr result HasInsertText }
+    ensures count { S.fault_count graph.new.source
+        ≡ count_after (is_source_fault result) (S.fault_count graph.old.source) }
+    ensures held { KeepsHeld graph.old graph.new }
+{
+    let mut queue = PriorityQueue::new(alloc);
+    let mut open_entries = 0usize;
+    if let Err(error) = start(alloc, first, others, &mut queue, &mut open_entries, graph) {
+        return Err(commit_refused(error));
+    }
+    let mut into = Vec::new(alloc);
+    let mut results = Vec::new(alloc);
+    let mut pops = 0u128;
+    while let Some(number) = pop_open(&mut queue, &mut open_entries, graph) {
+        if let Err(error) = step(
+            alloc,
+            number,
+            &mut into,
+            &mut queue,
+            &mut open_entries,
+            &mut results,
+            graph,
+        ) {
+            return Err(parent_refused(error));
+        }
+        pops += 1;
+    }
+    Ok((results, pops))
+}

@@ -1,0 +1,21 @@
+use Rattle.std.proofs.Common.{rules, ◌≡◌, ◌++◌, ◌∷◌, [], cond, Some, None, refl, length, arith, ◌≤◌, ◌∙◌, sym}
+use Rattle.std.specs.Map.{lookup}
+use Rattle.std.proofs.lemmas.List.{length-map}
+use Rattle.gix_revwalk.specs.Nodes.{pair_of}
+use Rattle.gix_revwalk.specs.History.{same_id}
+use Rattle.gix_base.specs.declared.hash.ObjectId.{ObjectId}
+use Rattle.gix_revwalk.proofs.NodeSteps.{nodes-push, agree-push}
+use Rattle.gix_revwalk.proofs.numbers.add.Goals as goal
+
+pub invariant_of-graph-else-is_err : goal.invariant_of-graph-else-is_err
+invariant_of-graph-else-is_err g c =
+    let items : c.push.new.self.items ≡ c.graph.inside.nodes.items ++ record { id = c.args.id; row = None; turn = 0; queued = 0; value = c.args.value } ∷ [] = search rules in
+    let updates : (q : ObjectId) → lookup (same_id q) c.insert.new.self.entries ≡ cond (same_id c.args.id q) (Some c.in_ok-number.number) (lookup (same_id q) c.graph.inside.index.entries) = search rules in
+    let len : length c.graph.inside.nodes.items ≡ c.len.result = search rules in
+    let new = rw (← c.graph.view_is) at c.requires.new in
+    let agrees = rw (← c.graph.view_is) at c.requires.agrees in
+    let old : 0 ≤ c.graph.inside.turn = omega arith in
+    rw items (agree-push g.T.Held.agrees _ _ _ new c.graph.invariant.0 agrees, nodes-push _ _ _ _ _ _ _ c.in_ok-number.number c.graph.invariant.1 new refl old (c.in_ok-number.ensures ∙ sym len) updates)
+
+pub returns-clause-number : goal.returns-clause-number
+returns-clause-number g c = rw (← c.graph.view_is) (c.in_ok-number.ensures ∙ c.len.ensures ∙ c.graph.inside.nodes.ok.0 ∙ sym (length-map c.graph.inside.nodes.items pair_of))

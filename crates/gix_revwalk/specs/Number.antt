@@ -1,0 +1,6 @@
+-- A number as the place that it stands for.
+use Rattle.std.specs.Prelude.{ℕ}
+use Rattle.gix_revwalk.specs.declared.numbers.Number.{Number}
+
+abbrev pub place_in : Number → ℕ
+place_in n = n.0

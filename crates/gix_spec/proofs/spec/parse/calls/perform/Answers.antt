@@ -1,0 +1,24 @@
+use Rattle.std.proofs.Common.{refl}
+use Rattle.gix_spec.proofs.Runs.{performs_demand}
+use Rattle.gix_spec.proofs.spec.parse.calls.perform.Goals as goal
+
+pub returns-in-Exclude : goal.returns-in-Exclude
+returns-in-Exclude g c = rw c.in-Exclude.is (performs_demand g.D.Listener.step (λ more. refl) c.kind.ensures c.demanded.ensures)
+
+pub returns-in-Regex : goal.returns-in-Regex
+returns-in-Regex g c = rw c.in-Regex.is (performs_demand g.D.Listener.step (λ more. refl) c.find.ensures c.demanded-in-Regex.ensures)
+
+pub returns-in-Index : goal.returns-in-Index
+returns-in-Index g c = rw c.in-Index.is (performs_demand g.D.Listener.step (λ more. refl) c.index_lookup-answer.ensures c.demanded-in-Index.ensures)
+
+pub returns-in-Step : goal.returns-in-Step
+returns-in-Step g c = rw c.in-Step.is (performs_demand g.D.Listener.step (λ more. refl) c.traverse.ensures c.demanded-in-Step.ensures)
+
+pub returns-in-Peel : goal.returns-in-Peel
+returns-in-Peel g c = rw c.in-Peel.is (performs_demand g.D.Listener.step (λ more. refl) c.peel_until.ensures c.demanded-in-Peel.ensures)
+
+pub returns-in-Path : goal.returns-in-Path
+returns-in-Path g c = rw c.in-Path.is (performs_demand g.D.Listener.step (λ more. refl) c.peel_until-answer.ensures c.demanded-in-Path.ensures)
+
+pub returns-in-Finish : goal.returns-in-Finish
+returns-in-Finish g c = rw c.in-Finish.is (performs_demand g.D.Listener.step (λ more. refl) c.done.ensures c.demanded-in-Finish.ensures)

@@ -1,0 +1,7 @@
+use Rattle.std.proofs.Common.{◌≡◌, ◌==◌, ℕ, ◌<◌, ◌≤◌, false, length, slice_index}
+use Rattle.gix_spec.specs.Marks.{dash}
+use Rattle.gix_spec.proofs.spec.parse.describe_text.last_dash.Given as goal
+
+-- no dash stands at the places so far
+abbrev pub invariant-loop-place : goal.invariant-loop-place
+invariant-loop-place l = (k : ℕ) → l.place ≤ k → k < length l.text → (slice_index l.text k == dash) ≡ false

@@ -1,0 +1,56 @@
+-- The bytes that mark what stands in a text, and how a text is looked into.
+use Rattle.std.specs.Prelude.{ℕ, zero, suc, ◌+◌, ◌==◌, List, [], ◌∷◌, Option, Some, None, Bool, false, take, drop, if◌then◌else◌}
+use Rattle.std.specs.List.{prefix_len}
+
+abbrev pub tilde : ℕ
+tilde = 126
+
+abbrev pub caret : ℕ
+caret = 94
+
+abbrev pub colon : ℕ
+colon = 58
+
+abbrev pub dot : ℕ
+dot = 46
+
+abbrev pub at_sign : ℕ
+at_sign = 64
+
+abbrev pub brace : ℕ
+brace = 123
+
+abbrev pub dash : ℕ
+dash = 45
+
+abbrev pub plus : ℕ
+plus = 43
+
+abbrev pub slash : ℕ
+slash = 47
+
+abbrev pub bang : ℕ
+bang = 33
+
+-- whether a text begins with this byte
+abbrev pub starts_with : (mark : ℕ) → List ℕ → Bool
+starts_with mark [] = false
+starts_with mark (b ∷ rest) = b == mark
+
+-- the bytes at the front that pass
+abbrev pub run_of : (ℕ → Bool) → List ℕ → List ℕ
+run_of test text = take (prefix_len test text) text
+
+-- and what follows them
+abbrev pub behind_run : (ℕ → Bool) → List ℕ → List ℕ
+behind_run test text = drop (prefix_len test text) text
+
+-- the least of the n places from k on that passes, or the place behind them
+abbrev pub least_from : (test : ℕ → Bool) → (n k : ℕ) → ℕ
+least_from test zero k = k
+least_from test (suc n) k = if test k then k else least_from test n (k + 1)
+
+-- the greatest place below n that passes
+abbrev pub greatest_below : (test : ℕ → Bool) → (n : ℕ) → Option ℕ
+greatest_below test zero = None
+greatest_below test (suc n) = if test n then Some n else greatest_below test n

@@ -1,0 +1,148 @@
+//! What stands at the front of a text: a piece of it, and what is left behind.
+
+ghost use Rattle.std.specs.Prelude.{◌≡◌};
+ghost use Rattle.gix_spec.specs.Part.{nothing, piece, closing, refusal};
+ghost use Rattle.gix_spec.specs.Found.{piece_of, part_of, slice_of};
+
+use super::delegate::{PeelTo, PrefixHint, Traversal};
+use super::fault::Fault;
+use crate::spec::Kind;
+use gix_base::hash::Prefix;
+
+/// The way on behind a part of a text.
+#[derive(Clone, Copy, Debug, PartialEq, Eq)]
+pub(crate) enum Way {
+    /// Reading goes on.
+    Onward,
+    /// The part was a closer, such as `^!`.
+    Closed,
+}
+
+/// The prefix call that is tried first on a name.
+#[derive(Clone, Copy, Debug)]
+pub(crate) struct Attempt<'a> {
+    pub(crate) prefix: Prefix,
+    pub(crate) hint: Option<PrefixHint<'a>>,
+}
+
+/// A piece of a text, with the parts of the text that its calls and their faults name: `after` is
+/// what follows the mark of a step, `rest` what follows the piece, `whole` the text from the start
+/// of its revision on.
+#[derive(Clone, Copy, Debug)]
+pub(crate) enum Piece<'a> {
+    /// `^` in front of the whole text.
+    Exclude,
+    /// A regex, as it is written after its mark, and what is looked for.
+    Regex {
+        wanted: &'a [u8],
+        raw: &'a [u8],
+        negated: bool,
+    },
+    /// A path in the index.
+    Index {
+        path: &'a [u8],
+        stage: u8,
+    },
+    /// HEAD, written `@`, or implied where a side of a range is empty.
+    Head,
+    /// A name, and the prefix call that is tried first, if there is one.
+    Name {
+        text: &'a [u8],
+        whole: &'a [u8],
+        attempt: Option<Attempt<'a>>,
+    },
+    /// `~n`, `^n`.
+    Step {
+        step: Traversal,
+        after: &'a [u8],
+    },
+    /// `^0`.
+    Peel {
+        target: PeelTo<'a>,
+        after: &'a [u8],
+    },
+    /// `:PATH` after a revision.
+    Path(&'a [u8]),
+    /// `^!`, `^@`.
+    Closer {
+        kind: Kind,
+        rest: &'a [u8],
+    },
+    /// `^-n`.
+    WithoutParent {
+        number: usize,
+        after: &'a [u8],
+        rest: &'a [u8],
+    },
+    /// `..`, `...`.
+    Range(Kind),
+    /// The end of a text.
+    Finish,
+}
+
+/// A fault of the text, and the part that it names.
+#[derive(Clone, Copy, Debug)]
+pub(crate) struct Refusal<'a> {
+    pub(crate) fault: Fault,
+    pub(crate) input: Option<&'a [u8]>,
+}
+
+/// What a reader finds at the front of a text.
+pub(crate) type Found<'a> = Result<Part<'a>, Refusal<'a>>;
+
+/// What stands at the front of a text: a piece or none, what is left behind it, and the way on.
+#[derive(Clone, Copy, Debug)]
+pub(crate) struct Part<'a> {
+    pub(crate) piece: Option<Piece<'a>>,
+    pub(crate) rest: &'a [u8],
+    pub(crate) way: Way,
+}
+
+impl<'a> Part<'a> {
+    /// No piece.
+    pub(crate) fn nothing(text: &'a [u8]) -> Found<'a>
+        ensures { part_of result ≡ nothing text.now }
+    {
+        Ok(Part {
+            piece: None,
+            rest: text,
+            way: Way::Onward,
+        })
+    }
+
+    /// A piece behind which reading goes on.
+    pub(crate) fn piece(found: Piece<'a>, rest: &'a [u8]) -> Found<'a>
+        ensures { part_of result ≡ piece (piece_of found.entry) rest.now }
+    {
+        Ok(Part {
+            piece: Some(found),
+            rest,
+            way: Way::Onward,
+        })
+    }
+
+    /// A closer.
+    pub(crate) fn closing(found: Piece<'a>, rest: &'a [u8]) -> Found<'a>
+        ensures { part_of result ≡ closing (piece_of found.entry) rest.now }
+    {
+        Ok(Part {
+            piece: Some(found),
+            rest,
+            way: Way::Closed,
+        })
+    }
+
+    /// A fault of the text.
+    pub(crate) fn refusal(fault: Fault, input: Option<&'a [u8]>) -> Found<'a>
+        ensures { part_of result ≡ refusal fault (slice_of input.entry) }
+    {
+        Err(Refusal { fault, input })
+    }
+}
+
+/// What is left of a text behind a part that was read well, and the way on.
+#[derive(Clone, Copy, Debug)]
+pub(crate) struct Behind<'a> {
+    pub(crate) rest: &'a [u8],
+    pub(crate) way: Way,
+}

@@ -1,0 +1,162 @@
+//! The steps behind a name.
+
+ghost use Rattle.std.specs.Prelude.{◌≡◌, ◌≤◌, length, drop};
+ghost use Rattle.std.specs.Char.{is_ascii_digit};
+ghost use Rattle.std.specs.List.{prefix_len};
+ghost use Rattle.gix_spec.specs.Marks.{run_of};
+ghost use Rattle.gix_spec.specs.Steps.{ancestor_at, parent_by, without_by, without_at, run_at};
+ghost use Rattle.gix_spec.specs.Steps.{is_digit_or_minus, marked_parent, parent_at, step_at};
+ghost use Rattle.gix_spec.specs.Number.{number_of};
+ghost use Rattle.gix_spec.specs.Found.{part_of};
+ghost use Rattle.gix_spec.specs.Part.{piece, closing};
+ghost use Rattle.gix_spec.specs.Pieces;
+
+use super::delegate::{PeelTo, Traversal};
+use super::fault::Fault;
+use super::number::number;
+use super::part::{Found, Part, Piece};
+use crate::spec::Kind;
+use gix_base::object;
+
+// In what follows, `after` is the text behind a `~` or a `^`, and `run` the digits (and minus
+// signs) at its front.
+
+fn digits_len(text: &[u8]) -> usize
+    ensures len { result ≡ prefix_len is_ascii_digit text.now }
+    ensures within { result ≤ length text.now }
+{
+    text.iter().take_while(|byte| byte.is_ascii_digit()).count()
+}
+
+fn is_digit_or_minus(byte: u8) -> bool
+    ensures { result ≡ is_digit_or_minus byte }
+{
+    byte.is_ascii_digit() || byte == b'-'
+}
+
+fn run_len(text: &[u8]) -> usize
+    ensures len { result ≡ prefix_len is_digit_or_minus text.now }
+    ensures within { result ≤ length text.now }
+{
+    text.iter()
+        .take_while(|byte| is_digit_or_minus(**byte))
+        .count()
+}
+
+fn step<'a>(step: Traversal, after: &'a [u8], rest: &'a [u8]) -> Found<'a>
+    ensures { part_of result ≡ piece (Pieces.step step after.now) rest.now }
+{
+    Part::piece(Piece::Step { step, after }, rest)
+}
+
+// `~` and `~n`.
+#[tactic(auto, unfolding(crate::specs::Steps::ancestor_at))]
+fn ancestor(after: &[u8]) -> Found<'_>
+    ensures { part_of result ≡ ancestor_at after.now }
+{
+    if let [b'+' | b'-', ..] = after {
+        return Part::refusal(Fault::Sign, Some(after));
+    }
+    let (run, rest) = after.split_at(digits_len(after));
+    if run.is_empty() {
+        return step(Traversal::NthAncestor(1), after, after);
+    }
+    match number(run) {
+        Some(number) => step(Traversal::NthAncestor(number), after, rest),
+        None => Part::refusal(Fault::Number, Some(run)),
+    }
+}
+
+// `^n`; `^0` is the commit itself.
+fn parent<'a>(run: &'a [u8], rest: &'a [u8], after: &'a [u8]) -> Found<'a>
+    ensures { part_of result ≡ parent_by run.now rest.now after.now (number_of run.now) }
+{
+    match number(run) {
+        Some(0) => {
+            let target = PeelTo::ObjectKind(object::Kind::Commit);
+            Part::piece(Piece::Peel { target, after }, rest)
+        }
+        Some(number) if number <= isize::MAX as usize => {
+            step(Traversal::NthParent(number), after, rest)
+        }
+        _ => Part::refusal(Fault::Number, Some(run)),
+    }
+}
+
+fn without_parent<'a>(number: usize, rest: &'a [u8], after: &'a [u8]) -> Found<'a>
+    ensures { part_of result ≡ closing (Pieces.without_parent number after.now rest.now) rest.now }
+{
+    Part::closing(
+        Piece::WithoutParent {
+            number,
+            after,
+            rest,
+        },
+        rest,
+    )
+}
+
+// `^-` and `^-n`, where `digits` is the run behind its minus sign.
+#[tactic(auto, unfolding(crate::specs::Steps::without_at))]
+fn without<'a>(digits: &'a [u8], run: &'a [u8], rest: &'a [u8], after: &'a [u8]) -> Found<'a>
+    ensures { part_of result ≡ without_at digits.now run.now rest.now after.now }
+{
+    if digits.is_empty() {
+        return without_parent(1, rest, after);
+    }
+    match number(digits) {
+        Some(0) => Part::refusal(Fault::NegativeZero, Some(run)),
+        Some(number) if number <= isize::MAX as usize => without_parent(number, rest, after),
+        _ => Part::refusal(Fault::Number, Some(run)),
+    }
+}
+
+// `^`, and what the run behind it says.
+#[tactic(auto, unfolding(crate::specs::Steps::run_at))]
+fn numbered<'a>(run: &'a [u8], rest: &'a [u8], after: &'a [u8]) -> Found<'a>
+    ensures { part_of result ≡ run_at run.now rest.now after.now }
+{
+    match run {
+        [] => step(Traversal::NthParent(1), after, after),
+        [b'-', digits @ ..] => without(digits, run, rest, after),
+        _ => parent(run, rest, after),
+    }
+}
+
+// `^!` and `^@`.
+fn closer(kind: Kind, rest: &[u8]) -> Found<'_>
+    ensures { part_of result ≡ closing (Pieces.closer kind rest.now) rest.now }
+{
+    Part::closing(Piece::Closer { kind, rest }, rest)
+}
+
+// What stands behind a `^`.
+#[tactic(auto, unfolding(crate::specs::Steps::parent_at))]
+fn behind_caret(after: &[u8]) -> Found<'_>
+    ensures { part_of result ≡ parent_at after.now }
+{
+    match after {
+        [] => step(Traversal::NthParent(1), after, after),
+        [b'+', ..] => Part::refusal(Fault::Sign, Some(after)),
+        [b'{', ..] => Part::refusal(Fault::NotYet, Some(after)),
+        [b'!', rest @ ..] => closer(Kind::ExcludeReachableFromParents, rest),
+        [b'@', rest @ ..] => closer(Kind::IncludeReachableFromParents, rest),
+        _ => {
+            let (run, rest) = after.split_at(run_len(after));
+            numbered(run, rest, after)
+        }
+    }
+}
+
+/// The step at the front of a text, if one stands there.
+#[tactic(auto, unfolding(crate::specs::Steps::step_at))]
+pub(crate) fn next_step(text: &[u8]) -> Found<'_>
+    ensures { part_of result ≡ step_at text.now }
+{
+    match text {
+        [b'~', after @ ..] => ancestor(after),
+        [b'^', after @ ..] => behind_caret(after),
+        [b':', path @ ..] => Part::piece(Piece::Path(path), b""),
+        _ => Part::nothing(text),
+    }
+}
