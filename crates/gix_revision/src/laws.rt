@@ -1,11 +1,10 @@
-//! Laws of the definitions: what follows from them for every history, mark, count and printed name.
+//! Laws of the definitions, by the module that they speak of: what follows from them for every id,
+//! date, text, history and count.
 //!
 //! No function here does anything. Its contract is the law.
 
-pub use gix_describe::laws::{formats, sizes};
-pub use gix_merge_base::laws::{
-    ancestors_are_antisymmetric, ancestors_are_commits, ancestors_are_least,
-    ancestors_are_reflexive, ancestors_are_transitive, bases_cover, edges_join_commits, flags,
-    keys_are_ordered, lacked_changes_no_bases, maximal_of_maximal, maximal_ones_exist,
-    octopus_base_is_of_the_set,
-};
+pub use gix_base::laws as base;
+pub use gix_date::laws as date;
+pub use gix_describe::laws as describe;
+pub use gix_merge_base::laws as merge_base;
+pub use gix_spec::laws as spec;

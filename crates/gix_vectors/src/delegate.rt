@@ -15,14 +15,18 @@ use std::alloc::Global;
 pub enum Answers {
     /// None of them.
     Accepts,
-    /// These are refused.
-    Refuses(&'static [usize]),
+    /// Those from one number to another are refused, none where these are 0.
+    Refuses { from: usize, to: usize },
     /// This one wants memory.
     WantsMemory(usize),
+    /// This one is refused, and the one behind it wants memory.
+    RefusesThenWantsMemory(usize),
 }
 
 /// The messages of refusals, by the number of the call.
-pub const MESSAGES: [&str; 6] = ["call 1", "call 2", "call 3", "call 4", "call 5", "call 6"];
+pub const MESSAGES: [&str; 8] = [
+    "call 1", "call 2", "call 3", "call 4", "call 5", "call 6", "call 7", "call 8",
+];
 
 /// Writes down each call, as `revtool` prints it, and answers as it was told.
 #[derive(Drop)]
@@ -59,8 +63,14 @@ impl Told {
         heard?;
         self.count = self.count.saturating_add(1);
         match self.answers {
-            Answers::Refuses(numbers) if numbers.contains(&self.count) => {
+            Answers::Refuses { from, to } if from <= self.count && self.count <= to => {
                 Err(Exn::new(self.alloc, message_of(self.count)))
+            }
+            Answers::RefusesThenWantsMemory(number) if number == self.count => {
+                Err(Exn::new(self.alloc, message_of(self.count)))
+            }
+            Answers::RefusesThenWantsMemory(number) if number.saturating_add(1) == self.count => {
+                Err(Exn::out_of_memory(self.alloc))
             }
             Answers::WantsMemory(number) if number == self.count => {
                 Err(Exn::out_of_memory(self.alloc))

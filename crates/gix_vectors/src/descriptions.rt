@@ -1,42 +1,105 @@
-//! Worked rows of `describe`, printed texts, and refusals.
+//! Worked rows of `describe`, printed texts and copies, and calls where memory or the source fails.
 
 use crate::histories::{Row, id, source_of};
 use crate::sources::{Failing, Turn};
 use gix_base::error::Message;
+use gix_base::hash::ObjectId;
 use gix_revision::describe::{
-    Answer, Error, Flags, Format, Options, Outcome, Query, describe, run,
+    Answer, Format, Names, Options, Outcome, Query, counted, describe, run,
 };
-use gix_revision::graph::{Find, FindFault, Graph, MemorySource};
+use gix_revision::graph::{Find, FindFault, Graph, MemorySource, SourceCommit};
 use refusing::Refusing;
 use std::alloc::{AllocError, Allocator, Global};
 use std::borrow::CowSlice;
+use std::collections::HashMap;
 use std::test::Fail;
 
-/// One call and the bounds of its answer.
-#[derive(Drop)]
-struct Case {
-    history: &'static [Row<'static>],
-    names: &'static [(u8, &'static str)],
-    start: u8,
+/// A history, the names of commits in it, the commit to describe, how, and what is wanted.
+#[derive(Clone, Copy)]
+struct Case(
+    &'static [Row<'static>],
+    &'static [(u8, &'static str)],
+    u8,
+    How,
+    Want,
+);
+
+/// How a commit is described.
+#[derive(Clone, Copy)]
+struct How {
     max_candidates: usize,
     fallback_to_oid: bool,
     first_parent: bool,
-    want: Want,
+    /// The commit that the source fails for; 0 where it fails for none.
+    fails_for: u8,
 }
 
-#[derive(Drop)]
+#[derive(Clone, Copy)]
 enum Want {
     Nothing,
+    /// The source lacks the commit.
     Missing,
-    Unnamed {
-        seen: u32,
-    },
-    Named {
-        name: &'static str,
-        depth: (u32, u32),
-        seen: (u32, u32),
-    },
+    /// The parents of this one could not be had.
+    Lost(u8),
+    /// Nothing is asked of the answer but that it comes.
+    Anything,
+    /// The id alone, after so many commits; how many left the queue, and which are held then.
+    Unnamed(u32, u128, &'static [u8]),
+    /// A name with its depth, the number of commits seen; how many left the queue, and which are held
+    /// then.
+    Named(&'static str, u32, u32, u128, &'static [u8]),
 }
+
+const PLAIN: How = How {
+    max_candidates: 10,
+    fallback_to_oid: false,
+    first_parent: false,
+    fails_for: 0,
+};
+
+const ALWAYS: How = How {
+    max_candidates: 10,
+    fallback_to_oid: true,
+    first_parent: false,
+    fails_for: 0,
+};
+
+const FIRST_PARENT: How = How {
+    max_candidates: 10,
+    fallback_to_oid: true,
+    first_parent: true,
+    fails_for: 0,
+};
+
+const NO_CANDIDATE: How = How {
+    max_candidates: 0,
+    fallback_to_oid: true,
+    first_parent: false,
+    fails_for: 0,
+};
+
+const ONE_CANDIDATE: How = How {
+    max_candidates: 1,
+    fallback_to_oid: false,
+    first_parent: false,
+    fails_for: 0,
+};
+
+/// The second parent of [4] of the fork can't be had.
+const FAILS_FOR_THE_SECOND_PARENT: How = How {
+    max_candidates: 10,
+    fallback_to_oid: true,
+    first_parent: true,
+    fails_for: 3,
+};
+
+/// The root of the line can't be had.
+const FAILS_FOR_THE_ROOT: How = How {
+    max_candidates: 10,
+    fallback_to_oid: false,
+    first_parent: false,
+    fails_for: 1,
+};
 
 const LINE: &[Row<'static>] = &[
     Row(1, 1, None, &[]),
@@ -66,6 +129,27 @@ const SKEWED: &[Row<'static>] = &[
     Row(3, 10, None, &[2, 1]),
 ];
 
+/// Two named roots of one time.
+const TIED: &[Row<'static>] = &[
+    Row(2, 5, None, &[]),
+    Row(3, 5, None, &[]),
+    Row(4, 10, None, &[2, 3]),
+];
+
+const TIED_TURNED: &[Row<'static>] = &[
+    Row(2, 5, None, &[]),
+    Row(3, 5, None, &[]),
+    Row(4, 10, None, &[3, 2]),
+];
+
+/// The fork, with parents listed twice.
+const LISTED_TWICE: &[Row<'static>] = &[
+    Row(1, 1, None, &[]),
+    Row(2, 9, None, &[1, 1]),
+    Row(3, 8, None, &[1]),
+    Row(4, 10, None, &[2, 3, 2]),
+];
+
 const MISSING_PARENT: &[Row<'static>] = &[Row(1, 1, None, &[]), Row(2, 2, None, &[9, 1])];
 
 const FAR_TIMES: &[Row<'static>] = &[
@@ -80,380 +164,579 @@ const CYCLE: &[Row<'static>] = &[
     Row(3, 2, None, &[1]),
 ];
 
+const CASES: &[Case] = &[
+    Case(
+        LINE,
+        &[(1, "v1")],
+        3,
+        PLAIN,
+        Want::Named("v1", 2, 3, 3, &[1, 2, 3]),
+    ),
+    // The walk ends at the name: what is behind it is not looked up.
+    Case(
+        LINE,
+        &[(2, "v")],
+        3,
+        PLAIN,
+        Want::Named("v", 1, 2, 2, &[2, 3]),
+    ),
+    Case(
+        LINE,
+        &[(2, "v")],
+        3,
+        FAILS_FOR_THE_ROOT,
+        Want::Named("v", 1, 2, 2, &[2, 3]),
+    ),
+    Case(LINE, &[(1, "v1")], 3, FAILS_FOR_THE_ROOT, Want::Lost(2)),
+    Case(LINE, &[(3, "v")], 3, PLAIN, Want::Named("v", 0, 0, 0, &[])),
+    // The depth is completed where the named commit is older than its parent.
+    Case(
+        SKEWED,
+        &[(2, "v")],
+        3,
+        PLAIN,
+        Want::Named("v", 2, 3, 3, &[1, 2, 3]),
+    ),
+    // The second name is given up for want of room, and popped again.
+    Case(
+        FORK,
+        &[(2, "A"), (3, "B")],
+        4,
+        ONE_CANDIDATE,
+        Want::Named("A", 2, 4, 5, &[1, 2, 3, 4]),
+    ),
+    Case(
+        LISTED_TWICE,
+        &[(2, "A"), (3, "B")],
+        4,
+        ONE_CANDIDATE,
+        Want::Named("A", 2, 4, 5, &[1, 2, 3, 4]),
+    ),
+    Case(
+        FORK,
+        &[(3, "B")],
+        4,
+        FIRST_PARENT,
+        Want::Unnamed(3, 3, &[1, 2, 4]),
+    ),
+    Case(
+        FORK,
+        &[(3, "B")],
+        4,
+        FAILS_FOR_THE_SECOND_PARENT,
+        Want::Unnamed(3, 3, &[1, 2, 4]),
+    ),
+    Case(
+        FORK,
+        &[(4, "A")],
+        4,
+        NO_CANDIDATE,
+        Want::Named("A", 0, 0, 0, &[]),
+    ),
+    Case(FORK, &[(1, "A")], 4, NO_CANDIDATE, Want::Unnamed(0, 0, &[])),
+    Case(FORK, &[], 9, PLAIN, Want::Nothing),
+    Case(FORK, &[(1, "A")], 9, ALWAYS, Want::Missing),
+    Case(
+        OLDER_IS_NEARER,
+        &[(2, "B"), (3, "A")],
+        4,
+        PLAIN,
+        Want::Named("B", 2, 4, 4, &[1, 2, 3, 4]),
+    ),
+    // Of two names at one depth it is the smaller one, whichever commit is met first.
+    Case(
+        TIED,
+        &[(2, "b"), (3, "a")],
+        4,
+        PLAIN,
+        Want::Named("a", 2, 3, 3, &[2, 3, 4]),
+    ),
+    Case(
+        TIED,
+        &[(2, "a"), (3, "b")],
+        4,
+        PLAIN,
+        Want::Named("a", 2, 3, 3, &[2, 3, 4]),
+    ),
+    Case(
+        TIED_TURNED,
+        &[(2, "b"), (3, "a")],
+        4,
+        PLAIN,
+        Want::Named("a", 2, 3, 3, &[2, 3, 4]),
+    ),
+    Case(
+        MISSING_PARENT,
+        &[(1, "v")],
+        2,
+        PLAIN,
+        Want::Named("v", 1, 2, 2, &[1, 2]),
+    ),
+    Case(
+        MISSING_PARENT,
+        &[(1, "v")],
+        2,
+        FIRST_PARENT,
+        Want::Unnamed(1, 1, &[2]),
+    ),
+    Case(
+        FAR_TIMES,
+        &[(1, "v")],
+        3,
+        PLAIN,
+        Want::Named("v", 2, 3, 3, &[1, 2, 3]),
+    ),
+    Case(CYCLE, &[(2, "v")], 3, PLAIN, Want::Anything),
+];
+
+fn names_of<A: Allocator + Copy>(
+    alloc: A,
+    names: &[(u8, &'static str)],
+) -> Result<Names<'static, A>, AllocError> {
+    let mut all = HashMap::new(alloc);
+    for (digit, name) in names {
+        all.insert(id(*digit), CowSlice::Borrowed(name.as_bytes()))?;
+    }
+    Ok(all)
+}
+
 fn options_of<A: Allocator + Copy>(
     alloc: A,
     names: &[(u8, &'static str)],
+    how: How,
 ) -> Result<Options<'static, A>, AllocError> {
-    let mut options = Options::new(alloc);
-    for (digit, name) in names {
-        let name = CowSlice::Borrowed(name.as_bytes());
-        options.name_by_oid.insert(id(*digit), name)?;
-    }
-    Ok(options)
+    Ok(Options {
+        name_by_oid: names_of(alloc, names)?,
+        max_candidates: how.max_candidates,
+        fallback_to_oid: how.fallback_to_oid,
+        first_parent: how.first_parent,
+    })
 }
 
-fn is_wanted<A: Allocator>(
-    found: &Result<Option<Outcome<'static, A>>, Error>,
-    start: u8,
-    want: &Want,
-) -> bool {
-    match (found, want) {
-        (Ok(None), Want::Nothing) => true,
-        (Err(Message::MissingStart(missing)), Want::Missing) => *missing == id(start),
-        (Ok(Some(outcome)), Want::Unnamed { seen }) => {
-            outcome.name.is_none()
-                && outcome.id == id(start)
-                && outcome.depth == 0
-                && outcome.commits_seen == *seen
-        }
-        (Ok(Some(outcome)), Want::Named { name, depth, seen }) => {
-            let same = match &outcome.name {
-                Some(found) => found.as_slice() == name.as_bytes(),
-                None => false,
-            };
-            same && outcome.id == id(start)
-                && depth.0 <= outcome.depth
-                && outcome.depth <= depth.1
-                && seen.0 <= outcome.commits_seen
-                && outcome.commits_seen <= seen.1
-        }
+/// Whether a name is this one, and borrowed as the names that were handed in.
+fn is_name<A: Allocator>(found: &Option<CowSlice<'static, u8, A>>, name: &str) -> bool {
+    match found {
+        Some(CowSlice::Borrowed(found)) => *found == name.as_bytes(),
         _ => false,
     }
+}
+
+/// Whether an outcome is of a commit, and says what is wanted.
+fn says<A: Allocator>(outcome: &Outcome<'static, A>, start: u8, want: Want) -> bool {
+    let (named, depth, seen) = match want {
+        Want::Unnamed(seen, _, _) => (outcome.name.is_none(), 0, seen),
+        Want::Named(name, depth, seen, _, _) => (is_name(&outcome.name, name), depth, seen),
+        Want::Anything => return true,
+        _ => return false,
+    };
+    named && outcome.id == id(start) && outcome.depth == depth && outcome.commits_seen == seen
+}
+
+/// Whether so many commits left the queue, and these digits are held.
+fn leaves<S: Find, A: Allocator + Copy>(graph: &Graph<S, u32, A>, pops: u128, want: Want) -> bool {
+    let (wanted, held) = match want {
+        Want::Unnamed(_, pops, held) | Want::Named(_, _, _, pops, held) => (pops, held),
+        _ => return true,
+    };
+    // Where no walk is made the graph stays as it was.
+    pops == wanted
+        && (pops == 0 || (1..16).all(|digit| graph.contains(&id(digit)) == held.contains(&digit)))
+}
+
+/// What came of a call.
+#[derive(Clone, Copy, Debug, PartialEq, Eq)]
+enum Met {
+    Right,
+    RefusedForTheSource,
+    RefusedForMemory,
+    Wrong,
+}
+
+/// What came of a call that was to answer what is wanted.
+fn verdict<S: Find, A: Allocator + Copy>(
+    found: &Result<(Option<Outcome<'static, A>>, u128), Message>,
+    graph: &Graph<S, u32, A>,
+    start: u8,
+    want: Want,
+) -> Met {
+    let right = match (found, want) {
+        (Ok((None, pops)), Want::Nothing) => *pops == 0,
+        (Ok((Some(outcome), pops)), want) => {
+            says(outcome, start, want) && leaves(graph, *pops, want)
+        }
+        (Err(Message::MissingStart(lacked)), Want::Missing) => *lacked == id(start),
+        (Err(Message::ParentsOf(child)), Want::Lost(digit)) => *child == id(digit),
+        (Err(Message::ParentsOf(_)), _) => return Met::RefusedForTheSource,
+        (Err(Message::OutOfMemory), _) => return Met::RefusedForMemory,
+        _ => false,
+    };
+    if right { Met::Right } else { Met::Wrong }
+}
+
+/// Makes the call of a case, and compares its answer with the one that is wanted.
+fn answered<S: Find, A: Allocator + Copy>(
+    alloc: A,
+    graph: &mut Graph<S, u32, A>,
+    case: &Case,
+) -> Result<Met, AllocError> {
+    let Case(_, names, start, how, want) = *case;
+    let options = options_of(alloc, names, how)?;
+    let found = counted(alloc, &id(start), graph, options);
+    Ok(verdict(&found, graph, start, want))
+}
+
+/// Whether a case has the answer that is wanted, on a fresh graph and on one that another call left.
+fn is_described(alloc: Global, case: &Case) -> Result<bool, AllocError> {
+    let Case(history, names, _, how, _) = *case;
+    let bad = Turn::For(id(how.fails_for));
+    let source = Failing::new(source_of(alloc, history)?, bad, FindFault::Failed, 0);
+    let mut graph = Graph::new(alloc, source);
+    if answered(alloc, &mut graph, case)? != Met::Right {
+        return Ok(false);
+    }
+    let mut other = options_of(alloc, names, ALWAYS)?;
+    other
+        .name_by_oid
+        .insert(id(14), CowSlice::Borrowed(b"other"))?;
+    let _ = describe(alloc, &id(2), &mut graph, other);
+    Ok(answered(alloc, &mut graph, case)? == Met::Right)
+}
+
+/// A commit with the parents 1 to 40, all of which are roots, the greater the newer.
+fn forty_parents(alloc: Global) -> Result<MemorySource, AllocError> {
+    let mut source = MemorySource::new(alloc);
+    let mut parents = Vec::new(alloc);
+    for n in 1..41u8 {
+        parents.push(ObjectId([n; 20]))?;
+        let root = SourceCommit {
+            parents: Vec::new(alloc),
+            time: i64::from(n),
+            generation: None,
+        };
+        let _ = source.insert(ObjectId([n; 20]), root);
+    }
+    let merge = SourceCommit {
+        parents,
+        time: 41,
+        generation: None,
+    };
+    let _ = source.insert(id(15), merge);
+    Ok(source)
+}
+
+/// Whether 32 of forty names are weighed where more may be: the newest ones, all of which are as far.
+/// The smaller name is that of the older ones.
+fn are_forty_weighed(alloc: Global) -> Result<bool, AllocError> {
+    let mut graph = Graph::new(alloc, forty_parents(alloc)?);
+    let mut options = Options::new(alloc);
+    options.max_candidates = usize::MAX;
+    for n in 1..41u8 {
+        let name: &'static [u8] = if n > 8 { b"newer" } else { b"a" };
+        options
+            .name_by_oid
+            .insert(ObjectId([n; 20]), CowSlice::Borrowed(name))?;
+    }
+    let found = counted(alloc, &id(15), &mut graph, options);
+    let want = Want::Named("newer", 40, 41, 42, &[]);
+    Ok(match &found {
+        Ok((Some(outcome), pops)) => says(outcome, 15, want) && *pops == 42,
+        _ => false,
+    })
 }
 
 #[test]
 fn rows_are_described(rt: HostRuntime) -> Result<(), Fail> {
-    let cases = [
-        Case {
-            history: LINE,
-            names: &[(1, "v1")],
-            start: 3,
-            max_candidates: 10,
-            fallback_to_oid: false,
-            first_parent: false,
-            want: Want::Named {
-                name: "v1",
-                depth: (2, 2),
-                seen: (3, 3),
-            },
-        },
-        // The two counts leave room where the named commit is older than its parent.
-        Case {
-            history: SKEWED,
-            names: &[(2, "v")],
-            start: 3,
-            max_candidates: 10,
-            fallback_to_oid: false,
-            first_parent: false,
-            want: Want::Named {
-                name: "v",
-                depth: (1, 2),
-                seen: (2, 3),
-            },
-        },
-        Case {
-            history: FORK,
-            names: &[(3, "B")],
-            start: 4,
-            max_candidates: 10,
-            fallback_to_oid: true,
-            first_parent: true,
-            want: Want::Unnamed { seen: 3 },
-        },
-        Case {
-            history: FORK,
-            names: &[(4, "A")],
-            start: 4,
-            max_candidates: 0,
-            fallback_to_oid: false,
-            first_parent: false,
-            want: Want::Named {
-                name: "A",
-                depth: (0, 0),
-                seen: (0, 0),
-            },
-        },
-        Case {
-            history: FORK,
-            names: &[(1, "A")],
-            start: 4,
-            max_candidates: 0,
-            fallback_to_oid: true,
-            first_parent: false,
-            want: Want::Unnamed { seen: 0 },
-        },
-        Case {
-            history: FORK,
-            names: &[],
-            start: 9,
-            max_candidates: 10,
-            fallback_to_oid: false,
-            first_parent: false,
-            want: Want::Nothing,
-        },
-        Case {
-            history: FORK,
-            names: &[(1, "A")],
-            start: 9,
-            max_candidates: 10,
-            fallback_to_oid: true,
-            first_parent: false,
-            want: Want::Missing,
-        },
-        Case {
-            history: OLDER_IS_NEARER,
-            names: &[(2, "B"), (3, "A")],
-            start: 4,
-            max_candidates: 10,
-            fallback_to_oid: false,
-            first_parent: false,
-            want: Want::Named {
-                name: "B",
-                depth: (2, 2),
-                seen: (3, 4),
-            },
-        },
-        Case {
-            history: MISSING_PARENT,
-            names: &[(1, "v")],
-            start: 2,
-            max_candidates: 10,
-            fallback_to_oid: false,
-            first_parent: false,
-            want: Want::Named {
-                name: "v",
-                depth: (1, 1),
-                seen: (2, 2),
-            },
-        },
-        Case {
-            history: MISSING_PARENT,
-            names: &[(1, "v")],
-            start: 2,
-            max_candidates: 10,
-            fallback_to_oid: true,
-            first_parent: true,
-            want: Want::Unnamed { seen: 1 },
-        },
-        Case {
-            history: FAR_TIMES,
-            names: &[(1, "v")],
-            start: 3,
-            max_candidates: 10,
-            fallback_to_oid: false,
-            first_parent: false,
-            want: Want::Named {
-                name: "v",
-                depth: (2, 2),
-                seen: (3, 3),
-            },
-        },
-        // Nothing is asked of the answer but that it comes.
-        Case {
-            history: CYCLE,
-            names: &[(2, "v")],
-            start: 3,
-            max_candidates: 10,
-            fallback_to_oid: false,
-            first_parent: false,
-            want: Want::Named {
-                name: "v",
-                depth: (0, 3),
-                seen: (1, 3),
-            },
-        },
-    ];
-    let alloc = rt.alloc();
-    for (i, case) in cases.iter().enumerate() {
-        let mut graph = Graph::new(alloc, source_of(alloc, case.history)?);
-        let mut options = options_of(alloc, case.names)?;
-        options.max_candidates = case.max_candidates;
-        options.fallback_to_oid = case.fallback_to_oid;
-        options.first_parent = case.first_parent;
-        let found = describe(alloc, &id(case.start), &mut graph, options);
-        assert!(rt; is_wanted(&found, case.start, &case.want), "case {i}");
+    for (i, case) in CASES.iter().enumerate() {
+        assert!(rt; is_described(rt.alloc(), case)?, "case {i}");
     }
+    assert!(rt; are_forty_weighed(rt.alloc())?);
     Ok(())
 }
 
-#[test]
-fn either_name_of_two_lies_between_the_counts(rt: HostRuntime) -> Result<(), Fail> {
-    let alloc = rt.alloc();
-    let mut graph = Graph::new(alloc, source_of(alloc, FORK)?);
-    let mut options = options_of(alloc, &[(2, "A"), (3, "B")])?;
-    options.max_candidates = 1;
-    match describe(alloc, &id(4), &mut graph, options) {
-        Ok(Some(outcome)) => {
-            assert!(rt; outcome.name.is_some());
-            assert_eq!(rt; outcome.depth, 2);
-            assert!(rt; outcome.commits_seen == 3 || outcome.commits_seen == 4);
-        }
-        _ => assert!(rt; false),
-    }
-    Ok(())
-}
+/// The name, the depth, whether the long form is asked for, the number of digits and the suffix of what
+/// is described, and its text.
+#[derive(Clone, Copy)]
+struct Printed(
+    Option<&'static [u8]>,
+    u32,
+    bool,
+    usize,
+    Option<&'static str>,
+    &'static str,
+);
 
-fn format_of(name: Option<&'static [u8]>, digit: u8) -> Format<'static> {
-    Format {
-        name: name.map(|name| CowSlice::Borrowed(name)),
-        id: id(digit),
-        hex_len: 7,
-        depth: 0,
-        long: false,
-        dirty_suffix: None,
-    }
-}
-
-#[test]
-fn formats_are_printed(rt: HostRuntime) -> Result<(), Fail> {
-    let alloc = rt.alloc();
-    let mut format = format_of(Some(b"v1"), 1);
-    format.dirty_suffix = Some(format!(in alloc; "dirty")?);
-    assert_eq!(rt; format!(in alloc; "{format}")?.as_str(), "v1-dirty");
-    format.long(true);
-    assert_eq!(rt;
-        format!(in alloc; "{format}")?.as_str(),
-        "v1-0-g1111111-dirty"
-    );
-    let id_alone = format_of(None, 4);
-    assert_eq!(rt; format!(in alloc; "{id_alone}")?.as_str(), "4444444");
-    let lossy = format_of(Some(b"v\xff"), 4);
-    assert_eq!(rt; format!(in alloc; "{lossy}")?.as_str(), "v\u{fffd}");
-    Ok(())
-}
-
-/// [3] of the line, named after [1].
-fn two_back(alloc: Global) -> Result<Outcome<'static>, Fail> {
-    let mut graph = Graph::new(alloc, source_of(alloc, LINE)?);
-    let options = options_of(alloc, &[(1, "v1")])?;
-    match describe(alloc, &id(3), &mut graph, options) {
-        Ok(Some(outcome)) => Ok(outcome),
-        _ => Err(Fail::from("not described")),
-    }
-}
-
-#[test]
-fn the_names_are_copied_and_come_back(rt: HostRuntime) -> Result<(), Fail> {
-    let options = options_of(rt.alloc(), &[(1, "v1")])?;
-    let outcome = two_back(rt.alloc())?;
-    assert!(rt; options.clone()?.name_by_oid == options.name_by_oid);
-    assert!(rt; outcome.name_by_oid == options.name_by_oid);
-    Ok(())
-}
-
-#[test]
-fn an_outcome_is_printed(rt: HostRuntime) -> Result<(), Fail> {
-    let alloc = rt.alloc();
-    for (hex_len, want) in [
-        (7, "v1-2-g3333333"),
-        (0, "v1-2-g"),
-        (99, "v1-2-g3333333333333333333333333333333333333333"),
-    ] {
-        let format = two_back(alloc)?.into_format(hex_len);
-        assert_eq!(rt; format!(in alloc; "{format}")?.as_str(), want);
-    }
-    Ok(())
-}
-
-#[test]
-fn outcomes_and_formats_are_copied(rt: HostRuntime) -> Result<(), Fail> {
-    let outcome = two_back(rt.alloc())?;
-    let format = outcome.clone()?.into_format(7);
-    assert!(rt; !format.is_exact_match());
-    assert!(rt; format.clone()? == format);
-    assert!(rt; outcome.into_format(7) == format);
-    Ok(())
-}
-
-/// A query for [3] of the line, named after [1].
-fn query(alloc: Global) -> Result<Query<'static>, AllocError> {
-    Ok(Query {
-        commit: id(3),
-        options: options_of(alloc, &[(1, "v1")])?,
-    })
-}
-
-/// Whether the answer is a commit two commits ahead of the named one.
-fn is_two_back<A: Allocator>(answer: &Answer<'static, A>) -> bool {
-    match answer {
-        Answer::Described(Some(outcome)) => outcome.depth == 2 && outcome.commits_seen == 3,
-        _ => false,
-    }
-}
-
-/// Whether the parents of [3] could not be had.
-fn lacks_parents<A: Allocator>(answer: &Answer<'static, A>) -> bool {
-    match answer {
-        Answer::Refused(refused) => *refused == Message::ParentsOf(id(3)),
-        Answer::Described(_) => false,
-    }
-}
-
-#[test]
-fn a_list_of_queries_is_answered_in_order(rt: HostRuntime) -> Result<(), Fail> {
-    let alloc = rt.alloc();
-    // The first query meets a failure of the source.
-    let source = Failing::new(
-        source_of(alloc, LINE)?,
-        Turn::After(0),
-        FindFault::Failed,
+const PRINTED: &[Printed] = &[
+    Printed(Some(b"v1"), 0, false, 7, Some("dirty"), "v1-dirty"),
+    Printed(
+        Some(b"v1"),
         0,
-    );
-    let mut graph = Graph::new(alloc, source);
-    let queries = [query(alloc)?, query(alloc)?, query(alloc)?];
-    let Ok(answers) = run(alloc, &mut graph, &queries) else {
-        return Err(Fail::from("no answers"));
+        true,
+        7,
+        Some("dirty"),
+        "v1-0-g0123456-dirty",
+    ),
+    Printed(Some(b"v1"), 2, false, 7, None, "v1-2-g0123456"),
+    Printed(Some(b"v1"), 2, false, 0, None, "v1-2-g"),
+    Printed(
+        Some(b"v1"),
+        2,
+        false,
+        99,
+        None,
+        "v1-2-g0123456789abcdeffedcba987654321076543210",
+    ),
+    Printed(None, 0, false, 7, None, "0123456"),
+    Printed(Some(b"v\xff"), 0, false, 7, None, "v\u{fffd}"),
+];
+
+const DIGITS: &str = "0123456789abcdeffedcba987654321076543210";
+
+/// What is described by a name or by its digits, as it can be printed.
+fn format_of(alloc: Global, id: ObjectId, row: &Printed) -> Result<Format<'static>, AllocError> {
+    let Printed(name, depth, long, hex_len, suffix, _) = *row;
+    let outcome = Outcome {
+        name: name.map(|name| CowSlice::Borrowed(name)),
+        id,
+        depth,
+        name_by_oid: HashMap::new(alloc),
+        commits_seen: 3,
     };
-    let [first, second, third] = answers.as_slice() else {
-        return Err(Fail::from("not three answers"));
+    let mut format = outcome.into_format(hex_len);
+    format.long(long);
+    if let Some(suffix) = suffix {
+        format.dirty_suffix = Some(format!(in alloc; "{suffix}")?);
+    }
+    Ok(format)
+}
+
+/// Whether a row is printed as it should be, and its copy is equal.
+fn is_printed(alloc: Global, row: &Printed) -> Result<bool, AllocError> {
+    let Ok(id) = ObjectId::from_hex(DIGITS.as_bytes()) else {
+        return Ok(false);
     };
-    assert!(rt; lacks_parents(first) && is_two_back(second) && is_two_back(third));
-    assert_eq!(rt; graph.source().faults(), 1);
+    let format = format_of(alloc, id, row)?;
+    let text = format!(in alloc; "{format}")?;
+    Ok(text.as_str() == row.5 && format.clone()? == format)
+}
+
+/// Whether the copies of options and of an outcome have all of their fields.
+fn are_copied(alloc: Global) -> Result<bool, AllocError> {
+    let options = options_of(alloc, &[(1, "v1")], FIRST_PARENT)?;
+    let copy = options.clone()?;
+    let outcome = Outcome {
+        name: Some(CowSlice::Borrowed(b"v1")),
+        id: id(3),
+        depth: 2,
+        name_by_oid: names_of(alloc, &[(1, "v1")])?,
+        commits_seen: 3,
+    };
+    let other = outcome.clone()?;
+    let same_options = copy.max_candidates == options.max_candidates
+        && copy.fallback_to_oid == options.fallback_to_oid
+        && copy.first_parent == options.first_parent
+        && copy.name_by_oid == options.name_by_oid;
+    Ok(
+        same_options
+            && says(&other, 3, Want::Named("v1", 2, 3, 3, &[]))
+            && other.name_by_oid == outcome.name_by_oid,
+    )
+}
+
+#[test]
+fn descriptions_are_printed_and_copied(rt: HostRuntime) -> Result<(), Fail> {
+    for row in PRINTED {
+        assert!(rt; is_printed(rt.alloc(), row)?, "{}", row.5);
+    }
+    assert!(rt; are_copied(rt.alloc())?);
     Ok(())
 }
 
-/// Whether [3] of the line is described after [1], or why it is not.
-fn line_is_described<A: Allocator + Copy>(
-    alloc: A,
-    graph: &mut Graph<MemorySource, Flags, A>,
-) -> Result<bool, Error> {
-    let Ok(options) = options_of(alloc, &[(1, "v1")]) else {
-        return Err(Message::OutOfMemory);
-    };
-    let want = Want::Named {
-        name: "v1",
-        depth: (2, 2),
-        seen: (3, 3),
-    };
-    let found = describe(alloc, &id(3), graph, options)?;
-    Ok(is_wanted(&Ok(found), 3, &want))
+/// The queries of a list: commits of the line, each after [1].
+const LISTED: [(u8, Want); 3] = [
+    (3, Want::Named("v1", 2, 3, 3, &[1, 2, 3])),
+    (1, Want::Named("v1", 0, 0, 0, &[])),
+    (2, Want::Named("v1", 1, 2, 2, &[1, 2])),
+];
+
+fn queries_of<A: Allocator + Copy>(alloc: A) -> Result<Vec<Query<'static, A>, A>, AllocError> {
+    let mut queries = Vec::new(alloc);
+    for (digit, _) in &LISTED {
+        let query = Query {
+            commit: id(*digit),
+            options: options_of(alloc, &[(1, "v1")], PLAIN)?,
+        };
+        queries.push(query)?;
+    }
+    Ok(queries)
 }
 
-/// Two calls with one request for memory refused, and whether that was in the first call.
-fn with_one_refused(
+/// How many answers of a list were refused for the source, how many for want of memory, and how many
+/// are wrong.
+#[derive(Clone, Copy, Debug, PartialEq, Eq)]
+struct Tally(u8, u8, u8);
+
+const ALL_RIGHT: Tally = Tally(0, 0, 0);
+
+const ONE_FOR_THE_SOURCE: Tally = Tally(1, 0, 0);
+
+const ONE_FOR_MEMORY: Tally = Tally(0, 1, 0);
+
+/// Makes the calls. A list that is refused as a whole counts as one answer.
+fn tally_of<S: Find, A: Allocator + Copy>(
+    alloc: A,
+    graph: &mut Graph<S, u32, A>,
+    queries: &[Query<'static, A>],
+) -> Tally {
+    let Ok(answers) = run(alloc, graph, queries) else {
+        return ONE_FOR_MEMORY;
+    };
+    let mut tally = ALL_RIGHT;
+    for (answer, (digit, want)) in answers.iter().zip(&LISTED) {
+        match answer {
+            Answer::Described(Some(outcome)) if says(outcome, *digit, *want) => {}
+            Answer::Refused(Message::ParentsOf(_)) => tally.0 = tally.0.saturating_add(1),
+            Answer::Refused(Message::OutOfMemory) => tally.1 = tally.1.saturating_add(1),
+            _ => tally.2 = tally.2.saturating_add(1),
+        }
+    }
+    tally
+}
+
+/// Two lists of calls, where one look-up of the first fails, and the count of faults.
+fn list_with_one_failed(alloc: Global, before: u64) -> Result<(Tally, Tally, u64), AllocError> {
+    let line = source_of(alloc, LINE)?;
+    let source = Failing::new(line, Turn::After(before), FindFault::Failed, 0);
+    let mut graph = Graph::new(alloc, source);
+    let queries = queries_of(alloc)?;
+    let first = tally_of(alloc, &mut graph, &queries);
+    let again = tally_of(alloc, &mut graph, &queries);
+    Ok((first, again, graph.source().faults()))
+}
+
+/// Whether one query of a list is refused where each look-up fails in turn, and the others are answered.
+fn is_list_answered_after_each_fault(alloc: Global) -> Result<bool, AllocError> {
+    for before in 0..50u64 {
+        let (first, again, faults) = list_with_one_failed(alloc, before)?;
+        if first == ALL_RIGHT {
+            return Ok(before > 3);
+        }
+        if first != ONE_FOR_THE_SOURCE || again != ALL_RIGHT || faults != 1 {
+            return Ok(false);
+        }
+    }
+    Ok(false)
+}
+
+/// Two calls of a case, where one look-up of the first fails, and the count of faults.
+fn with_one_failed(alloc: Global, case: &Case, before: u64) -> Result<(Met, Met, u64), AllocError> {
+    let history = source_of(alloc, case.0)?;
+    let source = Failing::new(history, Turn::After(before), FindFault::Failed, 0);
+    let mut graph = Graph::new(alloc, source);
+    let first = answered(alloc, &mut graph, case)?;
+    let again = answered(alloc, &mut graph, case)?;
+    Ok((first, again, graph.source().faults()))
+}
+
+/// Whether a case is refused where each of its look-ups fails in turn, and answered by the next call.
+fn is_answered_after_each_fault(alloc: Global, case: &Case) -> Result<bool, AllocError> {
+    for before in 0..50u64 {
+        match with_one_failed(alloc, case, before)? {
+            (Met::Right, _, _) => return Ok(true),
+            (Met::RefusedForTheSource, Met::Right, 1) => {}
+            _ => return Ok(false),
+        }
+    }
+    Ok(false)
+}
+
+#[test]
+fn each_look_up_of_a_description_fails(rt: HostRuntime) -> Result<(), Fail> {
+    assert!(rt; is_list_answered_after_each_fault(rt.alloc())?);
+    for (i, case) in CASES.iter().enumerate() {
+        if case.3.fails_for == 0 {
+            assert!(rt; is_answered_after_each_fault(rt.alloc(), case)?, "case {i}");
+        }
+    }
+    Ok(())
+}
+
+/// Two lists of calls, where one request for memory of the first is refused, and whether it was; `None`
+/// where that came before the calls.
+fn list_with_one_refused(
     alloc: Global,
     before: u64,
-) -> Result<(Result<bool, Error>, Result<bool, Error>, bool), AllocError> {
+) -> Result<Option<(Tally, Tally, bool)>, AllocError> {
     let refusing = Refusing::new(alloc, before);
     let mut graph = Graph::new(&refusing, source_of(alloc, LINE)?);
-    let first = line_is_described(&refusing, &mut graph);
+    let Ok(queries) = queries_of(&refusing) else {
+        return Ok(None);
+    };
+    let first = tally_of(&refusing, &mut graph, &queries);
     let has_refused = refusing.has_refused();
-    let again = line_is_described(&refusing, &mut graph);
-    Ok((first, again, has_refused))
+    let again = tally_of(&refusing, &mut graph, &queries);
+    Ok(Some((first, again, has_refused)))
+}
+
+/// Whether one query of a list is refused where each request for memory is refused in turn, and the
+/// others are answered.
+fn is_list_answered_after_each_refusal(alloc: Global) -> Result<bool, AllocError> {
+    for before in 0..500u64 {
+        if let Some((first, again, has_refused)) = list_with_one_refused(alloc, before)? {
+            if !has_refused {
+                return Ok(before > 20 && first == ALL_RIGHT);
+            }
+            if first != ONE_FOR_MEMORY || again != ALL_RIGHT {
+                return Ok(false);
+            }
+        }
+    }
+    Ok(false)
+}
+
+/// A call of a case where one request for memory is refused, and the next one; `None` where the refused
+/// one came before the call.
+fn with_one_refused(
+    alloc: Global,
+    case: &Case,
+    before: u64,
+) -> Result<Option<(Met, Met)>, AllocError> {
+    let refusing = Refusing::new(alloc, before);
+    let mut graph = Graph::new(&refusing, source_of(alloc, case.0)?);
+    let Ok(first) = answered(&refusing, &mut graph, case) else {
+        return Ok(None);
+    };
+    let again = if refusing.has_refused() {
+        answered(&refusing, &mut graph, case)?
+    } else {
+        first
+    };
+    Ok(Some((first, again)))
+}
+
+/// Whether a case is refused where each of its requests for memory is refused in turn, and answered by
+/// the next call.
+fn is_answered_after_each_refusal(alloc: Global, case: &Case) -> Result<bool, AllocError> {
+    for before in 0..500u64 {
+        match with_one_refused(alloc, case, before)? {
+            None => {}
+            Some((Met::Right, Met::Right)) => return Ok(true),
+            Some((Met::RefusedForMemory, Met::Right)) => {}
+            _ => return Ok(false),
+        }
+    }
+    Ok(false)
 }
 
 #[test]
-fn each_request_for_memory_is_refused(rt: HostRuntime) -> Result<(), Fail> {
-    for before in 0..200u64 {
-        let (first, again, has_refused) = with_one_refused(rt.alloc(), before)?;
-        if !has_refused {
-            assert!(rt; before > 5, "too few requests");
-            assert!(rt; first == Ok(true));
-            return Ok(());
+fn each_request_of_a_description_is_refused(rt: HostRuntime) -> Result<(), Fail> {
+    assert!(rt; is_list_answered_after_each_refusal(rt.alloc())?);
+    for (i, case) in CASES.iter().enumerate() {
+        if case.3.fails_for == 0 {
+            assert!(rt;
+                is_answered_after_each_refusal(rt.alloc(), case)?,
+                "case {i}"
+            );
         }
-        assert!(rt; first == Err(Message::OutOfMemory), "request {before}");
-        assert!(rt; again == Ok(true), "after request {before}");
     }
-    assert!(rt; false, "never enough");
     Ok(())
 }

@@ -1,121 +1,217 @@
 //! Sources and graphs at work: each call once, failing look-ups, and memory refused at each request.
 
-use crate::histories::{Row, id, ids, source_of};
+use crate::histories::{Row, agrees, are, commit_of, id, source_of};
+use crate::printed::prints;
 use crate::sources::{Counting, Failing, Turn};
-use gix_revision::graph::memory::InsertError;
-use gix_revision::graph::{Commit, Error, Find, FindFault, Graph, MemorySource, SourceCommit};
+use gix_revision::graph::{
+    Commit, Error, Find, FindFault, Graph, InsertError, MemorySource, SourceCommit,
+};
 use refusing::Refusing;
 use std::alloc::{AllocError, Allocator, Global};
 use std::test::Fail;
 
-/// A commit without a generation.
-fn commit(alloc: Global, time: i64, parents: &[u8]) -> Result<SourceCommit, Fail> {
-    Ok(SourceCommit {
-        parents: ids(alloc, parents)?,
-        time,
-        generation: None,
+/// [3] of [2], [2] of [1], [1] of a commit that the source lacks.
+const LINE: [Row<'static>; 3] = [
+    Row(1, -10, None, &[9]),
+    Row(2, 20, Some(7), &[1]),
+    Row(3, 30, None, &[2, 9]),
+];
+
+/// Another commit under the id of the first of the line.
+const OTHER: Row<'static> = Row(1, 8, Some(1), &[]);
+
+/// Whether the commit is that of the row.
+fn is_row<A: Allocator>(commit: &SourceCommit<A>, row: Row<'_>) -> bool {
+    are(&commit.parents, row.3) && commit.time == row.1 && commit.generation == row.2
+}
+
+/// What became of a commit that was put into a source.
+#[derive(Clone, Copy, Debug, PartialEq)]
+enum Put {
+    In,
+    /// It came back: its id is there already.
+    Back,
+    /// It came back: there was no memory.
+    BackForMemory,
+    /// Another commit came back.
+    Changed,
+}
+
+/// Why the commit of the row came back.
+fn why_back<A: Allocator>(refused: &InsertError<A>, row: Row<'_>) -> Put {
+    match refused {
+        InsertError::AlreadyThere(commit) if is_row(commit, row) => Put::Back,
+        InsertError::OutOfMemory(commit) if is_row(commit, row) => Put::BackForMemory,
+        _ => Put::Changed,
+    }
+}
+
+/// Puts the commit of a row in.
+fn put_in<A: Allocator + Copy>(
+    source: &mut MemorySource<A>,
+    alloc: A,
+    row: Row<'_>,
+) -> Result<Put, AllocError> {
+    let commit = commit_of(alloc, row)?;
+    Ok(match source.insert(id(row.0), commit) {
+        Ok(()) => Put::In,
+        Err(refused) => why_back(&refused, row),
     })
 }
 
-/// [3] of [2], [2] of [1], [1] of a commit that the source lacks.
-fn line(alloc: Global) -> Result<MemorySource, AllocError> {
-    source_of(
-        alloc,
-        &[
-            Row(1, 10, None, &[9]),
-            Row(2, 20, None, &[1]),
-            Row(3, 30, None, &[2]),
-        ],
-    )
+/// Whether the source finds the commit of the row, by both calls.
+fn finds(source: &mut MemorySource, alloc: Global, row: Row<'_>) -> Result<bool, FindFault> {
+    let Some(got) = source.get(alloc, id(row.0))? else {
+        return Ok(false);
+    };
+    Ok(is_row(&got, row) && source.find(alloc, id(row.0))? == Some(got))
+}
+
+/// Whether a source keeps the first commit of an id, and lacks what was not put in.
+fn keeps_the_first(alloc: Global) -> Result<bool, Fail> {
+    let mut source = source_of(alloc, &LINE)?;
+    let comes_back = put_in(&mut source, alloc, OTHER)? == Put::Back;
+    let mut stays = true;
+    for row in LINE {
+        stays = stays && finds(&mut source, alloc, row)?;
+    }
+    Ok(comes_back && stays && source.find(alloc, id(9))?.is_none() && source.faults() == 0)
+}
+
+/// Puts two commits of one id in.
+fn put_both<A: Allocator + Copy>(
+    source: &mut MemorySource<A>,
+    alloc: A,
+) -> Result<(Put, Put), AllocError> {
+    let first = put_in(source, alloc, LINE[0])?;
+    Ok((first, put_in(source, alloc, OTHER)?))
+}
+
+/// The same, where the second request for memory is refused.
+fn put_without_memory(alloc: Global) -> Result<(Put, Put), AllocError> {
+    let refusing = Refusing::new(alloc, 1);
+    let mut source = MemorySource::new(&refusing);
+    put_both(&mut source, &refusing)
 }
 
 #[test]
 fn a_source_keeps_the_first_commit_of_an_id(rt: HostRuntime) -> Result<(), Fail> {
-    let alloc = rt.alloc();
-    let mut source = MemorySource::new(alloc);
-    source.insert(id(1), commit(alloc, -7, &[2, 3])?)?;
-    let twice = source.insert(id(1), commit(alloc, 8, &[])?);
-    assert!(rt; twice == Err(InsertError::AlreadyThere(commit(alloc, 8, &[])?)));
-    assert!(rt; source.find(alloc, id(1))? == Some(commit(alloc, -7, &[2, 3])?));
-    assert!(rt; source.find(alloc, id(2))? == None);
-    assert_eq!(rt; source.faults(), 0);
+    assert!(rt; keeps_the_first(rt.alloc())?);
+    assert!(rt; put_without_memory(rt.alloc())? == (Put::BackForMemory, Put::In));
+    assert!(rt; prints(rt.alloc(), &Error::Source, "the source failed")?);
+    assert!(rt; prints(rt.alloc(), &Error::OutOfMemory, "out of memory")?);
     Ok(())
 }
 
-#[test]
-fn commits_are_taken_once_and_keep_their_data(rt: HostRuntime) -> Result<(), Fail> {
-    let alloc = rt.alloc();
-    let mut graph: Graph<Counting<MemorySource>, Commit<u8>> = Graph::new(
-        alloc,
-        Counting::new(line(alloc)?),
-    );
-    assert_eq!(rt; graph.len(), 0);
-    let place = graph.get_or_insert_full_commit(alloc, id(2), 5)?;
-    match place.data() {
-        Some(data) => {
-            assert_eq!(rt; *data, 5);
-            *data = 6;
+/// A call on a graph of commits with numbers as data.
+#[derive(Clone, Copy)]
+enum Step {
+    /// Takes in a commit with this data, and reads what it has then.
+    Take(u8, u8),
+    /// Writes this data to a held commit, and reads it.
+    Write(u8, u8),
+    /// Reads the data of a held commit.
+    Read(u8),
+    /// Gives this data to all.
+    Fill(u8),
+    Clear,
+}
+
+type CountedCommits = Graph<Counting<MemorySource>, Commit<u8>>;
+
+/// What is read by a step.
+fn read_by(alloc: Global, graph: &mut CountedCommits, step: Step) -> Result<Option<u8>, Error> {
+    match step {
+        Step::Take(digit, data) => {
+            let place = graph.get_or_insert_full_commit(alloc, id(digit), data)?;
+            Ok(place.data().map(|data| *data))
         }
-        None => assert!(rt; false, "not found"),
+        Step::Write(digit, data) => Ok(
+            graph.data_mut(&id(digit)).map(|old| {
+                *old = data;
+                data
+            }),
+        ),
+        Step::Read(digit) => Ok(graph.get(&id(digit)).map(|commit| *commit.data())),
+        Step::Fill(data) => {
+            graph.clear_commit_data(data);
+            Ok(None)
+        }
+        Step::Clear => {
+            graph.clear();
+            Ok(None)
+        }
     }
-    match graph.get_or_insert_full_commit(alloc, id(2), 7)?.data() {
-        Some(data) => assert_eq!(rt; *data, 6, "the data of a held commit stays"),
-        None => assert!(rt; false, "not held"),
+}
+
+/// A step, what it reads, and how many are held and were looked up then.
+const STEPS: [(Step, Option<u8>, usize, u64); 14] = [
+    (Step::Read(2), None, 0, 0),
+    (Step::Take(2, 5), Some(5), 1, 1),
+    (Step::Write(2, 6), Some(6), 1, 1),
+    // The data of a held commit stays.
+    (Step::Take(2, 7), Some(6), 1, 1),
+    (Step::Take(9, 5), None, 1, 2),
+    (Step::Read(9), None, 1, 2),
+    (Step::Write(3, 4), None, 1, 2),
+    (Step::Take(3, 4), Some(4), 2, 3),
+    (Step::Read(2), Some(6), 2, 3),
+    (Step::Fill(1), None, 2, 3),
+    (Step::Read(2), Some(1), 2, 3),
+    (Step::Read(3), Some(1), 2, 3),
+    (Step::Clear, None, 0, 3),
+    (Step::Take(2, 8), Some(8), 1, 4),
+];
+
+/// Whether the steps do what they say, and what is held agrees with the source all along.
+fn do_as_said(alloc: Global, graph: &mut CountedCommits) -> Result<bool, Error> {
+    for (call, read, held, look_ups) in STEPS {
+        let is_read = read_by(alloc, graph, call)? == read;
+        if !is_read || graph.len() != held || graph.source().questions() != look_ups {
+            return Ok(false);
+        }
+        if !agrees(graph, &LINE) || graph.contains(&id(1)) {
+            return Ok(false);
+        }
     }
-    assert_eq!(rt; graph.source().questions(), 1);
-    assert!(rt;
-        graph
-            .get_or_insert_full_commit(alloc, id(9), 5)?
-            .data()
-            .is_none()
-    );
-    assert_eq!(rt; graph.len(), 1);
-    assert!(rt; graph.contains(&id(2)) && !graph.contains(&id(9)));
-    let held = graph.get(&id(2)).ok_or("not held")?;
-    assert_eq!(rt; held.parents(), [id(1)].as_slice());
-    assert_eq!(rt; held.commit_time(), 20);
-    assert_eq!(rt; held.generation(), None);
-    assert_eq!(rt; *held.data(), 6);
-    match graph.data_mut(&id(2)) {
-        Some(data) => *data = 8,
-        None => assert!(rt; false, "not held"),
-    }
-    assert!(rt; graph.data_mut(&id(3)).is_none());
-    graph.clear_commit_data(1);
-    assert_eq!(rt; *graph.get(&id(2)).ok_or("not held")?.data(), 1);
-    graph.clear();
-    assert_eq!(rt; graph.len(), 0);
-    assert_eq!(rt; graph.into_source().questions(), 2);
-    Ok(())
+    Ok(graph.contains(&id(2)))
+}
+
+/// The same, on a new graph, whose source comes back.
+fn steps_are_done(alloc: Global) -> Result<bool, AllocError> {
+    let mut graph = Graph::new(alloc, Counting::new(source_of(alloc, &LINE)?));
+    let done = do_as_said(alloc, &mut graph) == Ok(true);
+    Ok(graph.into_source().questions() == 4 && done)
+}
+
+/// Whether numbers are held whatever the source has.
+fn hold_numbers(graph: &mut Graph<MemorySource, u32>) -> Result<bool, Error> {
+    let first = graph.insert(id(9), 1)?;
+    let second = graph.insert(id(9), 2)?;
+    let written = graph.get_mut(&id(9)).map(|value| {
+        let old = *value;
+        *value = 4;
+        old
+    });
+    Ok(
+        first == None
+            && second == Some(1)
+            && written == Some(2)
+            && graph.get(&id(9)).copied() == Some(4)
+            && graph.get_mut(&id(1)).is_none()
+            && graph.len() == 1,
+    )
+}
+
+fn numbers_are_held(alloc: Global) -> Result<bool, AllocError> {
+    let mut graph = Graph::new(alloc, source_of(alloc, &LINE)?);
+    Ok(hold_numbers(&mut graph) == Ok(true))
 }
 
 #[test]
-fn numbers_are_held_whatever_the_source_has(rt: HostRuntime) -> Result<(), Fail> {
-    let alloc = rt.alloc();
-    let mut graph: Graph<MemorySource, u32> = Graph::new(alloc, line(alloc)?);
-    assert_eq!(rt; graph.insert(id(9), 1)?, None);
-    assert_eq!(rt; graph.insert(id(9), 2)?, Some(1));
-    match graph.get_mut(&id(9)) {
-        Some(value) => *value = 4,
-        None => assert!(rt; false, "not held"),
-    }
-    assert_eq!(rt; graph.get(&id(9)).copied(), Some(4));
-    assert!(rt; graph.get_mut(&id(1)).is_none());
-    assert_eq!(rt; graph.len(), 1);
-    Ok(())
-}
-
-#[test]
-fn refusals_print_their_texts(rt: HostRuntime) -> Result<(), Fail> {
-    let alloc = rt.alloc();
-    assert_eq!(rt;
-        format!(in alloc; "{}", Error::Source)?.as_str(),
-        "the source failed"
-    );
-    assert_eq!(rt;
-        format!(in alloc; "{}", Error::OutOfMemory)?.as_str(),
-        "out of memory"
-    );
+fn commits_and_numbers_are_held(rt: HostRuntime) -> Result<(), Fail> {
+    assert!(rt; steps_are_done(rt.alloc())?);
+    assert!(rt; numbers_are_held(rt.alloc())?);
     Ok(())
 }
 
@@ -124,99 +220,126 @@ fn take_all<S: Find, A: Allocator + Copy>(
     alloc: A,
     graph: &mut Graph<S, Commit<u8, A>, A>,
 ) -> Result<(), Error> {
-    for n in [3, 2, 1] {
-        graph.get_or_insert_full_commit(alloc, id(n), 1)?;
+    for digit in [3, 2, 1] {
+        graph.get_or_insert_full_commit(alloc, id(digit), 1)?;
     }
     Ok(())
 }
 
-/// What came of two rounds of taking all in, with what was held and the faults counted after the first.
+/// What came of taking all in, with what is held and the faults counted then.
 #[derive(Clone, Copy, Debug, PartialEq)]
-struct Rounds {
-    first: Result<(), Error>,
+struct Round {
+    came: Result<(), Error>,
     held: usize,
     faults: u64,
-    again: Result<(), Error>,
-    all: usize,
+    agrees: bool,
 }
 
-fn two_rounds<S: Find, A: Allocator + Copy>(
+fn take_round<S: Find, A: Allocator + Copy>(
     alloc: A,
     graph: &mut Graph<S, Commit<u8, A>, A>,
-) -> Rounds {
-    let first = take_all(alloc, graph);
-    let held = graph.len();
-    let faults = graph.source().faults();
-    let again = take_all(alloc, graph);
-    Rounds {
-        first,
+) -> Round {
+    let came = take_all(alloc, graph);
+    Round {
+        came,
+        held: graph.len(),
+        faults: graph.source().faults(),
+        agrees: agrees(graph, &LINE),
+    }
+}
+
+/// Two rounds over a source that fails so.
+fn with_failure(
+    alloc: Global,
+    turn: Turn,
+    fault: FindFault,
+    faults: u64,
+) -> Result<(Round, Round), AllocError> {
+    let source = Failing::new(source_of(alloc, &LINE)?, turn, fault, faults);
+    let mut graph = Graph::new(alloc, source);
+    let first = take_round(alloc, &mut graph);
+    Ok((first, take_round(alloc, &mut graph)))
+}
+
+/// The fault, its answer, and the faults counted before and after it.
+const FAULTS: [(FindFault, Error, u64, u64); 3] = [
+    (FindFault::Failed, Error::Source, 0, 1),
+    (FindFault::Failed, Error::Source, u64::MAX, u64::MAX),
+    (FindFault::OutOfMemory, Error::OutOfMemory, 5, 5),
+];
+
+/// All went well, with so many faults counted.
+fn well(faults: u64) -> Round {
+    Round {
+        came: Ok(()),
+        held: 3,
+        faults,
+        agrees: true,
+    }
+}
+
+/// It was refused, with so many held.
+fn refused(error: Error, held: usize, faults: u64) -> Round {
+    Round {
+        came: Err(error),
         held,
         faults,
-        again,
-        all: graph.len(),
+        agrees: true,
     }
+}
+
+/// Whether each of the three look-ups that is refused by a fault is counted and leaves the graph.
+fn survives(
+    alloc: Global,
+    (fault, error, before, after): (FindFault, Error, u64, u64),
+) -> Result<bool, AllocError> {
+    for held in 0..3usize {
+        let both = with_failure(alloc, Turn::After(held as u64), fault, before)?;
+        if both != (refused(error, held, after), well(after)) {
+            return Ok(false);
+        }
+    }
+    Ok(true)
+}
+
+/// Whether a commit that fails each time is counted each time.
+fn counts_again(alloc: Global) -> Result<bool, AllocError> {
+    let both = with_failure(alloc, Turn::For(id(1)), FindFault::Failed, 0)?;
+    Ok(both == (refused(Error::Source, 2, 1), refused(Error::Source, 2, 2)))
 }
 
 #[test]
 fn a_failing_look_up_is_counted_and_leaves_the_graph(rt: HostRuntime) -> Result<(), Fail> {
-    let alloc = rt.alloc();
-    for (fault, error, before, after) in [
-        (FindFault::Failed, Error::Source, 0, 1),
-        (FindFault::Failed, Error::Source, u64::MAX, u64::MAX),
-        (FindFault::OutOfMemory, Error::OutOfMemory, 5, 5),
-    ] {
-        for turn in 0..3u8 {
-            let source = Failing::new(line(alloc)?, Turn::After(turn as u64), fault, before);
-            let want = Rounds {
-                first: Err(error),
-                held: turn as usize,
-                faults: after,
-                again: Ok(()),
-                all: 3,
-            };
-            assert_eq!(rt;
-                two_rounds(alloc, &mut Graph::new(alloc, source)),
-                want,
-                "turn {turn}"
-            );
-        }
+    for fault in FAULTS {
+        assert!(rt; survives(rt.alloc(), fault)?, "{fault:?}");
     }
+    assert!(rt; counts_again(rt.alloc())?);
     Ok(())
 }
 
-#[test]
-fn a_commit_that_fails_each_time_is_counted_each_time(rt: HostRuntime) -> Result<(), Fail> {
-    let alloc = rt.alloc();
-    let bad = Failing::new(line(alloc)?, Turn::For(id(1)), FindFault::Failed, 0);
-    let mut graph = Graph::new(alloc, bad);
-    let rounds = two_rounds(alloc, &mut graph);
-    assert!(rt; rounds.first == Err(Error::Source) && rounds.again == Err(Error::Source));
-    assert_eq!(rt; graph.into_source().faults(), 2);
-    Ok(())
-}
-
-/// Two rounds with one request for memory refused, and whether there was such a request.
-fn with_one_refused(alloc: Global, before: u64) -> Result<(Rounds, bool), AllocError> {
+/// Two rounds with one request for memory refused, and whether that was in the first round.
+fn with_refusal(alloc: Global, before: u64) -> Result<(Round, Round, bool), AllocError> {
     let refusing = Refusing::new(alloc, before);
-    let mut graph = Graph::new(&refusing, line(alloc)?);
-    let rounds = two_rounds(&refusing, &mut graph);
-    Ok((rounds, refusing.has_refused()))
+    let mut graph = Graph::new(&refusing, source_of(alloc, &LINE)?);
+    let first = take_round(&refusing, &mut graph);
+    let has_refused = refusing.has_refused();
+    Ok((first, take_round(&refusing, &mut graph), has_refused))
 }
 
 #[test]
 fn each_request_is_refused(rt: HostRuntime) -> Result<(), Fail> {
     for before in 0..50u64 {
-        let (rounds, has_refused) = with_one_refused(rt.alloc(), before)?;
-        assert!(rt;
-            rounds.again.is_ok() && rounds.all == 3,
-            "after request {before}"
-        );
+        let (first, again, has_refused) = with_refusal(rt.alloc(), before)?;
         if !has_refused {
-            assert!(rt; before > 3, "too few requests");
-            assert!(rt; rounds.first.is_ok());
+            assert!(rt; before > 3 && first == well(0), "too few requests");
             return Ok(());
         }
-        assert!(rt; rounds.first == Err(Error::OutOfMemory), "request {before}");
+        let held = first.held;
+        assert!(rt;
+            held < 3 && first == refused(Error::OutOfMemory, held, 0),
+            "request {before}"
+        );
+        assert!(rt; again == well(0), "after request {before}");
     }
     assert!(rt; false, "never enough");
     Ok(())

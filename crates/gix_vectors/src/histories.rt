@@ -1,8 +1,7 @@
 //! Small histories with short names for ids.
 
-use gix_base::hash::ObjectId;
-use gix_revision::graph::memory::InsertError;
-use gix_revision::graph::{MemorySource, SourceCommit};
+use gix_revision::graph::{Commit, Find, Graph, MemorySource, SourceCommit};
+use gix_revision::hash::ObjectId;
 use std::alloc::{AllocError, Allocator};
 
 /// A commit of a table: its digit, its time, its generation and the digits of its parents.
@@ -59,26 +58,58 @@ pub fn ids<A: Allocator>(alloc: A, digits: &[u8]) -> Result<Vec<ObjectId, A>, Al
     Ok(all)
 }
 
-/// A source with these commits. Of two with one id it has the first.
+/// Whether the ids are those of these digits, in this order.
+pub fn are(ids: &[ObjectId], digits: &[u8]) -> bool {
+    ids.len() == digits.len()
+        && ids
+            .iter()
+            .zip(digits)
+            .all(|(one, digit)| *one == id(*digit))
+}
+
+/// The commit of a row.
+pub fn commit_of<A: Allocator>(alloc: A, row: Row<'_>) -> Result<SourceCommit<A>, AllocError> {
+    Ok(SourceCommit {
+        parents: ids(alloc, row.3)?,
+        time: row.1,
+        generation: row.2,
+    })
+}
+
+/// A source with these commits, no two of which have one digit.
 pub fn source_of<A: Allocator + Copy>(
     alloc: A,
     rows: &[Row<'_>],
 ) -> Result<MemorySource<A>, AllocError> {
     let mut source = MemorySource::new(alloc);
-    for Row(digit, time, generation, parents) in rows {
-        let commit = SourceCommit {
-            parents: ids(alloc, parents)?,
-            time: *time,
-            generation: *generation,
-        };
-        if let Err(InsertError::OutOfMemory(_)) = source.insert(id(*digit), commit) {
+    for row in rows {
+        if source.insert(id(row.0), commit_of(alloc, *row)?).is_err() {
             return Err(AllocError);
         }
     }
     Ok(source)
 }
 
-/// The text with each `[x]` written out as an id of forty digits x, and each bar as a line feed.
+/// Whether each held commit is the one that the rows have under its id.
+pub fn agrees<S: Find, D: Drop, A: Allocator + Copy>(
+    graph: &Graph<S, Commit<D, A>, A>,
+    rows: &[Row<'_>],
+) -> bool {
+    let mut held: usize = 0;
+    for row in rows {
+        if let Some(commit) = graph.get(&id(row.0)) {
+            let same = commit.commit_time() == row.1 && commit.generation() == row.2;
+            if !same || !are(commit.parents(), row.3) {
+                return false;
+            }
+            held = held.saturating_add(1);
+        }
+    }
+    held == graph.len()
+}
+
+/// The text with each `[x]` written out as an id of forty digits x, each bar as a line feed, and each
+/// number sign as the byte 255.
 pub fn written_out<A: Allocator>(alloc: A, text: &str) -> Result<Vec<u8, A>, AllocError> {
     let mut long = Vec::new(alloc);
     let mut last = b' ';
@@ -87,6 +118,7 @@ pub fn written_out<A: Allocator>(alloc: A, text: &str) -> Result<Vec<u8, A>, All
             b'[' => {}
             b']' => long.extend_from_slice(&[last; 39])?,
             b'|' => long.push(b'\n')?,
+            b'#' => long.push(255)?,
             _ => {
                 long.push(byte)?;
                 last = byte;

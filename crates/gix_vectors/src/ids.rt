@@ -1,6 +1,8 @@
 //! Ids and prefixes that are read, printed and compared.
 
-use gix_base::hash::{HexError, ObjectId, Prefix};
+use crate::printed::prints;
+use gix_revision::hash::{HexError, ObjectId, Prefix};
+use std::alloc::{AllocError, Global};
 use std::cmp::Ordering;
 use std::test::Fail;
 
@@ -11,157 +13,189 @@ const UPPER: &str = "DAE86E1950B1277E545CEE180551750029CFE735";
 
 const FOURS: &str = "4444444444444444444444444444444444444444";
 
-#[test]
-fn ids_read_and_print(rt: HostRuntime) -> Result<(), Fail> {
-    let alloc = rt.alloc();
-    let id = ObjectId::from_hex(FOURS.as_bytes())?;
-    assert_eq!(rt; id.as_bytes(), [0x44u8; 20].as_slice());
-    for (text, printed) in [(FOURS, FOURS), (NAME, NAME), (UPPER, NAME)] {
-        let id = ObjectId::from_hex(text.as_bytes())?;
-        let again = format!(in alloc; "{id}")?;
-        assert_eq!(rt; again.as_str(), printed);
+/// A text of digits, and the id that it names as it is printed, or why it names none.
+static IDS: [(&str, Result<&str, HexError>); 10] = [
+    (FOURS, Ok(FOURS)),
+    (NAME, Ok(NAME)),
+    (UPPER, Ok(NAME)),
+    ("", Err(HexError::WrongLength)),
+    (
+        "444444444444444444444444444444444444444",
+        Err(HexError::WrongLength),
+    ),
+    (
+        "44444444444444444444444444444444444444444",
+        Err(HexError::WrongLength),
+    ),
+    (
+        "g4444444444444444444444444444444444444444",
+        Err(HexError::WrongLength),
+    ),
+    (
+        "444444444444444444444444444444444444444g",
+        Err(HexError::NotHex),
+    ),
+    (
+        "444444444444444444444444444444444444444G",
+        Err(HexError::NotHex),
+    ),
+    (
+        "444444444444444444444444444444444444444 ",
+        Err(HexError::NotHex),
+    ),
+];
+
+/// Whether a text is read as an id that prints so, or is refused so.
+fn reads_id(alloc: Global, text: &str, want: Result<&str, HexError>) -> Result<bool, AllocError> {
+    match (ObjectId::from_hex(text.as_bytes()), want) {
+        (Ok(id), Ok(printed)) => prints(alloc, &id, printed),
+        (found, want) => Ok(found.err() == want.err()),
     }
-    Ok(())
 }
 
-#[test]
-fn ids_are_refused(rt: HostRuntime) {
-    for (text, refusal) in [
-        ("", HexError::WrongLength),
-        (
-            "444444444444444444444444444444444444444",
-            HexError::WrongLength,
-        ),
-        (
-            "44444444444444444444444444444444444444444",
-            HexError::WrongLength,
-        ),
-        (
-            "g4444444444444444444444444444444444444444",
-            HexError::WrongLength,
-        ),
-        ("444444444444444444444444444444444444444g", HexError::NotHex),
-        ("444444444444444444444444444444444444444G", HexError::NotHex),
-        ("444444444444444444444444444444444444444 ", HexError::NotHex),
-    ] {
-        assert_eq!(rt;
-            ObjectId::from_hex(text.as_bytes()),
-            Err(refusal),
-            "at {text}"
-        );
-    }
-}
-
-#[test]
-fn digits_are_written_to_the_front(rt: HostRuntime) -> Result<(), Fail> {
-    let id = ObjectId::from_hex(UPPER.as_bytes())?;
-    for (len, count, want) in [
-        (0, 0, "----------------------------------------"),
-        (7, 7, "dae86e1---------------------------------"),
-        (40, 40, NAME),
-        (41, 40, NAME),
-        (usize::MAX, 40, NAME),
-    ] {
-        let mut out = [b'-'; 40];
-        assert_eq!(rt; id.write_hex(len, &mut out), count, "at {len}");
-        assert_eq!(rt; out.as_slice(), want.as_bytes(), "at {len}");
-    }
-    Ok(())
-}
-
-#[test]
-fn prefixes_read_and_print(rt: HostRuntime) -> Result<(), Fail> {
-    let alloc = rt.alloc();
-    for (text, len, printed, padded) in [
-        (
-            "dae8",
-            4,
-            "dae8",
-            "dae8000000000000000000000000000000000000",
-        ),
-        (
-            "DAE86",
-            5,
-            "dae86",
-            "dae8600000000000000000000000000000000000",
-        ),
-        (
-            "DAE86E1950B1277E545CEE180551750029CFE73",
+/// A text of digits, and the number of digits of the prefix, the prefix as it is printed, and its id as
+/// it is printed; or why it is none.
+static PREFIXES: [(&str, Result<(usize, &str, &str), HexError>); 10] = [
+    (
+        "dae8",
+        Ok((4, "dae8", "dae8000000000000000000000000000000000000")),
+    ),
+    (
+        "DAE86",
+        Ok((5, "dae86", "dae8600000000000000000000000000000000000")),
+    ),
+    (
+        "DAE86E1950B1277E545CEE180551750029CFE73",
+        Ok((
             39,
             "dae86e1950b1277e545cee180551750029cfe73",
             "dae86e1950b1277e545cee180551750029cfe730",
+        )),
+    ),
+    (NAME, Ok((40, NAME, NAME))),
+    ("", Err(HexError::TooShort)),
+    ("dae", Err(HexError::TooShort)),
+    ("xyz", Err(HexError::TooShort)),
+    ("daeg", Err(HexError::NotHex)),
+    (
+        "dae86e1950b1277e545cee180551750029cfe7350",
+        Err(HexError::TooLong),
+    ),
+    (
+        "xae86e1950b1277e545cee180551750029cfe7350",
+        Err(HexError::TooLong),
+    ),
+];
+
+/// Whether a text is read as a prefix of so many digits that prints so, as its id does, or is refused so.
+fn reads_prefix(
+    alloc: Global,
+    text: &str,
+    want: Result<(usize, &str, &str), HexError>,
+) -> Result<bool, AllocError> {
+    match (Prefix::from_hex(text.as_bytes()), want) {
+        (Ok(prefix), Ok((len, printed, padded))) => Ok(
+            prefix.hex_len() == len
+                && prints(alloc, &prefix, printed)?
+                && prints(alloc, prefix.as_oid(), padded)?,
         ),
-        (NAME, 40, NAME, NAME),
-    ] {
-        let prefix = Prefix::from_hex(text.as_bytes())?;
-        assert_eq!(rt; prefix.hex_len(), len, "at {text}");
-        let shown = format!(in alloc; "{prefix}")?;
-        assert_eq!(rt; shown.as_str(), printed, "at {text}");
-        let whole = format!(in alloc; "{}", prefix.as_oid())?;
-        assert_eq!(rt; whole.as_str(), padded, "at {text}");
+        (found, want) => Ok(found.err() == want.err()),
     }
+}
+
+/// How refusals print.
+static REFUSALS: [(HexError, &str); 4] = [
+    (HexError::WrongLength, "WrongLength"),
+    (HexError::NotHex, "NotHex"),
+    (HexError::TooShort, "TooShort"),
+    (HexError::TooLong, "TooLong"),
+];
+
+/// The first id, prefix or refusal that is not as its table says.
+fn first_misread(alloc: Global) -> Result<Option<&'static str>, AllocError> {
+    for (text, want) in &IDS {
+        if !reads_id(alloc, text, *want)? {
+            return Ok(Some(*text));
+        }
+    }
+    for (text, want) in &PREFIXES {
+        if !reads_prefix(alloc, text, *want)? {
+            return Ok(Some(*text));
+        }
+    }
+    for (refusal, text) in &REFUSALS {
+        if !prints(alloc, refusal, text)? {
+            return Ok(Some(*text));
+        }
+    }
+    Ok(None)
+}
+
+#[test]
+fn digits_are_read_and_printed(rt: HostRuntime) -> Result<(), Fail> {
+    assert_eq!(rt; first_misread(rt.alloc())?, None);
     Ok(())
 }
 
-#[test]
-fn prefixes_are_refused(rt: HostRuntime) {
-    for (text, refusal) in [
-        ("", HexError::TooShort),
-        ("dae", HexError::TooShort),
-        ("xyz", HexError::TooShort),
-        ("daeg", HexError::NotHex),
-        (
-            "dae86e1950b1277e545cee180551750029cfe7350",
-            HexError::TooLong,
-        ),
-        (
-            "xae86e1950b1277e545cee180551750029cfe7350",
-            HexError::TooLong,
-        ),
-    ] {
-        assert_eq!(rt;
-            Prefix::from_hex(text.as_bytes()),
-            Err(refusal),
-            "at {text}"
-        );
+/// How many digits are asked for, how many are written, and what the room for them holds then.
+static WRITTEN: [(usize, usize, &str); 5] = [
+    (0, 0, "----------------------------------------"),
+    (7, 7, "dae86e1---------------------------------"),
+    (40, 40, NAME),
+    (41, 40, NAME),
+    (usize::MAX, 40, NAME),
+];
+
+/// A prefix, and its order against the id of the example.
+static AGAINST_NAME: [(&str, Ordering); 4] = [
+    ("dae86e1", Ordering::Equal),
+    (UPPER, Ordering::Equal),
+    ("dae86e0", Ordering::Less),
+    ("dae9", Ordering::Greater),
+];
+
+/// Two prefixes, and their order.
+static AMONG_PREFIXES: [(&str, &str, Ordering); 3] = [
+    ("4444", "44440", Ordering::Less),
+    ("44441", "4445", Ordering::Less),
+    ("abcd", "ABCD", Ordering::Equal),
+];
+
+/// Whether so many digits of an id are written to the front of the room.
+fn writes(id: &ObjectId, len: usize, count: usize, want: &str) -> bool {
+    let mut out = [b'-'; 40];
+    id.write_hex(len, &mut out) == count && out.as_slice() == want.as_bytes()
+}
+
+/// Whether a prefix has this order against an id.
+fn meets(text: &str, id: &ObjectId, order: Ordering) -> bool {
+    match Prefix::from_hex(text.as_bytes()) {
+        Ok(prefix) => prefix.cmp_oid(id) == order,
+        Err(_) => false,
+    }
+}
+
+/// Whether two prefixes have this order.
+fn compare(text: &str, other: &str, order: Ordering) -> bool {
+    match (
+        Prefix::from_hex(text.as_bytes()),
+        Prefix::from_hex(other.as_bytes()),
+    ) {
+        (Ok(prefix), Ok(other)) => prefix.cmp(&other) == order,
+        _ => false,
     }
 }
 
 #[test]
-fn prefixes_compare(rt: HostRuntime) -> Result<(), Fail> {
-    let id = ObjectId::from_hex(NAME.as_bytes())?;
-    for (text, order) in [
-        ("dae86e1", Ordering::Equal),
-        (UPPER, Ordering::Equal),
-        ("dae86e0", Ordering::Less),
-        ("dae9", Ordering::Greater),
-    ] {
-        let prefix = Prefix::from_hex(text.as_bytes())?;
-        assert_eq!(rt; prefix.cmp_oid(&id), order, "at {text}");
-    }
-    for (text, other, order) in [
-        ("4444", "44440", Ordering::Less),
-        ("44441", "4445", Ordering::Less),
-        ("abcd", "ABCD", Ordering::Equal),
-    ] {
-        let prefix = Prefix::from_hex(text.as_bytes())?;
-        let other = Prefix::from_hex(other.as_bytes())?;
-        assert_eq!(rt; prefix.cmp(&other), order, "at {text}");
-    }
-    Ok(())
-}
-
-#[test]
-fn refusals_print_their_names(rt: HostRuntime) -> Result<(), Fail> {
-    let alloc = rt.alloc();
-    for (refusal, want) in [
-        (HexError::WrongLength, "WrongLength"),
-        (HexError::NotHex, "NotHex"),
-        (HexError::TooShort, "TooShort"),
-        (HexError::TooLong, "TooLong"),
-    ] {
-        let text = format!(in alloc; "{refusal}")?;
-        assert_eq!(rt; text.as_str(), want);
-    }
+fn ids_are_written_and_compared(rt: HostRuntime) -> Result<(), Fail> {
+    let id = ObjectId::from_hex(UPPER.as_bytes())?;
+    assert!(rt; id.as_bytes().first() == Some(&0xda) && id.as_bytes().last() == Some(&0x35));
+    assert!(rt; WRITTEN.iter().all(|row| writes(&id, row.0, row.1, row.2)));
+    assert!(rt; AGAINST_NAME.iter().all(|row| meets(row.0, &id, row.1)));
+    assert!(rt;
+        AMONG_PREFIXES
+            .iter()
+            .all(|row| compare(row.0, row.1, row.2))
+    );
     Ok(())
 }

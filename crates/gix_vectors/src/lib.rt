@@ -2,14 +2,18 @@
 //! delegates, streams and memory. They stand above all crates, so that no other crate is proved twice.
 #![tactic(auto)]
 
-pub mod delegate;
+#[cfg(test)]
+mod dates;
+#[cfg(test)]
+mod delegate;
 #[cfg(test)]
 mod descriptions;
 #[cfg(test)]
 mod errors;
 #[cfg(test)]
 mod graphs;
-pub mod histories;
+#[cfg(test)]
+mod histories;
 #[cfg(test)]
 mod ids;
 #[cfg(test)]
@@ -21,10 +25,20 @@ mod merge_bases;
 #[cfg(test)]
 mod octopus;
 #[cfg(test)]
+mod painting;
+#[cfg(test)]
+mod printed;
+#[cfg(test)]
+mod questions;
+#[cfg(test)]
 mod queue;
 #[cfg(test)]
 mod sets;
-pub mod sources;
-pub mod streams;
+#[cfg(test)]
+mod sources;
+#[cfg(test)]
+mod streams;
 #[cfg(test)]
 mod texts;
+#[cfg(test)]
+mod usage;

@@ -11,46 +11,45 @@ use std::test::Fail;
 const CRISS_CROSS: &str =
     "commit [1] 1 -|commit [2] 2 - [1]|commit [3] 2 - [1]|commit [4] 3 - [2] [3]|commit [5] 3 - [2] [3]|";
 
-// What is read after the criss-cross, and what is answered.
-const ANSWERED: &str = "base [9]| => base [9]|
-|| =>
-base [4] [5] => base [2] [3]|
-base [4] [5]|base [4] [5]| => base [2] [3]|base [2] [3]|
-base [4] [9] [5]|base [9] [4]|base [9]| => base [2] [3]|base none|base [9]|
-|base [b] [a]||commit [b] 0 - [a]|commit [a] 0 -| => base [a]|
-commit [A] 0 -|commit [b] 0 - [a]|base [B] [a]| => base [a]|
-commit [a] -0 0|commit [b] 007 4294967295 [a]|base [a] [b]| => base [a]|
-commit [a] -9223372036854775808 00|commit [b] 9223372036854775807 - [a]|base [b] [a]| => base [a]|
-commit [a] 0 -|commit [b] 0 - [a] [a]|base [b] [a]| => base [a]|";
+/// What is read after the criss-cross, the status, and what is written.
+const AFTER_CRISS_CROSS: &str = "base [9]| => 0 base [9]|
+|| => 0
+base [4] [5] => 0 base [2] [3]|
+base [4] [5]|base [4] [5]| => 0 base [2] [3]|base [2] [3]|
+base [4] [9] [5]|base [9] [4]|base [9]| => 0 base [2] [3]|base none|base [9]|
+octopus [4] [5]|octopus [4] [5] [4]| => 0 octopus [2]|octopus [2]|
+octopus [4] [4] [4]|octopus [9]| => 0 octopus [4]|octopus [9]|
+octopus [4] [9]|octopus [9] [4]| => 0 octopus none|octopus none|
+base [4] [5]|octopus [4] [5]|base [4] [5]| => 0 base [2] [3]|octopus [2]|base [2] [3]|
+name [4] x|describe [4]|describe [4]| => 0 describe x|describe x|
+name [2] v|describe [4]| => 0 describe v-2-g4444444|
+name [1] v 1|name [3] w|describe [5]| => 0 describe w-2-g5555555|
+describe [4]|name [1] v| => 0 describe v-3-g4444444|
+describe [4]| => 0 describe none|
+name [4] x|describe [1]| => 0 describe none|
+name [1] v|describe [9]|describe [1]| => 1 describe refused D2|describe v|
+name [1] v|base [4] [5]|describe [2]|base [4] [5]| => 0 base [2] [3]|describe v-1-g2222222|base [2] [3]|
+parse [1]|parse ^..|parse [2]| => 1 parse prefix([1]); done|parse kind(ExcludeReachable); refused P3|\
+parse prefix([2]); done|
+base [4] [5]|commit [9] x -| => 2 line 7 is unreadable|";
 
-// Octopus lines, and what is answered: after the criss-cross, after two roots, and where times rise.
-const OCTOPUS: &str = "octopus [4] [5]|octopus [4] [5] [4]| => octopus [2]|octopus [2]|
-octopus [4] [4] [4]|octopus [9]| => octopus [4]|octopus [9]|
-octopus [4] [9]|octopus [9] [4]| => octopus none|octopus none|
-base [4] [5]|octopus [4] [5]|base [4] [5]| => base [2] [3]|octopus [2]|base [2] [3]|
-commit [a] 1 -|commit [b] 1 -|commit [c] 2 - [a] [b]|commit [d] 2 - [a] [b]|commit [e] 2 - [b]|\
-octopus [c] [d] [e]|octopus [c] [e] [d]|octopus [d] [c] [e]| => octopus [b]|octopus [b]|octopus [b]|
-commit [a] 1 -|commit [b] 1 -|commit [c] 2 - [a] [b]|commit [d] 2 - [a] [b]|commit [e] 2 - [b]|\
-octopus [d] [e] [c]|octopus [e] [c] [d]|octopus [e] [d] [c]| => octopus [b]|octopus [b]|octopus [b]|
-commit [a] 1 -|commit [b] 2 - [a]|commit [c] 3 - [a]|commit [d] 4 - [b] [c]|commit [e] 4 - [b] [c]|\
-octopus [d] [e]| => octopus [c]|";
+/// The same, with nothing before the lines.
+const ALONE: &str = " => 0
+commit [1] x -| => 2 line 1 is unreadable|
+commit [1] 1 -|commit [2] 2 - [1]|commit [3] 3 - [2]|name [1] v1|describe [3]| => 0 describe v1-2-g3333333|
+|base [b] [a]||commit [b] 0 - [a]|commit [a] 0 -| => 0 base [a]|
+commit [A] 0 -|commit [b] 0 - [a]|base [B] [a]| => 0 base [a]|
+commit [a] -0 0|commit [b] 007 4294967295 [a]|base [a] [b]| => 0 base [a]|
+commit [a] -9223372036854775808 00|commit [b] 9223372036854775807 - [a]|base [b] [a]| => 0 base [a]|
+commit [a] 0 -|commit [b] 0 - [a] [a]|base [b] [a]| => 0 base [a]|
+commit [a] 0 -|name [A] v|describe [a]|describe [A]| => 0 describe v|describe v|
+name [a] v|name [A] w| => 2 line 2 is unreadable|
+commit [1] 1 -|name [1]  a b|describe [1]| => 0 describe  a b|
+commit [a] 0 -|name [a] v#|commit [b] 1 - [a]|describe [a]|describe [b]| => 0 \
+describe v\u{fffd}|describe v\u{fffd}-1-gbbbbbbb|
+parse|parse |parse ^[A]| => 0 parse done|parse done|parse kind(ExcludeReachable); prefix([a]); done|";
 
-// Texts of parse lines that are read to their end, and the calls; then texts that are refused.
-const PARSED: &str = "parse| => parse done|
-parse | => parse done|
-parse ^| => parse kind(ExcludeReachable); done|
-parse [a]| => parse prefix([a]); done|
-parse ^[A]| => parse kind(ExcludeReachable); prefix([a]); done|
-parse ..| => parse find_ref(HEAD); kind(RangeBetween); find_ref(HEAD); done|
-parse [1]..[2]| => parse prefix([1]); kind(RangeBetween); prefix([2]); done|
-parse [1]...| => parse prefix([1]); kind(ReachableToMergeBase); find_ref(HEAD); done|";
-
-const PARSE_REFUSED: &str = "parse ^..| => parse kind(ExcludeReachable); refused P3|
-parse main| => parse refused P28|
-parse  | => parse refused P28|
-parse [1]|parse main|parse [2]| => parse prefix([1]); done|parse refused P28|parse prefix([2]); done|";
-
-// Lines that are unreadable after `commit [a] 1 -`, each with its line feed.
+/// Lines that are unreadable after `commit [a] 1 -`, each with its line feed.
 const UNREADABLE: &str = "x|
  base [1]|
 Base [1]|
@@ -106,13 +105,18 @@ struct Run {
 }
 
 impl Run {
-    // Whether it ended with this status and output, and without a fault.
-    fn is(&self, status: u8, output: &[u8]) -> bool {
-        self.status == status && self.output.as_slice() == output && self.faults.is_empty()
+    /// Whether it ended with this status and wrote this: as faults where the status is 2, else as output.
+    fn is(&self, status: u8, written: &[u8]) -> bool {
+        let (used, unused) = if status == 2 {
+            (&self.faults, &self.output)
+        } else {
+            (&self.output, &self.faults)
+        };
+        self.status == status && used.as_slice() == written && unused.is_empty()
     }
 }
 
-// A run with all memory that it asks of `alloc`.
+/// A run with all memory that it asks of `alloc`.
 fn run_over<R: Read, A: Allocator + Copy>(to: Global, alloc: A, input: &mut R) -> Run {
     let mut output = Vec::new(to);
     let mut faults = Vec::new(to);
@@ -124,255 +128,262 @@ fn run_over<R: Read, A: Allocator + Copy>(to: Global, alloc: A, input: &mut R) -
     }
 }
 
-// The first row of a table that is not answered as it says, with this status and without a fault.
-// Its lines stand after the criss-cross, and are read whole, and then a byte a read with interrupts.
-fn first_wrong(
-    alloc: Global,
-    table: &'static str,
-    status: u8,
-) -> Result<Option<&'static str>, AllocError> {
-    for row in table.split('\n') {
-        let (lines, wanted) = row.split_once(" =>").unwrap_or((row, ""));
-        let wanted = written_out(alloc, wanted.trim_start())?;
-        let mut text = written_out(alloc, CRISS_CROSS)?;
-        text.extend_from_slice(&written_out(alloc, lines)?)?;
-        let ran = run_over(alloc, alloc, &mut text.as_slice());
-        let slow = run_over(alloc, alloc, &mut Trickle::new(&text, Ending::End));
-        if !ran.is(status, &wanted) || !slow.is(status, &wanted) {
-            return Ok(Some(row));
-        }
+/// Whether a run over a text ends so, both where it is read whole and where it comes a byte a read.
+fn ends(alloc: Global, text: &[u8], status: u8, written: &[u8]) -> bool {
+    let mut whole = text;
+    run_over(alloc, alloc, &mut whole).is(status, written)
+        && run_over(alloc, alloc, &mut Trickle::new(text, Ending::End)).is(status, written)
+}
+
+/// Whether the lines of a row end as it says.
+fn ends_as_said(alloc: Global, before: &str, row: &str) -> Result<bool, AllocError> {
+    let (lines, ended) = row.split_once(" => ").unwrap_or((row, ""));
+    let (status, written) = ended.split_once(' ').unwrap_or((ended, ""));
+    let status = match status {
+        "0" => 0,
+        "1" => 1,
+        _ => 2,
+    };
+    let written = written_out(alloc, written)?;
+    let mut text = written_out(alloc, before)?;
+    text.extend_from_slice(&written_out(alloc, lines)?)?;
+    Ok(ends(alloc, &text, status, &written))
+}
+
+/// Whether a line is the first that can't be read, the fourth of its text.
+fn is_unreadable(alloc: Global, line: &str) -> Result<bool, AllocError> {
+    let mut text = written_out(alloc, "commit [a] 1 -||base [a]|")?;
+    text.extend_from_slice(&written_out(alloc, line)?)?;
+    text.extend_from_slice(b"base x\n")?;
+    Ok(ends(alloc, &text, 2, b"line 4 is unreadable\n"))
+}
+
+#[test]
+fn lines_are_answered(rt: HostRuntime) -> Result<(), Fail> {
+    for row in AFTER_CRISS_CROSS.split('\n') {
+        assert!(rt; ends_as_said(rt.alloc(), CRISS_CROSS, row)?, "{row}");
     }
-    Ok(None)
-}
-
-#[test]
-fn answers_each_row(rt: HostRuntime) -> Result<(), Fail> {
-    let alloc = rt.alloc();
-    assert_eq!(rt; first_wrong(alloc, ANSWERED, 0)?, None);
-    assert_eq!(rt; first_wrong(alloc, OCTOPUS, 0)?, None);
-    assert_eq!(rt; first_wrong(alloc, PARSED, 0)?, None);
-    assert_eq!(rt; first_wrong(alloc, PARSE_REFUSED, 1)?, None);
-    Ok(())
-}
-
-#[test]
-fn names_the_first_unreadable_line(rt: HostRuntime) -> Result<(), Fail> {
-    let alloc = rt.alloc();
+    for row in ALONE.split('\n') {
+        assert!(rt; ends_as_said(rt.alloc(), "", row)?, "{row}");
+    }
     for line in UNREADABLE.split('\n') {
-        let mut text = written_out(alloc, "commit [a] 1 -||base [a]|")?;
-        text.extend_from_slice(&written_out(alloc, line)?)?;
-        text.extend_from_slice(b"base x\n")?;
-        let ran = run_over(alloc, alloc, &mut text.as_slice());
-        assert_eq!(rt; ran.status, 2, "status of {line:?}");
-        assert_eq!(rt; ran.output.is_empty(), true, "output of {line:?}");
-        assert_eq!(rt;
-            ran.faults.as_slice(),
-            b"line 4 is unreadable\n".as_slice(),
-            "faults of {line:?}"
-        );
+        assert!(rt; is_unreadable(rt.alloc(), line)?, "{line}");
     }
     Ok(())
 }
 
-#[test]
-fn an_input_that_fails_can_not_be_read(rt: HostRuntime) -> Result<(), Fail> {
-    let alloc = rt.alloc();
+const UNREAD: &[u8] = b"cannot read standard input\n";
+
+/// Whether an input that fails after so many bytes can't be read.
+fn fails_after(alloc: Global, count: usize) -> Result<bool, AllocError> {
     let text = written_out(alloc, CRISS_CROSS)?;
+    let left = text.get(..count).unwrap_or(&text);
+    let mut input = Trickle::new(left, Ending::Failure);
+    Ok(run_over(alloc, alloc, &mut input).is(2, UNREAD))
+}
+
+/// Whether a run over so many line feeds ends with this status, and how often it read.
+fn line_feeds(alloc: Global, count: u64, status: u8) -> (bool, u64) {
+    let mut input = LineFeeds::new(count);
+    let written = if status == 2 { UNREAD } else { b"" };
+    let ends = run_over(alloc, alloc, &mut input).is(status, written);
+    (ends, input.reads())
+}
+
+/// How many line feeds there are, the status, and how often they are read: the last read that is made
+/// finds the end, or one byte more. An input without end is read no further.
+const LINE_FEEDS: [(u64, u8, u64); 4] = [
+    (0, 0, 1),
+    (16_777_215, 0, 16_777_216),
+    (16_777_216, 2, 16_777_216),
+    (u64::MAX, 2, 16_777_216),
+];
+
+#[test]
+fn an_input_may_fail_or_not_end(rt: HostRuntime) -> Result<(), Fail> {
     for count in [0, 1, 1000] {
-        let ran = run_over(
-            alloc,
-            alloc,
-            &mut Trickle::new(text.get(..count).unwrap_or(&text), Ending::Failure),
-        );
-        assert_eq!(rt; ran.status, 2, "status after {count} bytes");
-        assert_eq!(rt; ran.output.is_empty(), true, "output after {count} bytes");
-        assert_eq!(rt;
-            ran.faults.as_slice(),
-            b"cannot read standard input\n".as_slice(),
-            "faults after {count} bytes"
+        assert!(rt; fails_after(rt.alloc(), count)?, "after {count} bytes");
+    }
+    for (count, status, reads) in LINE_FEEDS {
+        assert!(rt;
+            line_feeds(rt.alloc(), count, status) == (true, reads),
+            "{count} line feeds"
         );
     }
     Ok(())
 }
 
-#[test]
-fn an_input_may_take_so_many_reads(rt: HostRuntime) -> Result<(), Fail> {
-    let alloc = rt.alloc();
-    // Nothing at all is one read.
-    let mut input = LineFeeds::new(0);
-    let ran = run_over(alloc, alloc, &mut input);
-    assert_eq!(rt; ran.status, 0);
-    assert_eq!(rt; input.reads(), 1);
-    // The last read that is made finds the end.
-    let mut input = LineFeeds::new(16_777_215);
-    let ran = run_over(alloc, alloc, &mut input);
-    assert_eq!(rt; ran.status, 0);
-    assert_eq!(rt; input.reads(), 16_777_216);
-    // It finds one byte more. An input without end is read no further.
-    for count in [16_777_216, u64::MAX] {
-        let mut input = LineFeeds::new(count);
-        let ran = run_over(alloc, alloc, &mut input);
-        assert_eq!(rt; ran.status, 2);
-        assert_eq!(rt;
-            ran.faults.as_slice(),
-            b"cannot read standard input\n".as_slice()
-        );
-        assert_eq!(rt; input.reads(), 16_777_216);
+/// What is left of a run whose output fails: its status, whether the output failed, how often it was
+/// written to after that, and whether no fault was written.
+#[derive(Clone, Copy, Debug, PartialEq)]
+struct Unwritten {
+    status: u8,
+    has_failed: bool,
+    later: u64,
+    no_faults: bool,
+}
+
+/// Many answers to an output that fails at the call after that many.
+fn with_failing_output(alloc: Global, before: u64) -> Result<Unwritten, AllocError> {
+    let mut text = written_out(alloc, CRISS_CROSS)?;
+    let line = written_out(alloc, "base [4] [5]|")?;
+    for _ in 0..100u8 {
+        text.extend_from_slice(&line)?;
     }
-    Ok(())
+    let mut input = text.as_slice();
+    let mut output = FailingWriter::new(before);
+    let mut faults = Vec::new(alloc);
+    let status = run(alloc, alloc, &mut input, &mut output, &mut faults);
+    Ok(Unwritten {
+        status,
+        has_failed: output.has_failed(),
+        later: output.later(),
+        no_faults: faults.is_empty(),
+    })
+}
+
+/// The status of a run whose faults can't be written, and whether it wrote nothing else.
+fn with_failing_faults(alloc: Global, text: &[u8]) -> (u8, bool) {
+    let mut input = text;
+    let mut output = Vec::new(alloc);
+    let mut faults = FailingWriter::new(0);
+    let status = run(alloc, alloc, &mut input, &mut output, &mut faults);
+    (status, output.is_empty())
 }
 
 #[test]
 fn nothing_is_written_after_a_write_that_failed(rt: HostRuntime) -> Result<(), Fail> {
-    let alloc = rt.alloc();
-    let mut text = written_out(alloc, CRISS_CROSS)?;
-    for _ in 0..100 {
-        text.extend_from_slice(&written_out(alloc, "base [4] [5]|")?)?;
-    }
-    for before in 0..100 {
-        let mut output = FailingWriter::new(before);
-        let mut faults = Vec::new(alloc);
-        let status = run(alloc, alloc, &mut text.as_slice(), &mut output, &mut faults);
-        assert_eq!(rt; output.later(), 0, "after {before} calls");
-        assert_eq!(rt; faults.is_empty(), true, "after {before} calls");
-        if !output.has_failed() {
-            assert_eq!(rt; status, 0);
+    assert!(rt; with_failing_faults(rt.alloc(), b"\n") == (0, true));
+    assert!(rt; with_failing_faults(rt.alloc(), b"x\n") == (2, true));
+    for before in 0..100u64 {
+        let left = with_failing_output(rt.alloc(), before)?;
+        let want = Unwritten {
+            status: if left.has_failed { 2 } else { 0 },
+            has_failed: left.has_failed,
+            later: 0,
+            no_faults: true,
+        };
+        assert!(rt; left == want, "after {before} calls");
+        if !left.has_failed {
             // 8700 bytes, of which at most 1000 were taken at a time, and a flush.
             assert!(rt; before > 9, "too few calls");
             return Ok(());
         }
-        assert_eq!(rt; status, 2, "after {before} calls");
     }
     assert!(rt; false, "it always failed");
     Ok(())
 }
 
-#[test]
-fn faults_that_can_not_be_written_change_no_status(rt: HostRuntime) -> Result<(), Fail> {
-    let alloc = rt.alloc();
-    let cases: [(&[u8], u8); 2] = [(b"\n", 0), (b"x\n", 2)];
-    for (text, wanted) in cases {
-        let mut output = Vec::new(alloc);
-        let mut input = text;
-        let status = run(
-            alloc,
-            alloc,
-            &mut input,
-            &mut output,
-            &mut FailingWriter::new(0),
-        );
-        assert_eq!(rt; status, wanted);
-        assert_eq!(rt; output.is_empty(), true);
-    }
-    Ok(())
-}
+const COMMANDS: &str =
+    "name [1] v|base [4] [5]|octopus [4] [5]|parse [1]..[2]|describe [2]|base [4]|parse|\
+    octopus [5] [4]|describe [2]|base [4] [5]|";
 
-// Whether a line is this row, or a beginning of it and then a refusal for want of memory.
+const ANSWERS: &str =
+    "base [2] [3]|octopus [2]|parse prefix([1]); kind(RangeBetween); prefix([2]); done|\
+    describe v-1-g2222222|base [4]|parse done|octopus [2]|describe v-1-g2222222|base [2] [3]|";
+
+/// Whether a line is this row, or says in its place that memory was wanting: after the word alone, or of a
+/// text after some of its calls.
 fn is_row_or_refusal(line: &[u8], row: &[u8]) -> bool {
-    for refusal in [b"refused M2", b"refused D4", b"refused P0"] {
-        if let Some(beginning) = line.strip_suffix(refusal.as_slice()) {
-            return row.starts_with(beginning);
+    let words: [(&[u8], &[u8]); 3] = [
+        (b"base ", b"refused M2"),
+        (b"octopus ", b"refused M2"),
+        (b"describe ", b"refused D4"),
+    ];
+    for (word, refusal) in words {
+        if row.starts_with(word) && line.strip_prefix(word) == Some(refusal) {
+            return true;
         }
     }
-    line == row
+    match line.strip_suffix(b"refused P0") {
+        Some(b"parse ") => row.starts_with(b"parse "),
+        Some(calls) => {
+            calls.starts_with(b"parse ") && calls.ends_with(b"; ") && row.starts_with(calls)
+        }
+        None => line == row,
+    }
+}
+
+/// Whether each line is its row or a refusal for memory, and one is a refusal.
+fn are_rows_or_refusals(lines: &[u8], rows: &[u8]) -> bool {
+    let mut wanted = rows.split(|byte| *byte == b'\n');
+    for line in lines.split(|byte| *byte == b'\n') {
+        let Some(row) = wanted.next() else {
+            return false;
+        };
+        if !is_row_or_refusal(line, row) {
+            return false;
+        }
+    }
+    wanted.next().is_none() && lines != rows
+}
+
+/// What came of the commands where one request for memory may be refused.
+#[derive(Clone, Copy, Debug, PartialEq)]
+enum Came {
+    /// All are answered.
+    Answered,
+    /// They could not be read.
+    Unread,
+    /// Some lines say that memory was wanting.
+    Lacking,
+    Wrong,
+}
+
+fn judged(ran: &Run, rows: &[u8]) -> Came {
+    if ran.is(0, rows) {
+        return Came::Answered;
+    }
+    if ran.status != 1 {
+        return Came::Wrong;
+    }
+    if ran.output.is_empty() && ran.faults.as_slice() == b"out of memory\n".as_slice() {
+        return Came::Unread;
+    }
+    if ran.faults.is_empty() && are_rows_or_refusals(&ran.output, rows) {
+        return Came::Lacking;
+    }
+    Came::Wrong
+}
+
+/// The commands with one request for memory refused, and whether there was such a request.
+fn with_refusal(alloc: Global, text: &[u8], rows: &[u8], before: u64) -> (Came, bool) {
+    let memory = Refusing::new(alloc, before);
+    let mut input = text;
+    let ran = run_over(alloc, &memory, &mut input);
+    (judged(&ran, rows), memory.has_refused())
+}
+
+/// How often some lines lacked memory, and how often none did, where each request is refused in turn; none
+/// where something else came, or requests never end.
+fn with_refusals(alloc: Global, text: &[u8], rows: &[u8]) -> Option<(u64, u64)> {
+    let mut lacking: u64 = 0;
+    let mut answered: u64 = 0;
+    for before in 0..1000u64 {
+        match with_refusal(alloc, text, rows, before) {
+            (Came::Answered, false) => return Some((lacking, answered)),
+            (Came::Answered, true) => answered = answered.saturating_add(1),
+            (Came::Lacking, true) => lacking = lacking.saturating_add(1),
+            (Came::Unread, true) => {}
+            _ => return None,
+        }
+    }
+    None
+}
+
+/// The same, of the commands after the criss-cross.
+fn commands_with_refusals(alloc: Global) -> Result<Option<(u64, u64)>, AllocError> {
+    let mut text = written_out(alloc, CRISS_CROSS)?;
+    text.extend_from_slice(&written_out(alloc, COMMANDS)?)?;
+    let rows = written_out(alloc, ANSWERS)?;
+    Ok(with_refusals(alloc, &text, &rows))
 }
 
 #[test]
 fn each_request_for_memory_is_refused_in_turn(rt: HostRuntime) -> Result<(), Fail> {
-    let alloc = rt.alloc();
-    let mut text = written_out(alloc, CRISS_CROSS)?;
-    text.extend_from_slice(&written_out(
-        alloc,
-        "name [1] v|base [4] [5]|octopus [4] [5]|parse [1]..[2]|describe [2]|base [4]|parse|octopus [5] [4]|\
-        describe [2]|base [4] [5]|",
-    )?)?;
-    let rows = written_out(
-        alloc,
-        "base [2] [3]|octopus [2]|parse prefix([1]); kind(RangeBetween); prefix([2]); done|\
-        describe v-1-g2222222|base [4]|parse done|octopus [2]|describe v-1-g2222222|base [2] [3]|",
-    )?;
-    let mut refusals: u64 = 0;
-    for before in 0..1000 {
-        let memory = Refusing::new(alloc, before);
-        let ran = run_over(alloc, &memory, &mut text.as_slice());
-        if !memory.has_refused() {
-            assert_eq!(rt; ran.status, 0);
-            assert_eq!(rt; ran.output, rows);
-            assert!(rt; refusals > 20, "too few refusals inside commands");
-            return Ok(());
-        }
-        assert_eq!(rt; ran.status, 1, "status where request {before} is refused");
-        if ran.output.is_empty() {
-            assert_eq!(rt; ran.faults.as_slice(), b"out of memory\n".as_slice());
-            continue;
-        }
-        refusals = refusals.saturating_add(1);
-        assert_eq!(rt; ran.faults.is_empty(), true);
-        let mut wanted = rows.split(|byte| *byte == b'\n');
-        for line in ran.output.split(|byte| *byte == b'\n') {
-            let row = wanted.next().unwrap_or(b"");
-            assert!(rt;
-                is_row_or_refusal(line, row),
-                "output where request {before} is refused"
-            );
-        }
-        assert_eq!(rt;
-            wanted.next().is_none(),
-            true,
-            "lines where request {before} is refused"
-        );
-    }
-    assert!(rt; false, "it never had all memory");
-    Ok(())
-}
-
-#[test]
-fn answers_the_describe_lines(rt: HostRuntime) -> Result<(), Fail> {
-    let alloc = rt.alloc();
-    let cases = [
-        (
-            "name [4] x|",
-            "describe [4]|describe [4]|",
-            "describe x|describe x|",
-            0,
-        ),
-        ("name [2] v|", "describe [4]|", "describe v-2-g4444444|", 0),
-        (
-            "name [1] v 1|name [3] w|",
-            "describe [5]|",
-            "describe w-2-g5555555|",
-            0,
-        ),
-        // Names count wherever they stand, and no name may be there.
-        ("", "describe [4]|name [1] v|", "describe v-3-g4444444|", 0),
-        ("", "describe [4]|", "describe none|", 0),
-        ("name [4] x|", "describe [1]|", "describe none|", 0),
-        // A start that no line has.
-        (
-            "name [1] v|",
-            "describe [9]|describe [1]|",
-            "describe refused D2|describe v|",
-            1,
-        ),
-        // On a graph of their own, between other lines.
-        (
-            "name [1] v|",
-            "base [4] [5]|describe [2]|base [4] [5]|",
-            "base [2] [3]|describe v-1-g2222222|base [2] [3]|",
-            0,
-        ),
-    ];
-    for (names, commands, wanted, status) in cases {
-        let mut text = written_out(alloc, CRISS_CROSS)?;
-        text.extend_from_slice(&written_out(alloc, names)?)?;
-        text.extend_from_slice(&written_out(alloc, commands)?)?;
-        let ran = run_over(alloc, alloc, &mut text.as_slice());
-        assert_eq!(rt; ran.status, status, "status at {commands:?}");
-        assert_eq!(rt;
-            ran.output,
-            written_out(alloc, wanted)?,
-            "output at {commands:?}"
-        );
-    }
+    let (lacking, answered) = commands_with_refusals(rt.alloc())?.unwrap_or((0, 0));
+    assert!(rt; lacking > 20, "{lacking} refusals inside commands");
+    // Room in which answers are gathered, or to remember the parents of a commit, is not needed.
+    assert!(rt; answered < 8, "{answered} refusals unseen");
     Ok(())
 }

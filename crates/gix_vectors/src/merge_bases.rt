@@ -1,187 +1,132 @@
 //! Merge bases of worked histories, failing look-ups, and memory refused at each request.
 
-use crate::histories::{CRISS_CROSS, OLD_PATH, OLDER_CHILD, Row, id, ids, source_of};
-use crate::sources::{Counting, Failing, Turn};
+use crate::histories::{CRISS_CROSS, OLD_PATH, OLDER_CHILD, Row};
+use crate::printed::prints;
+use crate::questions::Call::Bases;
+use crate::questions::{Question, WELL, first_lost, first_wrong, with_failure};
 use bitflags::Flags as BitFlags;
-use gix_base::error::NonEmpty;
-use gix_base::hash::ObjectId;
-use gix_revision::graph::{Commit, Find, FindFault, Graph};
-use gix_revision::merge_base::{Error, Flags, Simple, merge_base};
-use refusing::Refusing;
-use std::alloc::{AllocError, Allocator, Global};
+use gix_revision::graph::FindFault;
+use gix_revision::merge_base::{Error, Flags, Simple};
+use std::alloc::{AllocError, Global};
 use std::test::Fail;
 
-/// Whether the answer is these bases, in any order.
-fn is_set<A: Allocator>(found: &Option<NonEmpty<ObjectId, A>>, bases: &[u8]) -> bool {
-    match found {
-        Some(list) => {
-            bases.len() == 1 + list.tail.len()
-                && bases
-                    .iter()
-                    .all(|n| list.head == id(*n) || list.tail.contains(&id(*n)))
-        }
-        None => bases.is_empty(),
-    }
-}
+/// The criss-cross.
+const CROSSED: Question = Question(Bases, &CRISS_CROSS, 4, &[5], &[2, 3]);
+
+/// The same, where all times are equal.
+const EQUAL_TIMES: [Row<'static>; 5] = [
+    Row(1, 7, None, &[]),
+    Row(2, 7, None, &[1]),
+    Row(3, 7, None, &[1]),
+    Row(4, 7, None, &[2, 3]),
+    Row(5, 7, None, &[2, 3]),
+];
+
+/// Nothing is looked up: there are no others, or the first is among them.
+static TRIVIAL: [Question; 4] = [
+    Question(Bases, &CRISS_CROSS, 9, &[], &[9]),
+    Question(Bases, &CRISS_CROSS, 9, &[1, 9], &[9]),
+    Question(Bases, &CRISS_CROSS, 4, &[], &[4]),
+    Question(Bases, &CRISS_CROSS, 4, &[5, 4, 4], &[4]),
+];
+
+static WORKED: [Question; 10] = [
+    // Both sides, several others, an ancestor, repeated others.
+    CROSSED,
+    Question(Bases, &CRISS_CROSS, 5, &[4], &[2, 3]),
+    Question(Bases, &CRISS_CROSS, 4, &[2], &[2]),
+    Question(Bases, &CRISS_CROSS, 1, &[4], &[1]),
+    Question(Bases, &CRISS_CROSS, 2, &[3], &[1]),
+    Question(Bases, &CRISS_CROSS, 4, &[2, 3], &[2, 3]),
+    Question(Bases, &CRISS_CROSS, 4, &[1, 3], &[3]),
+    // Wrong clocks.
+    Question(Bases, &EQUAL_TIMES, 4, &[5], &[2, 3]),
+    Question(Bases, &OLDER_CHILD, 3, &[4], &[2]),
+    Question(Bases, &OLD_PATH, 6, &[7], &[5]),
+];
+
+/// One of the others is not in the source, or the first is not.
+static LACKED: [Question; 3] = [
+    Question(Bases, &CRISS_CROSS, 4, &[5, 5, 9, 5], &[2, 3]),
+    Question(Bases, &CRISS_CROSS, 4, &[9, 5], &[2, 3]),
+    Question(Bases, &CRISS_CROSS, 9, &[4], &[]),
+];
 
 #[test]
 fn bases_of_worked_histories(rt: HostRuntime) -> Result<(), Fail> {
-    let alloc = rt.alloc();
-    let cases: [(&[Row<'static>], u8, &[u8], &[u8]); 15] = [
-        // Nothing is looked up: there are no others, or the first is among them.
-        (&CRISS_CROSS, 9, &[], &[9]),
-        (&CRISS_CROSS, 9, &[1, 9], &[9]),
-        (&CRISS_CROSS, 4, &[5, 4, 4], &[4]),
-        // Both sides, several others, an ancestor, repeated others.
-        (&CRISS_CROSS, 4, &[5], &[2, 3]),
-        (&CRISS_CROSS, 5, &[4], &[2, 3]),
-        (&CRISS_CROSS, 4, &[2], &[2]),
-        (&CRISS_CROSS, 1, &[4], &[1]),
-        (&CRISS_CROSS, 2, &[3], &[1]),
-        (&CRISS_CROSS, 4, &[2, 3], &[2, 3]),
-        (&CRISS_CROSS, 4, &[1, 3], &[3]),
-        (&CRISS_CROSS, 4, &[5, 5, 9, 5], &[2, 3]),
-        // One of the others is not in the source, or the first is not.
-        (&CRISS_CROSS, 4, &[9, 5], &[2, 3]),
-        (&CRISS_CROSS, 9, &[4], &[]),
-        // Wrong clocks.
-        (&OLDER_CHILD, 3, &[4], &[2]),
-        (&OLD_PATH, 6, &[7], &[5]),
-    ];
-    for (rows, first, numbers, bases) in cases {
-        let others = ids(alloc, numbers)?;
-        let mut graph = Graph::new(alloc, Counting::new(source_of(alloc, rows)?));
-        for _ in 0..2u8 {
-            let found = merge_base(alloc, id(first), &others, &mut graph)?;
-            assert!(rt; is_set(&found, bases), "{first} and {numbers:?}");
+    assert_eq!(rt; first_wrong(rt.alloc(), &TRIVIAL, 0)?, None);
+    // What is held is not asked for again.
+    assert_eq!(rt; first_wrong(rt.alloc(), &WORKED, 7)?, None);
+    assert_eq!(rt; first_wrong(rt.alloc(), &LACKED, 20)?, None);
+    Ok(())
+}
+
+/// What the look-ups of the criss-cross are answered with where they fail: those of ids that were handed
+/// in, and those of parents.
+const TEXTS: [&str; 5] = [
+    "could not insert commit into graph",
+    "could not insert commit into graph",
+    "could not insert parent commit into graph",
+    "could not insert parent commit into graph",
+    "could not insert parent commit into graph",
+];
+
+/// The first look-up of the criss-cross that is not answered with its text where it fails. They are all.
+fn first_untold(alloc: Global) -> Result<Option<u64>, AllocError> {
+    let mut turn: u64 = 0;
+    for text in &TEXTS {
+        let first = with_failure(alloc, &CROSSED, turn, FindFault::Failed, 0)?.0;
+        if first.answer != Err(Error::Source(Simple(text))) {
+            return Ok(Some(turn));
         }
-        if numbers.is_empty() || numbers.contains(&first) {
-            assert_eq!(rt; graph.source().questions(), 0);
-        }
+        turn = turn.saturating_add(1);
     }
+    let both = with_failure(alloc, &CROSSED, turn, FindFault::Failed, 0)?;
+    Ok(if both == (WELL, WELL) {
+        None
+    } else {
+        Some(turn)
+    })
+}
+
+/// The criss-cross, and the histories with wrong clocks.
+static HOSTILE: [Question; 3] = [
+    CROSSED,
+    Question(Bases, &OLDER_CHILD, 3, &[4], &[2]),
+    Question(Bases, &OLD_PATH, 6, &[7], &[5]),
+];
+
+#[test]
+fn refused_look_ups_and_memory_refuse_the_call(rt: HostRuntime) -> Result<(), Fail> {
+    assert_eq!(rt; first_untold(rt.alloc())?, None);
+    assert_eq!(rt; first_lost(rt.alloc(), &HOSTILE)?, None);
     Ok(())
 }
 
-#[test]
-fn each_id_is_asked_for_once(rt: HostRuntime) -> Result<(), Fail> {
-    let alloc = rt.alloc();
-    // 1 and 2 have a parent that the source lacks.
-    let rows = [
-        Row(1, 1, None, &[9]),
-        Row(2, 1, None, &[9]),
-        Row(3, 2, None, &[1, 2]),
-    ];
-    let mut graph = Graph::new(alloc, Counting::new(source_of(alloc, &rows)?));
-    let found = merge_base(alloc, id(3), &[id(9), id(2), id(9)], &mut graph)?;
-    assert!(rt; is_set(&found, &[2]));
-    assert_eq!(rt; graph.source().questions(), 4);
-    Ok(())
-}
-
-/// Whether the bases of [4] and [5] are [2] and [3], or why there is no answer.
-fn are_both<S: Find, A: Allocator + Copy>(
-    alloc: A,
-    graph: &mut Graph<S, Commit<Flags, A>, A>,
-) -> Result<bool, Error> {
-    Ok(is_set(&merge_base(alloc, id(4), &[id(5)], graph)?, &[2, 3]))
-}
-
-/// What came of a call, and the faults counted then.
-type Asked = (Result<bool, Error>, u64);
-
-/// Two calls over a source that fails at one look-up.
-fn with_one_failure(alloc: Global, turn: u64) -> Result<(Asked, Asked), AllocError> {
-    let source = Failing::new(
-        source_of(alloc, &CRISS_CROSS)?,
-        Turn::After(turn),
-        FindFault::Failed,
-        0,
-    );
-    let mut graph = Graph::new(alloc, source);
-    let first = are_both(alloc, &mut graph);
-    let faults = graph.source().faults();
-    let again = are_both(alloc, &mut graph);
-    Ok(((first, faults), (again, graph.source().faults())))
-}
-
-#[test]
-fn a_failing_look_up_is_answered_with_its_cause(rt: HostRuntime) -> Result<(), Fail> {
-    let commit = Error::Source(Simple("could not insert commit into graph"));
-    let parent = Error::Source(Simple("could not insert parent commit into graph"));
-    for (turn, error) in [
-        (0, commit),
-        (1, commit),
-        (2, parent),
-        (3, parent),
-        (4, parent),
-    ] {
-        let both = with_one_failure(rt.alloc(), turn)?;
-        assert!(rt; both == ((Err(error), 1), (Ok(true), 1)), "look-up {turn}");
-    }
-    // Five look-ups are all.
-    let both = with_one_failure(rt.alloc(), 5)?;
-    assert!(rt; both == ((Ok(true), 0), (Ok(true), 0)));
-    Ok(())
-}
-
-/// Two calls with one request for memory refused, and whether that was in the first call.
-fn with_one_refused(
-    alloc: Global,
-    before: u64,
-) -> Result<(Result<bool, Error>, Result<bool, Error>, bool), AllocError> {
-    let refusing = Refusing::new(alloc, before);
-    let mut graph = Graph::new(&refusing, source_of(alloc, &CRISS_CROSS)?);
-    let first = are_both(&refusing, &mut graph);
-    let has_refused = refusing.has_refused();
-    let again = are_both(&refusing, &mut graph);
-    Ok((first, again, has_refused))
-}
-
-#[test]
-fn each_request_is_refused(rt: HostRuntime) -> Result<(), Fail> {
-    for before in 0..200u64 {
-        let (first, again, has_refused) = with_one_refused(rt.alloc(), before)?;
-        if !has_refused {
-            assert!(rt; before > 5, "too few requests");
-            assert!(rt; first == Ok(true));
-            return Ok(());
-        }
-        assert!(rt; first == Err(Error::OutOfMemory), "request {before}");
-        assert!(rt; again == Ok(true), "after request {before}");
-    }
-    assert!(rt; false, "never enough");
-    Ok(())
-}
-
-#[test]
-fn refusals_print_their_texts(rt: HostRuntime) -> Result<(), Fail> {
-    let alloc = rt.alloc();
-    assert_eq!(rt;
-        format!(in alloc; "{}", Error::OutOfMemory)?.as_str(),
-        "out of memory"
-    );
-    assert_eq!(rt;
-        format!(in alloc; "{}", Error::Source(Simple("a text")))?.as_str(),
-        "a text"
-    );
-    assert_eq!(rt;
-        format!(in alloc; "{}", Simple("a text"))?.as_str(),
-        "a text"
-    );
-    Ok(())
-}
-
-#[test]
-fn marks_have_their_bits(rt: HostRuntime) {
+/// Whether marks have git's bits and are set and cleared one by one.
+fn marks_are_bits() -> bool {
     let both = Flags::from_bits_retain(3);
-    assert!(rt; both.contains(Flags::COMMIT1) && both.contains(Flags::COMMIT2));
-    assert!(rt; !both.contains(Flags::STALE) && !both.is_empty());
     let mut marks = Flags::default();
     marks.insert(Flags::STALE);
     marks.insert(Flags::RESULT);
-    assert_eq!(rt; marks.bits(), 12);
+    let set = marks.bits();
     marks.remove(Flags::STALE);
-    assert_eq!(rt; marks.bits(), 8);
-    assert_eq!(rt; Flags::all().bits(), 15);
-    assert!(rt; Flags::empty().is_empty());
+    both.contains(Flags::COMMIT1)
+        && both.contains(Flags::COMMIT2)
+        && !both.contains(Flags::STALE)
+        && !both.is_empty()
+        && set == 12
+        && marks.bits() == 8
+        && Flags::all().bits() == 15
+        && Flags::empty().is_empty()
+}
+
+#[test]
+fn refusals_and_marks_are_as_written(rt: HostRuntime) -> Result<(), Fail> {
+    let simple = Simple("a text");
+    assert!(rt; prints(rt.alloc(), &simple, "a text")?);
+    assert!(rt; prints(rt.alloc(), &Error::Source(simple), "a text")?);
+    assert!(rt; prints(rt.alloc(), &Error::OutOfMemory, "out of memory")?);
+    assert!(rt; marks_are_bits());
+    Ok(())
 }

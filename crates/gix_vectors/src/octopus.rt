@@ -1,20 +1,17 @@
-//! Octopus bases of small histories, with every order of the heads, and memory refused in turn.
+//! Octopus bases of small histories, with every order of the heads, failing look-ups, and memory refused
+//! in turn.
 //!
 //! ```text
-//!   4   5        3   4   5
-//!   | x |        | x |  /
-//!   2   3        1   2
+//!   4   5        3   4   5        3   4
+//!   | x |        | x |  /         | x |
+//!   2   3        1   2            1   2
 //!    \ /
 //!     1
 //! ```
 
-use crate::histories::{CRISS_CROSS, Row, id, ids, source_of};
-use crate::sources::Counting;
-use gix_base::hash::ObjectId;
-use gix_revision::graph::Graph;
-use gix_revision::merge_base::{Error, octopus};
-use refusing::Refusing;
-use std::alloc::{AllocError, Global};
+use crate::histories::{CRISS_CROSS, Row};
+use crate::questions::Call::Octopus;
+use crate::questions::{Question, first_lost, first_wrong};
 use std::test::Fail;
 
 /// The criss-cross on the left, where [3] is younger than [2].
@@ -26,7 +23,7 @@ const YOUNGER_THIRD: [Row<'static>; 5] = [
     Row(5, 4, None, &[2, 3]),
 ];
 
-/// The history on the right: only [2] is common to [3], [4] and [5].
+/// The history in the middle: only [2] is common to [3], [4] and [5].
 const THREE_HEADS: [Row<'static>; 5] = [
     Row(1, 1, None, &[]),
     Row(2, 1, None, &[]),
@@ -35,114 +32,101 @@ const THREE_HEADS: [Row<'static>; 5] = [
     Row(5, 2, None, &[2]),
 ];
 
-/// What [`octopus`] answers, and how many look-ups it made.
-fn answer(
-    alloc: Global,
-    rows: &[Row<'_>],
-    first: u8,
-    others: &[u8],
-) -> Result<(Option<ObjectId>, u64), Fail> {
-    let mut graph = Graph::new(alloc, Counting::new(source_of(alloc, rows)?));
-    let found = octopus(alloc, id(first), &ids(alloc, others)?, &mut graph)?;
-    Ok((found, graph.source().questions()))
-}
+const THIRD: Row<'static> = Row(3, 9, None, &[1, 2]);
+
+const FOURTH: Row<'static> = Row(4, 9, None, &[1, 2]);
+
+// The history on the right, with generations and times of [1] and [2].
+const GENERATIONS_FALL: [Row<'static>; 4] = [
+    Row(1, 0, Some(2), &[]),
+    Row(2, 5, Some(1), &[]),
+    THIRD,
+    FOURTH,
+];
+
+const GENERATIONS_RISE: [Row<'static>; 4] = [
+    Row(1, 5, Some(1), &[]),
+    Row(2, 0, Some(2), &[]),
+    THIRD,
+    FOURTH,
+];
+
+const ABSENT_IS_GREATEST: [Row<'static>; 4] = [
+    Row(1, 0, None, &[]),
+    Row(2, 5, Some(7), &[]),
+    THIRD,
+    FOURTH,
+];
+
+const TIMES_FALL: [Row<'static>; 4] = [
+    Row(1, -3, Some(1), &[]),
+    Row(2, -4, Some(1), &[]),
+    THIRD,
+    FOURTH,
+];
+
+const ALL_EQUAL: [Row<'static>; 4] = [
+    Row(1, 5, Some(1), &[]),
+    Row(2, 5, Some(1), &[]),
+    THIRD,
+    FOURTH,
+];
+
+/// All ids are equal, so nothing is looked up.
+static TRIVIAL: [Question; 4] = [
+    Question(Octopus, &CRISS_CROSS, 4, &[4, 4], &[4]),
+    Question(Octopus, &CRISS_CROSS, 4, &[], &[4]),
+    Question(Octopus, &CRISS_CROSS, 9, &[9], &[9]),
+    Question(Octopus, &CRISS_CROSS, 9, &[], &[9]),
+];
+
+static WORKED: [Question; 16] = [
+    Question(Octopus, &CRISS_CROSS, 4, &[5], &[2]),
+    Question(Octopus, &CRISS_CROSS, 4, &[5, 4], &[2]),
+    Question(Octopus, &YOUNGER_THIRD, 4, &[5], &[3]),
+    Question(Octopus, &CRISS_CROSS, 2, &[3, 4], &[1]),
+    Question(Octopus, &CRISS_CROSS, 4, &[2, 5], &[2]),
+    // The order of the heads does not matter.
+    Question(Octopus, &THREE_HEADS, 3, &[4, 5], &[2]),
+    Question(Octopus, &THREE_HEADS, 3, &[5, 4], &[2]),
+    Question(Octopus, &THREE_HEADS, 4, &[3, 5], &[2]),
+    Question(Octopus, &THREE_HEADS, 4, &[5, 3], &[2]),
+    Question(Octopus, &THREE_HEADS, 5, &[3, 4], &[2]),
+    Question(Octopus, &THREE_HEADS, 5, &[4, 3], &[2]),
+    // The generation counts before the time, and the time before the id.
+    Question(Octopus, &GENERATIONS_FALL, 3, &[4], &[1]),
+    Question(Octopus, &GENERATIONS_RISE, 3, &[4], &[2]),
+    Question(Octopus, &ABSENT_IS_GREATEST, 3, &[4], &[1]),
+    Question(Octopus, &TIMES_FALL, 3, &[4], &[1]),
+    Question(Octopus, &ALL_EQUAL, 3, &[4], &[1]),
+];
+
+/// One of the ids is not in the source.
+static LACKED: [Question; 4] = [
+    Question(Octopus, &CRISS_CROSS, 4, &[9], &[]),
+    Question(Octopus, &CRISS_CROSS, 9, &[4], &[]),
+    Question(Octopus, &CRISS_CROSS, 9, &[9, 4], &[]),
+    Question(Octopus, &CRISS_CROSS, 4, &[4, 9, 5], &[]),
+];
 
 #[test]
 fn heads_go_back_to_their_best_base(rt: HostRuntime) -> Result<(), Fail> {
-    let cases: [(&[Row<'_>], u8, &[u8], Option<u8>); 9] = [
-        (&CRISS_CROSS, 4, &[5], Some(2)),
-        (&CRISS_CROSS, 4, &[5, 4], Some(2)),
-        (&YOUNGER_THIRD, 4, &[5], Some(3)),
-        (&CRISS_CROSS, 2, &[3, 4], Some(1)),
-        (&CRISS_CROSS, 4, &[2, 5], Some(2)),
-        (&CRISS_CROSS, 4, &[9], None),
-        (&CRISS_CROSS, 9, &[4], None),
-        (&CRISS_CROSS, 9, &[9, 4], None),
-        (&CRISS_CROSS, 4, &[4, 9, 5], None),
-    ];
-    for (rows, first, others, want) in cases {
-        let found = answer(rt.alloc(), rows, first, others)?.0;
-        assert!(rt; found == want.map(|n| id(n)), "octopus {first}");
-    }
+    assert_eq!(rt; first_wrong(rt.alloc(), &TRIVIAL, 0)?, None);
+    // What is held is not asked for again.
+    assert_eq!(rt; first_wrong(rt.alloc(), &WORKED, 5)?, None);
+    assert_eq!(rt; first_wrong(rt.alloc(), &LACKED, 20)?, None);
     Ok(())
 }
 
-#[test]
-fn equal_heads_are_not_looked_up(rt: HostRuntime) -> Result<(), Fail> {
-    let cases: [(u8, &[u8]); 4] = [(4, &[4, 4]), (4, &[]), (9, &[9]), (9, &[])];
-    for (first, others) in cases {
-        let found = answer(rt.alloc(), &CRISS_CROSS, first, others)?;
-        assert!(rt; found == (Some(id(first)), 0), "octopus {first}");
-    }
-    Ok(())
-}
+/// Three heads, where each is looked up and where bases are gone on from.
+static HOSTILE: [Question; 3] = [
+    Question(Octopus, &CRISS_CROSS, 4, &[2, 5], &[2]),
+    Question(Octopus, &THREE_HEADS, 3, &[4, 5], &[2]),
+    Question(Octopus, &THREE_HEADS, 5, &[4, 3], &[2]),
+];
 
 #[test]
-fn the_order_of_the_heads_does_not_matter(rt: HostRuntime) -> Result<(), Fail> {
-    let orders: [(u8, [u8; 2]); 6] = [
-        (3, [4, 5]),
-        (3, [5, 4]),
-        (4, [3, 5]),
-        (4, [5, 3]),
-        (5, [3, 4]),
-        (5, [4, 3]),
-    ];
-    for (first, others) in orders {
-        let found = answer(rt.alloc(), &THREE_HEADS, first, &others)?.0;
-        assert!(rt; found == Some(id(2)), "octopus {first}");
-    }
-    Ok(())
-}
-
-#[test]
-fn the_generation_counts_before_the_time(rt: HostRuntime) -> Result<(), Fail> {
-    let alloc = rt.alloc();
-    // Generation and time of [1], of [2], and the base of two merges of both.
-    let cases: [((Option<u32>, i64), (Option<u32>, i64), u8); 5] = [
-        ((Some(2), 0), (Some(1), 5), 1),
-        ((Some(1), 5), (Some(2), 0), 2),
-        ((None, 0), (Some(7), 5), 1),
-        ((Some(1), -3), (Some(1), -4), 1),
-        ((Some(1), 5), (Some(1), 5), 1),
-    ];
-    for (one, two, want) in cases {
-        let rows = [
-            Row(1, one.1, one.0, &[]),
-            Row(2, two.1, two.0, &[]),
-            Row(3, 9, None, &[1, 2]),
-            Row(4, 9, None, &[1, 2]),
-        ];
-        let mut graph = Graph::new(alloc, source_of(alloc, &rows)?);
-        let found = octopus(alloc, id(3), &[id(4)], &mut graph)?;
-        assert!(rt; found == Some(id(want)), "base {want}");
-    }
-    Ok(())
-}
-
-type Found = Result<Option<ObjectId>, Error>;
-
-/// Two calls with one request for memory refused, and whether that was in the first call.
-fn with_one_refused(alloc: Global, before: u64) -> Result<(Found, Found, bool), AllocError> {
-    let refusing = Refusing::new(alloc, before);
-    let mut graph = Graph::new(&refusing, source_of(alloc, &CRISS_CROSS)?);
-    let first = octopus(&refusing, id(4), &[id(5), id(2)], &mut graph);
-    let has_refused = refusing.has_refused();
-    let again = octopus(&refusing, id(4), &[id(5), id(2)], &mut graph);
-    Ok((first, again, has_refused))
-}
-
-#[test]
-fn each_request_of_an_octopus_is_refused(rt: HostRuntime) -> Result<(), Fail> {
-    for before in 0..500u64 {
-        let (first, again, has_refused) = with_one_refused(rt.alloc(), before)?;
-        if !has_refused {
-            assert!(rt; before > 10, "too few requests");
-            assert!(rt; first == Ok(Some(id(2))));
-            return Ok(());
-        }
-        assert!(rt; first == Err(Error::OutOfMemory), "request {before}");
-        assert!(rt; again == Ok(Some(id(2))), "after request {before}");
-    }
-    assert!(rt; false, "never enough");
+fn refused_look_ups_and_memory_refuse_an_octopus(rt: HostRuntime) -> Result<(), Fail> {
+    assert_eq!(rt; first_lost(rt.alloc(), &HOSTILE)?, None);
     Ok(())
 }

@@ -1,105 +1,101 @@
 //! Merge bases against a slow plain program over sets, on the worked histories.
 
 use crate::histories::{CRISS_CROSS, OLD_PATH, OLDER_CHILD, Row, id, source_of};
+use gix_revision::error::NonEmpty;
 use gix_revision::graph::{Commit, Graph, MemorySource};
-use gix_revision::merge_base::{Flags, merge_base};
-use std::alloc::Global;
+use gix_revision::hash::ObjectId;
+use gix_revision::merge_base::{Error, Flags, merge_base};
+use std::alloc::{AllocError, Global};
 use std::test::Fail;
 
-fn has(rows: &[Row<'_>], n: u8) -> bool {
-    rows.iter().any(|row| row.0 == n)
+/// The set of one digit. A set has a bit for each of its digits.
+fn one(digit: u8) -> u16 {
+    1u16 << (digit % 16)
 }
 
-/// Adds what the history has of the parents of those that were found.
-fn add_parents(rows: &[Row<'_>], found: &mut Vec<u8>) -> Result<(), Fail> {
+/// The digits that the history has.
+fn all(rows: &[Row<'_>]) -> u16 {
+    let mut set: u16 = 0;
     for row in rows {
-        if found.contains(&row.0) {
+        set |= one(row.0);
+    }
+    set
+}
+
+/// The set with the parents of its members.
+fn with_parents(rows: &[Row<'_>], set: u16) -> u16 {
+    let mut more = set;
+    for row in rows {
+        if set & one(row.0) != 0 {
             for parent in row.3 {
-                if has(rows, *parent) && !found.contains(parent) {
-                    found.push(*parent)?;
-                }
+                more |= one(*parent);
             }
         }
     }
-    Ok(())
+    more & all(rows)
 }
 
 /// The ancestors, by adding parents as often as there are commits.
-fn ancestors(alloc: Global, rows: &[Row<'_>], start: u8) -> Result<Vec<u8>, Fail> {
-    let mut found = Vec::new(alloc);
-    if has(rows, start) {
-        found.push(start)?;
-    }
+fn ancestors(rows: &[Row<'_>], start: u8) -> u16 {
+    let mut found = one(start) & all(rows);
     for _ in rows {
-        add_parents(rows, &mut found)?;
+        found = with_parents(rows, found);
     }
-    Ok(found)
+    found
 }
 
-/// The ancestors of both.
-fn common(alloc: Global, rows: &[Row<'_>], first: u8, other: u8) -> Result<Vec<u8>, Fail> {
-    let mut both = ancestors(alloc, rows, first)?;
-    let theirs = ancestors(alloc, rows, other)?;
-    both.retain(|n| theirs.contains(n));
-    Ok(both)
-}
-
-/// Whether no other of them has it as an ancestor.
-fn is_best(alloc: Global, rows: &[Row<'_>], among: &[u8], n: u8) -> Result<bool, Fail> {
-    for t in among {
-        if *t != n && ancestors(alloc, rows, *t)?.contains(&n) {
-            return Ok(false);
-        }
-    }
-    Ok(true)
-}
-
-/// The merge bases of two commits, by the definition alone.
-fn slow_bases(alloc: Global, rows: &[Row<'_>], first: u8, other: u8) -> Result<Vec<u8>, Fail> {
-    let mut best = Vec::new(alloc);
+/// The merge bases of two commits, by the definition alone: common, and in the ancestors of no other.
+fn slow_bases(rows: &[Row<'_>], first: u8, other: u8) -> u16 {
     if first == other {
-        best.push(first)?;
-        return Ok(best);
+        return one(first);
     }
-    let both = common(alloc, rows, first, other)?;
-    for n in &both {
-        if is_best(alloc, rows, &both, *n)? {
-            best.push(*n)?;
+    let common = ancestors(rows, first) & ancestors(rows, other);
+    let mut best = common;
+    for row in rows {
+        if common & one(row.0) != 0 {
+            best &= one(row.0) | !ancestors(rows, row.0);
         }
     }
-    Ok(best)
+    best
 }
 
-/// Whether the answer of `merge_base` has exactly those ids, each once.
-fn answers(
+/// Whether an answer has exactly these ids, each once.
+fn is_set(found: &Option<NonEmpty<ObjectId>>, set: u16) -> bool {
+    let Some(list) = found else {
+        return set == 0;
+    };
+    let mut members: usize = 0;
+    for digit in 0..16u8 {
+        let is_member = set & one(digit) != 0;
+        if is_member != list.iter().any(|base| *base == id(digit)) {
+            return false;
+        }
+        members = members.saturating_add(is_member as usize);
+    }
+    list.len() == members
+}
+
+/// Whether the answer for two commits is that of the sets.
+fn agrees_at(
     alloc: Global,
     graph: &mut Graph<MemorySource, Commit<Flags>>,
+    rows: &[Row<'_>],
     first: u8,
     other: u8,
-    want: &[u8],
-) -> Result<bool, Fail> {
-    match merge_base(alloc, id(first), &[id(other)], graph)? {
-        None => Ok(want.is_empty()),
-        Some(found) => {
-            let each = found
-                .iter()
-                .all(|base| want.iter().any(|n| id(*n) == *base));
-            let every = want
-                .iter()
-                .all(|n| found.iter().any(|base| *base == id(*n)));
-            Ok(each && every && found.len() == want.len())
-        }
-    }
+) -> Result<bool, Error> {
+    let found = merge_base(alloc, id(first), &[id(other)], graph)?;
+    Ok(is_set(&found, slow_bases(rows, first, other)))
 }
 
-/// Asks for each two of the commits, and of one that the source lacks, on one graph.
-fn agrees_with_sets(rt: &HostRuntime, rows: &[Row<'_>]) -> Result<bool, Fail> {
-    let alloc = rt.alloc();
-    let mut graph = Graph::new(alloc, source_of(alloc, rows)?);
+/// Whether the answers for each two of the commits, and for one that the source lacks, are those of the sets.
+fn agrees(
+    alloc: Global,
+    graph: &mut Graph<MemorySource, Commit<Flags>>,
+    rows: &[Row<'_>],
+) -> Result<bool, Error> {
     for first in 1..10u8 {
         for other in 1..10u8 {
-            let want = slow_bases(alloc, rows, first, other)?;
-            if !answers(alloc, &mut graph, first, other, &want)? {
+            if !agrees_at(alloc, graph, rows, first, other)? {
                 return Ok(false);
             }
         }
@@ -107,21 +103,28 @@ fn agrees_with_sets(rt: &HostRuntime, rows: &[Row<'_>]) -> Result<bool, Fail> {
     Ok(true)
 }
 
+/// The same, on one new graph.
+fn agrees_anew(alloc: Global, rows: &[Row<'_>]) -> Result<bool, AllocError> {
+    let mut graph = Graph::new(alloc, source_of(alloc, rows)?);
+    Ok(agrees(alloc, &mut graph, rows) == Ok(true))
+}
+
+/// A history, two commits, and their bases.
+const CASES: [(&[Row<'static>], u8, u8, &[u8]); 3] = [
+    (&CRISS_CROSS, 4, 5, &[2, 3]),
+    (&OLDER_CHILD, 3, 4, &[2]),
+    (&OLD_PATH, 6, 7, &[5]),
+];
+
 #[test]
 fn bases_are_those_of_the_sets(rt: HostRuntime) -> Result<(), Fail> {
-    let alloc = rt.alloc();
-    let cases: [(&[Row<'static>], u8, u8, &[u8]); 3] = [
-        (&CRISS_CROSS, 4, 5, &[2, 3]),
-        (&OLDER_CHILD, 3, 4, &[2]),
-        (&OLD_PATH, 6, 7, &[5]),
-    ];
-    for (rows, first, other, bases) in cases {
-        assert_eq!(rt;
-            slow_bases(alloc, rows, first, other)?.as_slice(),
-            bases,
-            "{first} and {other}"
-        );
-        assert!(rt; agrees_with_sets(&rt, rows)?, "{first} and {other}");
+    for (rows, first, other, bases) in CASES {
+        let mut want: u16 = 0;
+        for base in bases {
+            want |= one(*base);
+        }
+        assert_eq!(rt; slow_bases(rows, first, other), want, "{first} and {other}");
+        assert!(rt; agrees_anew(rt.alloc(), rows)?, "{first} and {other}");
     }
     Ok(())
 }

@@ -2,8 +2,8 @@
 
 ghost use Rattle.std.specs.Prelude.{◌≡◌};
 
-use gix_base::hash::ObjectId;
 use gix_revision::graph::{Find, FindFault, SourceCommit};
+use gix_revision::hash::ObjectId;
 use std::alloc::Allocator;
 
 /// Which look-up is refused.
@@ -27,13 +27,8 @@ pub struct Failing<F: Find> {
 }
 
 impl<F: Find> Failing<F> {
-    ghost use Rattle.gix_vectors.specs.Sources.{source_behind, failing_count, is_turn, next_turn};
-
     /// Refuses by `fault` where it is the turn, and begins its count of faults at `faults`.
-    pub fn new(inner: F, turn: Turn, fault: FindFault, faults: u64) -> Self
-        ensures source { source_behind result ≡ inner }
-        ensures faults { failing_count result ≡ faults }
-    {
+    pub fn new(inner: F, turn: Turn, fault: FindFault, faults: u64) -> Self {
         Failing {
             inner,
             turn,
@@ -44,8 +39,6 @@ impl<F: Find> Failing<F> {
 
     /// Whether it is the turn of a look-up for `id`, which is then made.
     fn is_due(&mut self, id: ObjectId) -> bool
-        ensures due { result ≡ is_turn self.old.turn id }
-        ensures next { self.new.turn ≡ next_turn self.old.turn }
         ensures source { self.new.inner ≡ self.old.inner }
         ensures faults { self.new.faults ≡ self.old.faults }
     {
@@ -65,11 +58,9 @@ impl<F: Find> Failing<F> {
 }
 
 impl<F: Find> Find for Failing<F> {
-    ghost use Rattle.gix_vectors.specs.Sources.{source_behind, failing_count};
+    ghost history = { λ s. F.history s.inner };
 
-    ghost history = { λ s. F.history (source_behind s) };
-
-    ghost fault_count = { failing_count };
+    ghost fault_count = { λ s. s.faults };
 
     fn find<A: Allocator + Copy>(
         &mut self,
@@ -100,13 +91,8 @@ pub struct Counting<F: Find> {
 }
 
 impl<F: Find> Counting<F> {
-    ghost use Rattle.gix_vectors.specs.Sources.{source_counted, questions_of};
-
     /// No look-up was made yet.
-    pub fn new(inner: F) -> Self
-        ensures source { source_counted result ≡ inner }
-        ensures questions { questions_of result ≡ 0 }
-    {
+    pub fn new(inner: F) -> Self {
         Counting {
             inner,
             questions: 0,
@@ -114,19 +100,15 @@ impl<F: Find> Counting<F> {
     }
 
     /// How many look-ups were made, or the greatest `u64` where that many or more were.
-    pub fn questions(&self) -> u64
-        ensures { result ≡ questions_of self.now }
-    {
+    pub fn questions(&self) -> u64 {
         self.questions
     }
 }
 
 impl<F: Find> Find for Counting<F> {
-    ghost use Rattle.gix_vectors.specs.Sources.{source_counted};
+    ghost history = { λ s. F.history s.inner };
 
-    ghost history = { λ s. F.history (source_counted s) };
-
-    ghost fault_count = { λ s. F.fault_count (source_counted s) };
+    ghost fault_count = { λ s. F.fault_count s.inner };
 
     fn find<A: Allocator + Copy>(
         &mut self,

@@ -2,5 +2,4 @@ pub mod Reads
 pub mod Fields
 pub mod Left
 pub mod Numbers
-pub mod Stops
 pub mod Recorder

@@ -1,7 +1,6 @@
 //! The answers to the commands of a session, printed in order.
 
-ghost use Rattle.std.specs.Prelude.{IfErr};
-ghost use Rattle.revtool.specs.Stops.{IsUnreadable};
+ghost use Rattle.std.specs.Prelude.{◌≡◌, IfErr};
 
 mod bases;
 mod described;
@@ -49,7 +48,7 @@ pub(crate) fn answer_all<W: Write, A: Allocator + Copy>(
     session: Session<'_, A>,
     output: &mut W,
 ) -> Result<Outcome, Stop>
-    ensures { IfErr result (λ stop. ¬ IsUnreadable stop) }
+    ensures { IfErr result (λ stop. stop ≡ Stop.UnwritableOutput) }
 {
     let Session {
         source,
@@ -60,25 +59,30 @@ pub(crate) fn answer_all<W: Write, A: Allocator + Copy>(
         bases: Graph::new(alloc, &source),
         descriptions: Graph::new(alloc, &source),
     };
-    let mut output = match BufWriter::new(alloc, output) {
-        Ok(output) => output,
-        Err(_) => return Err(Stop::OutOfMemory),
+    let answered = match answer_held(alloc, refusals, &commands, &options, &mut graphs, output) {
+        Some(answered) => answered,
+        None => answer_each(alloc, refusals, &commands, &options, &mut graphs, output),
     };
-    match answer_each(
-        alloc,
-        refusals,
-        &commands,
-        &options,
-        &mut graphs,
-        &mut output,
-    ) {
+    match answered {
         Ok(outcome) => Ok(outcome),
-        Err(_) => {
-            // Dropped as a whole, the writer would try once more to write what it holds.
-            let _ = output.into_parts();
-            Err(Stop::UnwritableOutput)
-        }
+        Err(_) => Err(Stop::UnwritableOutput),
     }
+}
+
+// Each answer by way of a buffer; `None` where there is no memory for one.
+fn answer_held<W: Write, A: Allocator + Copy>(
+    alloc: A,
+    refusals: Global,
+    commands: &[Command<'_, A>],
+    options: &Options<'_, A>,
+    graphs: &mut Graphs<'_, A>,
+    output: &mut W,
+) -> Option<io::Result<Outcome>> {
+    let mut held = BufWriter::new(alloc, output).ok()?;
+    let answered = answer_each(alloc, refusals, commands, options, graphs, &mut held);
+    // Dropped as a whole, the writer would try once more to write what it holds.
+    let _ = held.into_parts();
+    Some(answered)
 }
 
 // Each answer, and then whatever a buffer still holds.

@@ -8,8 +8,8 @@ ghost use Rattle.revtool.specs.Fields.{fields_of, fields_of_rest};
 ghost use Rattle.revtool.specs.Numbers.{IsTime, IsNumber};
 
 use bstr::ByteSlice;
-use gix_base::hash::ObjectId;
-use gix_revision::graph::memory::InsertError;
+use gix_revision::graph::InsertError;
+use gix_revision::hash::ObjectId;
 use std::alloc::{AllocFailed, Allocator};
 
 /// Why a line was not read.

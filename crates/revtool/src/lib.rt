@@ -4,9 +4,8 @@
 //! and commands (`session`), and answers the commands in order (`answers`).
 #![tactic(auto)]
 
-ghost use Rattle.std.specs.Prelude.{◌≡◌, ◌≤◌, OnOk, IfErr};
+ghost use Rattle.std.specs.Prelude.{◌≡◌, ◌≢◌, ◌≤◌, ◌⊎◌, OnOk, IfErr};
 ghost use Rattle.std.specs.Io.KnownBytes.{IsAtEnd, Keeps};
-ghost use Rattle.revtool.specs.Stops.{IsUnreadable};
 
 mod answers;
 mod fields;
@@ -24,10 +23,10 @@ use stop::Stop;
 /// Reads `input` to its end, answers its commands on `output`, and gives the exit status.
 ///
 /// The status is 0 where no command was refused, and 1 where one was. Where the commands were not
-/// answered, or not all, a line on `faults` says why: `cannot read standard input` (status 2),
-/// `line N is unreadable` (2, and nothing is written to `output`), or `out of memory` (1). Where
-/// `output` can't be written the status is 2, and nothing more is written to either. A failed write
-/// to `faults` changes no status.
+/// answered, a line on `faults` says why: `cannot read standard input` (status 2), `line N is
+/// unreadable` (2), or `out of memory` (1); nothing was written to `output` then. Where `output`
+/// can't be written the status is 2, and nothing more is written to either. A failed write to
+/// `faults` changes no status.
 ///
 /// All memory comes from `alloc`. `refusals` is where a delegate's refusal would live, which takes none.
 pub fn run<R: Read, W: Write, E: Write, A: Allocator + Copy>(
@@ -40,6 +39,9 @@ pub fn run<R: Read, W: Write, E: Write, A: Allocator + Copy>(
     ensures status { result ≤ 2 }
     ensures read { result ≡ 0 → IsAtEnd (R.remaining input.new) }
     ensures quiet { result ≡ 0 → Keeps (E.contents faults.old) (E.contents faults.new) }
+    // Nothing was written to one of the two.
+    ensures untouched { Keeps (E.contents faults.old) (E.contents faults.new)
+        ⊎ Keeps (W.contents output.old) (W.contents output.new) }
 {
     match answer_input(alloc, refusals, input, output) {
         Ok(Outcome::Answered) => 0,
@@ -59,7 +61,7 @@ fn answer_input<R: Read, W: Write, A: Allocator + Copy>(
     output: &mut W,
 ) -> Result<Outcome, Stop>
     ensures read { OnOk result (IsAtEnd (R.remaining input.new)) }
-    ensures untouched { IfErr result (λ stop. IsUnreadable stop
+    ensures untouched { IfErr result (λ stop. stop ≢ Stop.UnwritableOutput
         → Keeps (W.contents output.old) (W.contents output.new)) }
 {
     let text = input::read_all(alloc, input)?;

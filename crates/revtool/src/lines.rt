@@ -1,8 +1,8 @@
 //! What a line says: a commit of the source, a name, or a command.
 
 use crate::fields::{Fields, LineFault, read_generation, read_time};
-use gix_base::hash::ObjectId;
 use gix_revision::graph::SourceCommit;
+use gix_revision::hash::ObjectId;
 use std::alloc::Allocator;
 
 /// What a line says.

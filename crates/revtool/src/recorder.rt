@@ -1,16 +1,15 @@
 //! A delegate that accepts every call, and writes each down as it is printed.
 
-ghost use Rattle.gix_spec.specs.Answer.{answer_of};
+ghost use Rattle.gix_revision.specs.Answer.{answer_of};
 ghost use Rattle.revtool.specs.Recorder.{IsNoRefusal};
 
-use gix_base::error::Exn;
-use gix_base::hash::Prefix;
-use gix_base::object;
-use gix_spec::spec;
-use gix_spec::spec::parse::Delegate;
-use gix_spec::spec::parse::delegate::{
+use gix_revision::error::Exn;
+use gix_revision::hash::Prefix;
+use gix_revision::spec::parse::Delegate;
+use gix_revision::spec::parse::delegate::{
     Kind, Listener, Navigate, PeelTo, PrefixHint, ReflogLookup, Revision, SiblingBranch, Traversal,
 };
+use gix_revision::{object, spec};
 use std::alloc::{Allocator, Global};
 use std::io::{self, Write};
 

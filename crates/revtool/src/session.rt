@@ -4,9 +4,9 @@
 use crate::fields::LineFault;
 use crate::lines::{Command, Line, read_line};
 use crate::stop::Stop;
-use gix_base::hash::ObjectId;
 use gix_revision::describe::Options;
 use gix_revision::graph::MemorySource;
+use gix_revision::hash::ObjectId;
 use std::alloc::Allocator;
 use std::borrow::CowSlice;
 

@@ -1,6 +1,7 @@
 //! Why commands were not answered, or not all of them.
 
 ghost use Rattle.std.specs.Prelude.{◌≡◌, ◌≤◌, ◌<◌};
+ghost use Rattle.std.specs.Io.KnownBytes.{Keeps};
 
 use std::alloc::{AllocError, AllocFailed};
 use std::io::Write;
@@ -42,7 +43,10 @@ impl Stop {
     }
 
     /// Writes a line that says why; none where the output failed. A failed write is let go.
-    pub(crate) fn report<E: Write>(self, faults: &mut E) {
+    pub(crate) fn report<E: Write>(self, faults: &mut E)
+        ensures { self ≡ Stop.UnwritableOutput
+            → Keeps (E.contents faults.old) (E.contents faults.new) }
+    {
         let _ = match self {
             Stop::UnreadableInput => writeln!(faults, "cannot read standard input"),
             Stop::UnreadableLine(number) => writeln!(faults, "line {number} is unreadable"),

@@ -2,9 +2,9 @@
 
 use crate::answers::Outcome;
 use crate::lines::Heads;
-use gix_base::error::NonEmpty;
-use gix_base::hash::ObjectId;
+use gix_revision::error::NonEmpty;
 use gix_revision::graph::{Commit, Graph, MemorySource};
+use gix_revision::hash::ObjectId;
 use gix_revision::merge_base::{self, Flags, merge_base, octopus};
 use std::alloc::Allocator;
 use std::io::{self, Write};

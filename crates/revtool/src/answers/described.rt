@@ -1,10 +1,10 @@
 //! The answers to `describe` lines, on a graph of their own.
 
 use crate::answers::Outcome;
-use gix_base::error::Message;
-use gix_base::hash::ObjectId;
 use gix_revision::describe::{self, Options, describe};
+use gix_revision::error::Message;
 use gix_revision::graph::{Graph, MemorySource};
+use gix_revision::hash::ObjectId;
 use std::alloc::Allocator;
 use std::io::{self, Write};
 

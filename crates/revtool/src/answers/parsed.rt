@@ -2,8 +2,8 @@
 
 use crate::answers::Outcome;
 use crate::recorder::Recorder;
-use gix_base::date::Time;
-use gix_spec::spec::parse::{Error, parse};
+use gix_revision::date::Time;
+use gix_revision::spec::parse::{Error, parse};
 use std::alloc::{Allocator, Global};
 use std::io::{self, Write};
 

@@ -1,0 +1,132 @@
+//! Painting, the reduction and the counts of pops, on worked histories.
+
+use crate::histories::{CRISS_CROSS, OLD_PATH, OLDER_CHILD, Row, id, ids, source_of};
+use gix_base::error::NonEmpty;
+use gix_base::hash::ObjectId;
+use gix_revision::graph::{Commit, Graph, MemorySource};
+use gix_revision::merge_base::{Flags, counted, paint, reduce};
+use std::alloc::Global;
+use std::test::Fail;
+
+/// A line of three commits with two heads: what lies below 2 need not be looked at.
+const NEAR: [Row<'static>; 5] = [
+    Row(1, 1, None, &[]),
+    Row(2, 2, None, &[1]),
+    Row(3, 3, None, &[2]),
+    Row(4, 4, None, &[3]),
+    Row(5, 4, None, &[3]),
+];
+
+/// Two bases, of which 3 is the newer one.
+const BY_TIME: [Row<'static>; 5] = [
+    Row(1, 1, None, &[]),
+    Row(2, 2, None, &[1]),
+    Row(3, 3, None, &[1]),
+    Row(4, 4, None, &[2, 3]),
+    Row(5, 4, None, &[2, 3]),
+];
+
+/// The same, where 2 has the greater generation.
+const BY_GENERATION: [Row<'static>; 5] = [
+    Row(1, 1, Some(1), &[]),
+    Row(2, 2, Some(3), &[1]),
+    Row(3, 3, Some(2), &[1]),
+    Row(4, 4, Some(4), &[2, 3]),
+    Row(5, 4, Some(4), &[2, 3]),
+];
+
+/// Between 3 and 1, which are found as common ones, lies 2, which is older than both; a third one has
+/// a greater generation.
+const SKEWED: [Row<'static>; 6] = [
+    Row(1, 50, Some(1), &[]),
+    Row(2, 0, Some(1), &[1]),
+    Row(3, 1, Some(1), &[2]),
+    Row(4, 1, Some(5), &[]),
+    Row(5, 100, None, &[3, 1, 4]),
+    Row(6, 90, None, &[3, 1, 4]),
+];
+
+/// A history, two commits of it, their merge bases, and the pops where they are worked out.
+type Worked = (&'static [Row<'static>], u8, u8, &'static [u8], Option<u128>);
+
+const WORKED: [Worked; 8] = [
+    (&OLDER_CHILD, 3, 4, &[2], Some(7)),
+    (&NEAR, 4, 5, &[3], Some(4)),
+    (&CRISS_CROSS, 4, 4, &[4], Some(0)),
+    (&CRISS_CROSS, 4, 5, &[2, 3], None),
+    (&BY_TIME, 4, 5, &[3, 2], None),
+    (&BY_GENERATION, 4, 5, &[2, 3], None),
+    (&SKEWED, 5, 6, &[3, 4], None),
+    (&OLD_PATH, 6, 7, &[5], None),
+];
+
+/// Whether the list has exactly these ids, in any order.
+fn is_set(list: &[ObjectId], want: &[u8]) -> bool {
+    list.len() == want.len() && want.iter().all(|n| list.contains(&id(*n)))
+}
+
+/// Whether the answer is these bases, in any order.
+fn are_bases(found: &Option<NonEmpty<ObjectId>>, want: &[u8]) -> bool {
+    match found {
+        Some(list) => {
+            want.len() == list.len() && want.iter().all(|n| list.iter().any(|base| *base == id(*n)))
+        }
+        None => want.is_empty(),
+    }
+}
+
+/// Whether `counted` answers these bases, with these pops where they are known.
+fn counts(
+    alloc: Global,
+    graph: &mut Graph<MemorySource, Commit<Flags>>,
+    worked: &Worked,
+) -> Result<bool, Fail> {
+    let (_, first, other, bases, pops) = worked;
+    let (found, made) = counted(alloc, id(*first), &[id(*other)], graph)?;
+    Ok(are_bases(&found, bases) && pops.is_none_or(|pops| pops == made))
+}
+
+/// Whether the call answers alike on a fresh graph, and on one that a call the other way round left.
+fn counts_alike(alloc: Global, worked: &Worked) -> Result<bool, Fail> {
+    let (rows, first, other, _, _) = worked;
+    let mut graph = Graph::new(alloc, source_of(alloc, rows)?);
+    let fresh = counts(alloc, &mut graph, worked)?;
+    let _ = paint(alloc, id(*other), &[id(*first)], &mut graph)?;
+    Ok(fresh && counts(alloc, &mut graph, worked)?)
+}
+
+#[test]
+fn pops_of_worked_histories(rt: HostRuntime) -> Result<(), Fail> {
+    for worked in &WORKED {
+        assert!(rt;
+            counts_alike(rt.alloc(), worked)?,
+            "{} and {}",
+            worked.1,
+            worked.2
+        );
+    }
+    Ok(())
+}
+
+/// Whether painting finds 1 and 2 of the history with an older child, and of these and of an id that
+/// the source lacks the reduction leaves the last two.
+fn paints_and_reduces(alloc: Global) -> Result<bool, Fail> {
+    let mut graph = Graph::new(alloc, source_of(alloc, &OLDER_CHILD)?);
+    let (painted, pops) = paint(alloc, id(3), &[id(4)], &mut graph)?;
+    let left = reduce(alloc, &ids(alloc, &[1, 2, 9])?, &mut graph)?;
+    Ok(is_set(&painted, &[1, 2]) && pops == 7 && left.as_slice() == [id(2), id(9)].as_slice())
+}
+
+/// Whether a walk to a near base leaves the far end of the line alone.
+fn leaves_the_far_end(alloc: Global) -> Result<bool, Fail> {
+    let mut graph = Graph::new(alloc, source_of(alloc, &NEAR)?);
+    let _ = counted(alloc, id(4), &[id(5)], &mut graph)?;
+    Ok(graph.contains(&id(2)) && !graph.contains(&id(1)))
+}
+
+#[test]
+fn painting_and_reduction_by_themselves(rt: HostRuntime) -> Result<(), Fail> {
+    assert!(rt; paints_and_reduces(rt.alloc())?);
+    assert!(rt; leaves_the_far_end(rt.alloc())?);
+    Ok(())
+}
