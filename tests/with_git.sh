@@ -1,13 +1,23 @@
 # What the comparisons with git share: a room of their own, with no settings of the user's, commits at given times, and
 # the questions that are put to git and to bin/revtool. To be sourced by the scripts of tests/git.
-set -eu
-top=$(cd "$(dirname "$0")/../.." && pwd)
+set -euo pipefail
+top=$(CDPATH='' cd -- "$(dirname -- "$(readlink -f -- "$0")")/../.." && pwd -P)
+
+# Ends a comparison that can not be made here.
+skip() {
+    echo "skipped: $1"
+    exit 77
+}
+command -v git >/dev/null || skip "git is not installed"
+
 room=$(mktemp -d)
 trap 'rm -rf "$room"' EXIT
 
+# Neither a repository that this is called from, nor the user's settings.
+mapfile -t variables < <(git rev-parse --local-env-vars)
+unset "${variables[@]}" GIT_CEILING_DIRECTORIES
 export HOME=$room GIT_CONFIG_NOSYSTEM=1 GIT_CONFIG_GLOBAL=/dev/null GIT_DEFAULT_HASH=sha1
 export GIT_AUTHOR_NAME=a GIT_AUTHOR_EMAIL=a@example.org GIT_COMMITTER_NAME=a GIT_COMMITTER_EMAIL=a@example.org
-unset GIT_DIR GIT_WORK_TREE GIT_INDEX_FILE GIT_OBJECT_DIRECTORY GIT_CEILING_DIRECTORIES 2>/dev/null || true
 repository=$room/repository
 declare -a ids=()
 
@@ -28,54 +38,104 @@ make() {
     git update-ref "refs/heads/commit-$((${#ids[@]} - 1))" "${ids[-1]}"
 }
 
+# A copy of this project's own history without its tags, where there is one of at least five commits.
+begin_with_own_history() {
+    local found
+    if ! found=$(git -C "$top" rev-parse --show-toplevel 2>&1); then
+        skip "git opens no checkout of this project: ${found%%$'\n'*}"
+    fi
+    [ "$found" = "$top" ] || skip "this is no checkout of its own"
+    [ "$(git -C "$top" rev-parse --is-shallow-repository)" = false ] || skip "this is a shallow clone"
+    git clone -q --bare "$top" "$repository"
+    cd "$repository"
+    git for-each-ref --format='delete %(refname)' refs/tags | git update-ref --stdin
+    mapfile -t ids < <(git rev-list --all)
+    [ "${#ids[@]}" -ge 5 ] || skip "this checkout has a history of fewer than five commits"
+}
+
 # Puts a tag on every third commit by first parents back from one, at most nine. Each tag's commit is an ancestor of the
-# next one's, so that the nearest of them is one alone.
+# next one's, so that the nearest of them is one alone. Every other tag is annotated.
 tag_back_from() {
     local commit=$1 tag
     for tag in 9 8 7 6 5 4 3 2 1; do
         commit=$(git rev-parse -q --verify "$commit~3") || break
-        git tag "v$tag" "$commit"
+        if [ $((tag % 2)) -eq 0 ]; then git tag -a -m "$tag" "v$tag" "$commit"; else git tag "v$tag" "$commit"; fi
     done
+}
+
+# Whether some commit is older than one of its parents, or as old as one that has another child, too: git, which takes
+# commits by their times, may then meet the parent first and count it once too often.
+has_skewed_clocks() {
+    git log --all --format='%H %ct %P' | awk '
+        { time[$1] = $2; for (i = 3; i <= NF; i++) { child[++edges] = $1; parent[edges] = $i; children[$i]++ } }
+        END {
+            for (i = 1; i <= edges; i++) {
+                late = time[parent[i]] - time[child[i]]
+                if (late > 0 || (late == 0 && children[parent[i]] > 1)) skewed = 1
+            }
+            exit !skewed
+        }'
+}
+
+# What git says of the merge bases of ids, as bin/revtool says it. Only status 1 means that there is none.
+bases_by_git() {
+    local found status=0
+    found=$(git merge-base --all "$@") || status=$?
+    case $status in
+        0) echo "base $(sort <<<"$found" | paste -s -d ' ' -)" ;;
+        1) echo "base none" ;;
+        *) return "$status" ;;
+    esac
 }
 
 # Compares `base` lines with `git merge-base --all`. Each argument is a question: ids parted by spaces.
 compare_bases() {
-    local question found
+    local question
     for question in "$@"; do
-        # git answers with status 1 where there is no base.
         # shellcheck disable=SC2086
-        found=$(git merge-base --all $question | sort | tr '\n' ' ' || true)
-        echo "base ${found:-none }"
-    done | sed 's/ $//' >"$room/wanted"
+        bases_by_git $question || return
+    done >"$room/wanted"
     {
         "$top/bin/from-git" .
         printf 'base %s\n' "$@"
     } | "$top/bin/revtool" >"$room/answered"
     if ! cmp "$room/answered" "$room/wanted"; then
-        paste -d '|' <(printf '%s\n' "$@") "$room/answered" "$room/wanted" | awk -F '|' '$2 != $3' | head -n 5
-        exit 1
+        paste -d '|' <(printf '%s\n' "$@") "$room/answered" "$room/wanted" |
+            awk -F '|' '$2 != $3 && differing++ < 5'
+        return 1
     fi
     echo "git agrees on $# merge bases of ${#ids[@]} commits"
 }
 
+# What git says of a commit by the tags, as bin/revtool says it: it leaves out a depth of 0 and the digits after it, and
+# prints seven digits where git prints as many as no other object begins with, seven at least.
+description_by_git() {
+    local said
+    # Where no tag is on its way git answers the digits alone.
+    said=$(git describe --tags --long --always --abbrev=7 "$1")
+    if [[ $said =~ ^(v[0-9]+)-([0-9]+)-g([0-9a-f]{7})[0-9a-f]*$ ]]; then
+        if [ "${BASH_REMATCH[2]}" -eq 0 ]; then
+            echo "describe ${BASH_REMATCH[1]}"
+        else
+            echo "describe ${BASH_REMATCH[1]}-${BASH_REMATCH[2]}-g${BASH_REMATCH[3]}"
+        fi
+    else
+        echo "describe none"
+    fi
+}
+
 # Compares the `describe` lines of all commits with `git describe --tags --long`.
 compare_descriptions() {
-    local id said
-    for id in "${ids[@]}"; do
-        # git answers with another status where no tag is reachable.
-        if said=$(git describe --tags --long --abbrev=7 "$id" 2>/dev/null); then
-            # revtool leaves out a depth of 0 and the digits after it.
-            echo "describe $said" | sed 's/-0-g[0-9a-f]*$//'
-        else
-            echo "describe none"
-        fi
-    done >"$room/wanted"
+    local id
+    for id in "${ids[@]}"; do description_by_git "$id" || return; done >"$room/wanted"
     {
-        "$top/bin/from-git" .
-        git for-each-ref refs/tags --format='name %(objectname) %(refname:short)'
+        "$top/bin/from-git" --names .
         printf 'describe %s\n' "${ids[@]}"
     } | "$top/bin/revtool" >"$room/answered"
-    cmp "$room/answered" "$room/wanted"
-    grep -q 'describe v' "$room/answered"
+    if ! cmp "$room/answered" "$room/wanted"; then
+        paste -d '|' "$room/answered" "$room/wanted" | awk -F '|' '$1 != $2 && differing++ < 5'
+        return 1
+    fi
+    grep -q '^describe v' "$room/answered"
     echo "git agrees on the descriptions of ${#ids[@]} commits"
 }
