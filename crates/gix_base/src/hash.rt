@@ -1,6 +1,8 @@
 //! Ids and prefixes.
 
-ghost use Rattle.std.specs.Prelude.{◌≡◌, ◌≢◌, ◌↔◌, ◌≤◌, ◌<◌, ◌++◌, length, take, drop, min, IsOk, IfOk, IfErr, IsErrOf, Some, ◌⊎◌};
+ghost use Rattle.std.proofs.Common.{rules};
+ghost use Rattle.std.specs.Cmp.Rules.{hashing};
+ghost use Rattle.std.specs.Prelude.{◌≡◌, ◌≢◌, ◌↔◌, ◌≤◌, ◌<◌, ◌∷◌, [], ◌++◌, length, take, drop, min, IsOk, IfOk, IfErr, IsErrOf, Some, ◌⊎◌};
 ghost use Rattle.hex.specs.Hex.{IsBytes};
 ghost use Rattle.std.specs.Str.{str_to_ascii_lowercase};
 ghost use Rattle.gix_base.specs.Digits.{HasOther, digits_of, bytes_of};
@@ -10,6 +12,7 @@ ghost use Rattle.gix_base.specs.HexError.{error_text};
 use hex::FromHex;
 use std::cmp::Ordering;
 use std::fmt;
+use std::hash::{Hash, Hasher};
 use thiserror::Error;
 
 /// Why a text of hex digits was not read.
@@ -41,8 +44,19 @@ impl fmt::Display for HexError {
 /// The SHA-1 id of an object: gitglossary, "object name".
 ///
 /// Ordered by its bytes: the first that differs decides.
-#[derive(Clone, Copy, Debug, PartialEq, Eq, PartialOrd, Ord, Hash)]
+#[derive(Clone, Copy, Debug, PartialEq, Eq, PartialOrd, Ord)]
 pub struct ObjectId(pub [u8; 20]);
+
+/// By one write of its 20 bytes, since each look-up of an id hashes it.
+impl Hash for ObjectId {
+    ghost hash_input = { λ id. id.0 ∷ [] };
+
+    ghost respects_eq = { Prim.search (hashing, rules) };
+
+    fn hash<H: Hasher>(&self, state: &mut H) {
+        state.write(&self.0);
+    }
+}
 
 impl ObjectId {
     /// The id that 40 hex digits name, letters in either case (git-rev-parse, "Specifying

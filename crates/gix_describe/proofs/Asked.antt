@@ -1,12 +1,20 @@
 -- Questions to a source, one after another.
-use Rattle.std.proofs.Common.{◌≡◌, ℕ, false, sym, ap, subst, ◌∙◌, Option, Some, None}
-use Rattle.std.specs.Prelude.{IfSome}
+use Rattle.std.proofs.Common.{◌≡◌, ℕ, false, sym, ap, subst, ◌∙◌, Option, Some, None, Result, Err}
+use Rattle.std.specs.Prelude.{IfSome, IsErrAnd}
+use Rattle.std.proofs.lemmas.Result.{err_from_is_err_and}
 use Rattle.gix_base.specs.declared.error.message.Message.{Message}
 use Rattle.gix_base.specs.declared.error.message.Message.TheVariants.{OutOfMemory}
 use Rattle.gix_revwalk.specs.History.{History}
 use Rattle.gix_revwalk.specs.Faults.{count_after}
 use Rattle.gix_describe.specs.Asks.{Asks}
-use Rattle.gix_describe.specs.DescribeRefusals.{is_parents_fault, is_for_source}
+use Rattle.gix_describe.specs.DescribeRefusals.{is_parents_fault, is_for_source, refusal}
+
+-- what a `?` returns is the refusal that came
+pub err_came : {T : Type 0} (r : Result T Message) (e : Message) → IsErrAnd r (λ x. x ≡ e) → r ≡ Err e
+err_came r e is = let p = err_from_is_err_and r is in p.1 ∙ ap Err p.2
+
+pub refusal_came : {T : Type 0} (r : Result T Message) (e : Message) → IsErrAnd r (λ x. x ≡ e) → refusal r ≡ Some e
+refusal_came r e is = ap refusal (err_came r e is)
 
 module _ {S : Type 0} (history : S → History) (faults : S → ℕ) where
   -- a cause is one for more

@@ -18,7 +18,7 @@ pub mod Settles
 pub mod Traces
 pub mod Handing
 pub mod Marking
-pub mod HandsOn
+pub mod LookedUp
 pub mod WalkQueue
 pub mod WalkSteps
 pub mod Choosing

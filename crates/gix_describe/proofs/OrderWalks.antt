@@ -160,7 +160,7 @@ pub order_goes : (h : History) (s : ObjectId) (n : ℕ) (xs : List ObjectId) →
 order_goes h s zero xs has w s_in room = elim (next_or_none h s xs s_in) as (λ _. (zs : List ObjectId) × GoesOn h xs zs) [
   | inl none ↦ (xs, ended xs (λ c u. none c (unlisted_open h s xs c u)))
   | inr r ↦
-      let more = bounded h s (xs ++ r.0 ∷ []) (goes_more h s xs r.0 w r.1) (inr has) in
+      let more = bounded h s (xs ++ r.0 ∷ []) (goes_more h s xs r.0 w r.1) has in
       let len : length (xs ++ r.0 ∷ []) ≡ length xs + 1 = length_push xs r.0 in
       absurd (omega (arith, more))
 ]

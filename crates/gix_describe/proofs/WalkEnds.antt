@@ -5,13 +5,13 @@ use Rattle.std.proofs.lemmas.List.{length_push}
 use Rattle.std.proofs.lemmas.Map.Keys.{IsDistinct-push}
 use Rattle.gix_base.specs.declared.hash.ObjectId.{ObjectId}
 use Rattle.gix_revwalk.specs.Graph.{Graphed, held_at}
-use Rattle.gix_revwalk.specs.History.{History, is_one_of, Has, IsAncestor}
+use Rattle.gix_revwalk.specs.History.{History, is_one_of, IsAncestor}
 use Rattle.gix_revwalk.specs.Sizes.{HasSize, AtMost}
 use Rattle.gix_revwalk.proofs.Ids.{same_id-laws}
 use Rattle.gix_revwalk.proofs.Members.{one_of-at, one_of-filter, one_of-filtered, one_of-cases, one_of-single, distinct_filter}
 use Rattle.gix_describe.specs.Described.{Names, name_at, IsNamed, IsNamedAncestor, IsNamedBy}
 use Rattle.gix_describe.specs.Trace.{is_edge, is_met, is_open, late_of, is_named, IsNext, IsWalk}
-use Rattle.gix_describe.specs.Handing.{IsLowest, key_of}
+use Rattle.gix_describe.specs.Handing.{IsLowest}
 use Rattle.gix_describe.specs.Choice.{rank_at, IsChosen, IsFound}
 use Rattle.gix_describe.proofs.Choosing.{choice_least}
 use Rattle.std.specs.Bool.{MatchBool}
@@ -19,7 +19,8 @@ use Rattle.gix_describe.specs.WalkState.{IsCounted, IsMarked, IsQueue, others, I
 use Rattle.gix_describe.specs.declared.describe.walk.Walk.{Walk}
 use Rattle.gix_describe.specs.declared.describe.key.Key.{Key}
 use Rattle.gix_describe.specs.Trace.IsWalk.{begins, goes}
-use Rattle.gix_describe.specs.Handing.{Queue}
+use Rattle.gix_describe.specs.declared.describe.met.Met.{Met}
+use Rattle.gix_describe.specs.Handing.{Queue, IsEntry}
 use Rattle.gix_describe.proofs.Early.{In, either, absent, frontier}
 use Rattle.gix_describe.proofs.EarlyAnswer.{early_answer}
 use Rattle.gix_describe.proofs.Traces.{Open, Marked, met_more, or_right, open_met, open_is, open_out, popped_of, counted_of}
@@ -152,17 +153,18 @@ each_counted h s names cap w g true f = f.counted.each
 each_counted h s names cap w g false e = e.counted.each
 
 -- ---- one candidate's count, as the next commit leaves the queue
-pub taken_of : {S A : Type 0} {k : Key} (h : History) (s : ObjectId) (place count : ℕ) (x : ObjectId) (cut : ℕ) (w0 w1 : Walk A) (g : Graphed S ℕ) → (e : Completes h s place count cut w0 g)
-    → (IsWalk h s e.popped → IsQueue h s w0.queue (is_open h s e.popped) → IsNext h s e.popped x × (k ≡ key_of h s x) × IsQueue h s w1.queue (others h s e.popped x))
+pub taken_of : {S A : Type 0} {k : Key} (h : History) (s : ObjectId) (place count : ℕ) (x : Met A) (cut : ℕ) (w0 w1 : Walk A) (g : Graphed S ℕ) → (e : Completes h s place count cut w0 g)
+    → (IsWalk h s e.popped → IsQueue h s w0.queue (is_open h s e.popped) → IsNext h s e.popped x.id × IsEntry h s (k, x) × IsQueue h s w1.queue (others h s e.popped x.id))
     → w1.candidates.items ≡ w0.candidates.items → w1.seen ≡ w0.seen → CompletesTaken h s place count x cut w1 g
 taken_of h s place count x cut w0 w1 g e next same seen =
     let r = next e.at.walk e.at.queue in
     record {
       popped = e.popped;
       next = r.0;
+      parents = r.1.1;
       at = record {
         walk = e.at.walk;
-        known = e.at.known;
+        has = e.at.has;
         queue = r.2;
         marked = subst (λ l. IsMarked h s e.popped l (held_at g)) (sym same) e.at.marked;
         seen = seen ∙ e.at.seen;
@@ -176,7 +178,7 @@ taken_of h s place count x cut w0 w1 g e next same seen =
     }
 
 -- ---- where the queue is empty
-none_open : (h : History) (s : ObjectId) (popped : List ObjectId) (q : Queue) → IsQueue h s q (is_open h s popped) → q ≡ [] → (c : ObjectId) → ¬ Open h s popped c
+none_open : {A : Type 0} (h : History) (s : ObjectId) (popped : List ObjectId) (q : Queue A) → IsQueue h s q (is_open h s popped) → q ≡ [] → (c : ObjectId) → ¬ Open h s popped c
 none_open h s popped q at none c o = let f : true ≡ false = sym o ∙ queue_none h s q (is_open h s popped) at (ap length none) c in cc
 
 pub start_open : (h : History) (s : ObjectId) (popped : List ObjectId) → popped ≡ [] → Open h s popped s
@@ -213,7 +215,7 @@ rests_ended h s names cap w0 w1 g e none same counts seen =
     record {
       popped = e.popped;
       walk = e.at.walk;
-      has = elim e.at.known as (λ _. Has h s) [ inl begun ↦ absurd (no s (start_open h s e.popped begun)) | inr has ↦ has ];
+      has = e.at.has;
       counted = subst (λ l. IsCounted h s e.popped l w1.counts.items) (sym same) (subst (λ l. IsCounted h s e.popped w0.candidates.items l) (sym counts) e.counted);
       named = same ∙ e.named;
       seen = seen ∙ e.at.seen;

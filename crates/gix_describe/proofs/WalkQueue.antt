@@ -1,5 +1,5 @@
 -- The queue of a walk: which commit leaves it, and what stays.
-use Rattle.std.proofs.Common.{◌≡◌, ℕ, suc, ℤ, pos, ◌-◌, ◌^◌, Bool, true, false, cond, refl, ap, sym, subst, ◌∙◌, List, [], ◌∷◌, ◌++◌, ◌⊎◌, inl, inr, ◌||◌, ◌&&◌, not, IsTrue, get_or, length, ◌<◌, arith}
+use Rattle.std.proofs.Common.{◌≡◌, ℕ, suc, ℤ, pos, ◌-◌, ◌^◌, Bool, true, false, cond, refl, ap, sym, subst, ◌∙◌, List, [], ◌∷◌, ◌++◌, ◌⊎◌, inl, inr, ◌||◌, ◌&&◌, not, IsTrue, arith}
 use Rattle.std.specs.Prelude.{int_lt, ◌<ℤ◌, All, Option, Some, None, IfSome}
 use Rattle.std.specs.List.{IsDistinct, AllByRecursion}
 use Rattle.std.specs.List.Sorted.{IsPermutation}
@@ -21,7 +21,8 @@ use Rattle.gix_describe.specs.declared.describe.key.Key.{Key}
 use Rattle.gix_describe.specs.Order.{IsBefore}
 use Rattle.gix_describe.specs.Trace.{is_open, IsNext, IsWalk}
 use Rattle.gix_describe.specs.Trace.IsWalk.{begins, goes}
-use Rattle.gix_describe.specs.Handing.{Queue, key_order, key_at, key_of, queued_ids, HasKeys}
+use Rattle.gix_describe.specs.declared.describe.met.Met.{Met}
+use Rattle.gix_describe.specs.Handing.{Queue, key_order, key_at, key_of, queued_ids, IsEntry, HasEntries}
 use Rattle.gix_describe.specs.WalkState.{IsQueue, others}
 use Rattle.gix_describe.proofs.Early.{In}
 use Rattle.gix_describe.proofs.Traces.{open_met, open_out, Open}
@@ -52,23 +53,15 @@ order_key x d t u = elim (int_lt t u) as (λ b. int_lt t u ≡ b → is_lt (orde
     ids same Greater e f = inr (inr (same, ap is_lt (nat_list_cmp_total.antisymm x.0 d.0 ∙ ap ordering_reverse e)))
 
 -- ---- what stands in a queue
-queued_at : (q : Queue) (c : ObjectId) → is_one_of (queued_ids q) c ≡ true → (i : ℕ) × (i < length q) × ((d : Key × ObjectId) → (get_or q i d).1 ≡ c)
-queued_at [] c m = absurd (let f : false ≡ true = m in cc)
-queued_at (p ∷ q) c m = elim (same_id c p.1) as (λ b. same_id c p.1 ≡ b → (b || is_one_of (queued_ids q) c) ≡ true → (i : ℕ) × (i < length (p ∷ q)) × ((d : Key × ObjectId) → (get_or (p ∷ q) i d).1 ≡ c)) [
-  | true ↦ λ e f. (0, omega arith, λ d. sym (same_id-true c p.1 e))
-  | false ↦ λ e f. let r = queued_at q c f in (suc r.0, omega (arith, r.1), r.2)
+key_in : {A : Type 0} (h : History) (s : ObjectId) (q : Queue A) (c : ObjectId) (P : Key → Type 0) → HasEntries h s q → All (λ p. P p.0) q → is_one_of (queued_ids q) c ≡ true → P (key_of h s c)
+key_in h s [] c P entries all m = absurd (let f : false ≡ true = m in cc)
+key_in h s (p ∷ q) c P entries all m = elim (same_id c p.1.id) as (λ b. same_id c p.1.id ≡ b → (b || is_one_of (queued_ids q) c) ≡ true → P (key_of h s c)) [
+  | true ↦ λ e f.
+      let entry = entries 0 p (omega arith) in
+      let key : p.0 ≡ key_of h s c = entry.0 ∙ ap (key_of h s) (sym (same_id-true c p.1.id e)) in
+      subst P key (all 0 p (omega arith))
+  | false ↦ λ e f. key_in h s q c P (λ i d lt. entries (suc i) d (omega arith)) (λ i d lt. all (suc i) d (omega arith)) f
 ] refl m
-
-key_in : (q : Queue) (key : ObjectId → Key) (c : ObjectId) (P : Key × ObjectId → Type 0) → HasKeys key q → All P q → is_one_of (queued_ids q) c ≡ true → P (key c, c)
-key_in q key c P keys all m =
-    let r = queued_at q c m in
-    let at : (get_or q r.0 (key c, c)).1 ≡ c = r.2 (key c, c) in
-    let k : (get_or q r.0 (key c, c)).0 ≡ key c = keys r.0 (key c, c) r.1 ∙ ap key at in
-    let is : get_or q r.0 (key c, c) ≡ (key c, c) = pair_of (get_or q r.0 (key c, c)) k at in
-    subst P is (all r.0 (key c, c) r.1)
-  where
-    pair_of : (p : Key × ObjectId) → p.0 ≡ key c → p.1 ≡ c → p ≡ (key c, c)
-    pair_of p e f = ap (λ (z : Key). (z, p.1)) e ∙ ap (λ (z : ObjectId). (key c, z)) f
 
 -- ---- a walk that has begun has popped its start
 pub started : (h : History) (s : ObjectId) (xs : List ObjectId) → IsWalk h s xs → (xs ≡ []) ⊎ In xs s
@@ -85,22 +78,25 @@ pub only_start : (h : History) (s c : ObjectId) → Open h s [] c → c ≡ s
 only_start h s c o = sym (same_id-true s c (sym (or_none (same_id s c)) ∙ open_met h s [] c o))
 
 -- ---- the next commit leaves the queue
-module _ (h : History) (s : ObjectId) (popped : List ObjectId) (w : IsWalk h s popped) (q0 q1 : Queue) (k : Key) (x : ObjectId) (at : IsQueue h s q0 (is_open h s popped))
-    (perm : IsPermutation q0 ((k, x) ∷ q1)) where
-  all_keys : HasKeys (key_of h s) ((k, x) ∷ q1)
-  all_keys = All-permutation (λ p. p.0 ≡ key_of h s p.1) q0 ((k, x) ∷ q1) perm at.keys
+module _ {A : Type 0} (h : History) (s : ObjectId) (popped : List ObjectId) (w : IsWalk h s popped) (q0 q1 : Queue A) (k : Key) (v : Met A) (at : IsQueue h s q0 (is_open h s popped))
+    (perm : IsPermutation q0 ((k, v) ∷ q1)) where
+  abbrev pub x : ObjectId
+  x = v.id
 
-  pub key_is : k ≡ key_of h s x
-  key_is = all_keys 0 (k, x) (omega arith)
+  all_entries : HasEntries h s ((k, v) ∷ q1)
+  all_entries = All-permutation (IsEntry h s) q0 ((k, v) ∷ q1) perm at.entries
+
+  pub entry_is : IsEntry h s (k, v)
+  entry_is = all_entries 0 (k, v) (omega arith)
 
   ids_are : (c : ObjectId) → (same_id c x || is_one_of (queued_ids q1) c) ≡ is_open h s popped c
-  ids_are c = sym (list_any-IsPermutation (same_id c) (queued_ids q0) (queued_ids ((k, x) ∷ q1)) (IsPermutation-map (λ p. p.1) q0 ((k, x) ∷ q1) perm)) ∙ at.ids c
+  ids_are c = sym (list_any-IsPermutation (same_id c) (queued_ids q0) (queued_ids ((k, v) ∷ q1)) (IsPermutation-map (λ p. p.1.id) q0 ((k, v) ∷ q1) perm)) ∙ at.ids c
 
   x_open : Open h s popped x
   x_open = sym (ids_are x) ∙ ap (λ b. b || is_one_of (queued_ids q1) x) (same_id-itself x)
 
   distinct : IsDistinct same_id (x ∷ queued_ids q1)
-  distinct = IsDistinct-IsPermutation same_id (same_id-laws.symm) (queued_ids q0) (x ∷ queued_ids q1) (IsPermutation-map (λ p. p.1) q0 ((k, x) ∷ q1) perm) at.once
+  distinct = IsDistinct-IsPermutation same_id (same_id-laws.symm) (queued_ids q0) (x ∷ queued_ids q1) (IsPermutation-map (λ p. p.1.id) q0 ((k, v) ∷ q1) perm) at.once
 
   out : is_one_of (queued_ids q1) x ≡ false
   out = none (queued_ids q1) (IsDistinct-head same_id x (queued_ids q1) distinct)
@@ -113,7 +109,7 @@ module _ (h : History) (s : ObjectId) (popped : List ObjectId) (w : IsWalk h s p
   rests = record {
     once = IsDistinct-tail same_id x (queued_ids q1) distinct;
     ids = λ c. by c (same_id c x) refl;
-    keys = λ i d lt. all_keys (suc i) d (omega arith);
+    entries = λ i d lt. all_entries (suc i) d (omega arith);
   }
     where
       by : (c : ObjectId) (b : Bool) → same_id c x ≡ b → is_one_of (queued_ids q1) c ≡ (is_open h s popped c && not (same_id x c))
@@ -134,8 +130,8 @@ module _ (h : History) (s : ObjectId) (popped : List ObjectId) (w : IsWalk h s p
     λ d o. elim (started h s popped w) as (λ _. (d ≡ x) ⊎ IsBefore h x d) [
       | inl none ↦ inl (only_start h s d (subst (λ l. Open h s l d) none o) ∙ sym (only_start h s x (subst (λ l. Open h s l x) none x_open)))
       | inr s_in ↦
-          let less : is_lt (key_order k (key_of h s d)) ≡ false = key_in q0 (key_of h s) d (λ p. is_lt (key_order k p.0) ≡ false) at.keys greatest (at.ids d ∙ o) in
-          order_key x d (time_of h x) (time_of h d) (sym (ap (λ z. is_lt (key_order z (key_of h s d))) (key_is ∙ late x (started_not x s_in x_open)) ∙ ap (λ z. is_lt (key_order (key_at (time_of h x) x) z)) (late d (started_not d s_in o))) ∙ less)
+          let less : is_lt (key_order k (key_of h s d)) ≡ false = key_in h s q0 d (λ z. is_lt (key_order k z) ≡ false) at.entries greatest (at.ids d ∙ o) in
+          order_key x d (time_of h x) (time_of h d) (sym (ap (λ z. is_lt (key_order z (key_of h s d))) (entry_is.0 ∙ late x (started_not x s_in x_open)) ∙ ap (λ z. is_lt (key_order (key_at (time_of h x) x) z)) (late d (started_not d s_in o))) ∙ less)
     ],
   )
     where
@@ -149,7 +145,7 @@ module _ (h : History) (s : ObjectId) (popped : List ObjectId) (w : IsWalk h s p
       late c e = ap (λ b. key_at (cond b (pos (2 ^ 63 - 1)) (time_of h c)) c) e
 
 -- what a pop takes out
-pub next_of : (r : Option (Key × ObjectId)) (q0 q1 : Queue) → IfSome r (λ p. IsPermutation q0 (p ∷ q1)) → IfSome r (λ p. IsGreatest key_order p.0 q0)
-    → IfSome r (λ p. (h : History) (s : ObjectId) (popped : List ObjectId) → IsWalk h s popped → IsQueue h s q0 (is_open h s popped) → IsNext h s popped p.1 × (p.0 ≡ key_of h s p.1) × IsQueue h s q1 (others h s popped p.1))
+pub next_of : {A : Type 0} (r : Option (Key × Met A)) (q0 q1 : Queue A) → IfSome r (λ p. IsPermutation q0 (p ∷ q1)) → IfSome r (λ p. IsGreatest key_order p.0 q0)
+    → IfSome r (λ p. (h : History) (s : ObjectId) (popped : List ObjectId) → IsWalk h s popped → IsQueue h s q0 (is_open h s popped) → IsNext h s popped p.1.id × IsEntry h s p × IsQueue h s q1 (others h s popped p.1.id))
 next_of None q0 q1 a b = tt
-next_of (Some p) q0 q1 a b = λ h s popped w at. (next_is h s popped w q0 q1 p.0 p.1 at a b, key_is h s popped w q0 q1 p.0 p.1 at a, rests h s popped w q0 q1 p.0 p.1 at a)
+next_of (Some p) q0 q1 a b = λ h s popped w at. (next_is h s popped w q0 q1 p.0 p.1 at a b, entry_is h s popped w q0 q1 p.0 p.1 at a, rests h s popped w q0 q1 p.0 p.1 at a)

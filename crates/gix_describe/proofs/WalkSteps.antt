@@ -8,7 +8,7 @@ use Rattle.std.specs.declared.borrow.CowSlice.{CowSlice}
 use Rattle.gix_describe.specs.Outcomes.{names_of}
 use Rattle.gix_describe.proofs.NamesFound.{name_at-names_of}
 use Rattle.std.specs.Int.{bit_at}
-use Rattle.std.specs.List.{filter}
+use Rattle.std.specs.List.{filter, list_any}
 use Rattle.std.specs.List.Sorted.{IsPermutation}
 use Rattle.std.proofs.lemmas.List.{length_push, get_or_push, get_or_append_left, append-nil}
 use Rattle.std.proofs.lemmas.List.Elements.{filter-append}
@@ -29,11 +29,12 @@ use Rattle.gix_describe.specs.Described.{Names, name_at, IsNamed}
 use Rattle.gix_describe.specs.Asks.{IsHandRefused, IsWalkRefused}
 use Rattle.gix_describe.specs.Trace.{is_edge, is_met, is_open, marked_after, late_by, has_mark, late_of, is_named, IsNext, IsWalk}
 use Rattle.gix_describe.specs.Trace.IsWalk.{begins, goes}
-use Rattle.gix_describe.specs.Handing.{Queue, key_of, queued_ids, bits, bit, handed, counted, HandsOn, IsLowest}
+use Rattle.gix_describe.specs.declared.describe.met.Met.{Met}
+use Rattle.gix_describe.specs.Handing.{Queue, queued_ids, IsEntry, bits, bit, handed, counted, HandsOn, IsLowest}
 use Rattle.gix_describe.specs.WalkState.{IsQueue, IsMarked, IsCounted, others, NamedUpTo, IsSettledAt}
 use Rattle.gix_describe.proofs.Early.{In, absent}
 use Rattle.gix_describe.proofs.Handing.{all_cons, once_more, one_of_push}
-use Rattle.gix_describe.proofs.Traces.{Open, Marked, and_left, both, or_split, or_left, or_right, met_more, marked_more, late_more, mark_fresh, late_fresh, open_met, open_out, open_is, popped_of}
+use Rattle.gix_describe.proofs.Traces.{Open, Marked, and_left, and_right, both, or_split, or_left, or_right, met_more, marked_more, late_more, mark_fresh, late_fresh, open_met, open_out, open_is, popped_of}
 use Rattle.gix_describe.proofs.WalkQueue.{only_start}
 
 -- ---- what is popped was met
@@ -117,11 +118,11 @@ counted_takes h s xs cs ns x seen at out is = record {
     by j (inr e) = get_or_push ns seen 0 j (at.each ∙ sym e) ∙ is ∙ ap length (sym (late_fresh h x xs (absent xs x out))) ∙ ap (λ t. length (late_of h t xs)) (sym (get_or_push cs x s j (sym e)))
 
 -- a commit that was given up goes back
-pub queue_back : (h : History) (s : ObjectId) (xs : List ObjectId) (k : Key) (x : ObjectId) (q0 q1 : Queue) → IsQueue h s q0 (others h s xs x) → Open h s xs x → k ≡ key_of h s x → IsPermutation ((k, x) ∷ q0) q1 → IsQueue h s q1 (is_open h s xs)
-queue_back h s xs k x q0 q1 at o is perm = record {
-  once = once_more k x q0 q1 perm (at.ids x ∙ ap (λ b. is_open h s xs x && not b) (same_id-itself x) ∙ never (is_open h s xs x)) at.once;
-  ids = λ c. sym (list_any-IsPermutation (same_id c) (queued_ids ((k, x) ∷ q0)) (queued_ids q1) (IsPermutation-map (λ p. p.1) ((k, x) ∷ q0) q1 perm)) ∙ ap (λ b. same_id c x || b) (at.ids c) ∙ by c (same_id c x) refl;
-  keys = All-permutation (λ p. p.0 ≡ key_of h s p.1) ((k, x) ∷ q0) q1 perm (all_cons (λ p. p.0 ≡ key_of h s p.1) (k, x) q0 is at.keys);
+pub queue_back : {A : Type 0} (h : History) (s : ObjectId) (xs : List ObjectId) (k : Key) (v : Met A) (q0 q1 : Queue A) → IsQueue h s q0 (others h s xs v.id) → Open h s xs v.id → IsEntry h s (k, v) → IsPermutation ((k, v) ∷ q0) q1 → IsQueue h s q1 (is_open h s xs)
+queue_back h s xs k v q0 q1 at o is perm = let x = v.id in record {
+  once = once_more k v q0 q1 perm (at.ids x ∙ ap (λ b. is_open h s xs x && not b) (same_id-itself x) ∙ never (is_open h s xs x)) at.once;
+  ids = λ c. sym (list_any-IsPermutation (same_id c) (queued_ids ((k, v) ∷ q0)) (queued_ids q1) (IsPermutation-map (λ p. p.1.id) ((k, v) ∷ q0) q1 perm)) ∙ ap (λ b. same_id c x || b) (at.ids c) ∙ by c (same_id c x) refl;
+  entries = All-permutation (IsEntry h s) ((k, v) ∷ q0) q1 perm (all_cons (IsEntry h s) (k, v) q0 is at.entries);
 }
   where
     never : (b : Bool) → (b && false) ≡ false
@@ -132,9 +133,9 @@ queue_back h s xs k x q0 q1 at o is perm = record {
     always true = refl
     always false = refl
 
-    by : (c : ObjectId) (b : Bool) → same_id c x ≡ b → (b || (is_open h s xs c && not (same_id x c))) ≡ is_open h s xs c
-    by c true e = sym (subst (λ z. is_open h s xs z ≡ true) (sym (same_id-true c x e)) o)
-    by c false e = ap (λ b. is_open h s xs c && not b) (same_id-laws.symm x c ∙ e) ∙ always (is_open h s xs c)
+    by : (c : ObjectId) (b : Bool) → same_id c v.id ≡ b → (b || (is_open h s xs c && not (same_id v.id c))) ≡ is_open h s xs c
+    by c true e = sym (subst (λ z. is_open h s xs z ≡ true) (sym (same_id-true c v.id e)) o)
+    by c false e = ap (λ b. is_open h s xs c && not b) (same_id-laws.symm v.id c ∙ e) ∙ always (is_open h s xs c)
 
 -- ---- a popped commit is counted, and met
 pub counted_more : (h : History) (s : ObjectId) (xs cs : List ObjectId) (ns ms : List ℕ) (x : ObjectId) (held : ObjectId → Option ℕ) → IsMarked h s xs cs held → IsCounted h s xs cs ns
@@ -150,7 +151,7 @@ counted_more h s xs cs ns ms x held marked at len more = record {
     by t true e = let z : length (late_of h t (xs ++ x ∷ [])) ≡ length (late_of h t xs) = ap length (late_more h (same_id t) xs x ∙ ap (λ b. late_of h t xs ++ cond b [] (x ∷ [])) e ∙ append-nil (late_of h t xs)) in omega arith
     by t false e = let z : length (late_of h t (xs ++ x ∷ [])) ≡ length (late_of h t xs) + 1 = ap length (late_more h (same_id t) xs x ∙ ap (λ b. late_of h t xs ++ cond b [] (x ∷ [])) e) ∙ length_push (late_of h t xs) x in omega arith
 
-module _ (h : History) (s : ObjectId) (xs cs : List ObjectId) (x : ObjectId) (held now : ObjectId → Option ℕ) (q0 q1 : Queue) (w : IsWalk h s xs) (next : IsNext h s xs x)
+module _ {A : Type 0} (h : History) (s : ObjectId) (xs cs : List ObjectId) (x : ObjectId) (held now : ObjectId → Option ℕ) (q0 q1 : Queue A) (w : IsWalk h s xs) (next : IsNext h s xs x)
     (marked : IsMarked h s xs cs held) (at : IsQueue h s q0 (others h s xs x)) (on : HandsOn h x (bits (held x)) held now q0 q1) where
   pub marked_more_by : IsMarked h s (xs ++ x ∷ []) cs now
   marked_more_by = record {
@@ -187,7 +188,7 @@ module _ (h : History) (s : ObjectId) (xs cs : List ObjectId) (x : ObjectId) (he
     once = on.queues.once (λ q m. marked.met q ∙ and_left _ _ (and_left _ _ (sym (at.ids q) ∙ m))) at.once;
     ids = λ q. on.queues.ids q ∙ ap (λ b. b || (is_edge h x q && is_none (held q))) (at.ids q) ∙ ap (λ b. (is_open h s xs q && not (same_id x q)) || (is_edge h x q && b)) (none_met q (held q) (marked.met q))
         ∙ by q (is_met h s xs q) (is_one_of xs q) (same_id x q) (is_edge h x q) refl (λ m. popped_met h s xs q w m) (λ e. subst (λ z. is_met h s xs z ≡ true) (same_id-true x q e) (open_met h s xs x next.0)) ∙ sym (opened q);
-    keys = on.keys s (marked.met s ∙ start_met h s xs) at.keys;
+    entries = on.entries s (marked.met s ∙ start_met h s xs) at.entries;
   }
     where
       none_met : (q : ObjectId) (o : Option ℕ) → is_some o ≡ is_met h s xs q → is_none o ≡ not (is_met h s xs q)
@@ -212,45 +213,52 @@ module _ (h : History) (s : ObjectId) (xs cs : List ObjectId) (x : ObjectId) (he
       by q false false false true f g k = refl
       by q false false false false f g k = refl
 
-  pub known_more : (xs ≡ []) ⊎ Has h s → Has h s
-  known_more known = elim known as (λ _. Has h s) [
-    | inl none ↦ subst (λ z. Has h z) (only_start h s x (subst (λ l. Open h s l x) none next.0)) on.has
-    | inr has ↦ has
-  ]
-
 pub goes_more : (h : History) (s : ObjectId) (xs : List ObjectId) (x : ObjectId) → IsWalk h s xs → IsNext h s xs x → IsWalk h s (xs ++ x ∷ [])
 goes_more h s xs x w next = goes xs (xs ++ x ∷ []) x refl w next
 
 -- ---- refusals
-pub reached : (h : History) (s : ObjectId) (xs : List ObjectId) (x : ObjectId) → IsWalk h s xs → IsNext h s xs x → (xs ≡ []) ⊎ Has h s → (x ≡ s) ⊎ (Has h s × IsAncestor h s x)
-reached h s xs x w next known = elim known as (λ _. (x ≡ s) ⊎ (Has h s × IsAncestor h s x)) [
-  | inl none ↦ inl (only_start h s x (subst (λ l. Open h s l x) none next.0))
-  | inr has ↦ inr (has, (popped_of h s xs has w).sound x (inr next.0))
-]
+pub reached : (h : History) (s : ObjectId) (xs : List ObjectId) (x : ObjectId) → IsWalk h s xs → IsNext h s xs x → Has h s → IsAncestor h s x
+reached h s xs x w next has = (popped_of h s xs has w).sound x (inr next.0)
 
-pub hand_refused : (h : History) (s : ObjectId) (xs : List ObjectId) (x : ObjectId) → IsWalk h s xs → IsNext h s xs x → (xs ≡ []) ⊎ Has h s → (e : Message) → IsHandRefused h x e → IsWalkRefused h s e
-hand_refused h s xs x w next known (ParentsOf id) r = elim (reached h s xs x w next known) as (λ _. (id ≡ s) ⊎ IsAncestor h s id) [
-  | inl is ↦ inl (r ∙ is)
-  | inr k ↦ inr (subst (λ z. IsAncestor h s z) (sym r) k.1)
-]
-hand_refused h s xs x w next known (MissingStart id) r = elim (reached h s xs x w next known) as (λ _. (id ≡ s) × (¬ Has h s)) [
-  | inl is ↦ (r.0 ∙ is, λ has. r.1 (subst (λ z. Has h z) (sym is) has))
-  | inr k ↦ absurd (r.1 (has_ancestor h s x k.1).0)
-]
-hand_refused h s xs x w next known CounterFull r = absurd r
-hand_refused h s xs x w next known OutOfMemory r = r
+-- the next commit is there
+pub next_there : (h : History) (s : ObjectId) (xs : List ObjectId) (x : ObjectId) → IsWalk h s xs → IsNext h s xs x → Has h s → Has h x
+next_there h s xs x w next has = (has_ancestor h s x (reached h s xs x w next has)).0
 
-pub many : (h : History) (s : ObjectId) (xs : List ObjectId) (x : ObjectId) (n : ℕ) → IsWalk h s xs → IsNext h s xs x → (xs ≡ []) ⊎ Has h s → length xs ≡ n → 0 < n → AtLeast (n + 1) (IsAncestor h s)
-many h s xs x n w next known is some = elim known as (λ _. AtLeast (n + 1) (IsAncestor h s)) [
-  | inl none ↦ absurd (let z : length xs ≡ 0 = ap length none in omega arith)
-  | inr has ↦
-      let at = popped_of h s xs has w in (
-        xs ++ x ∷ [],
-        IsDistinct-push same_id-laws xs x at.once (absent xs x (open_out h s xs x next.0)),
-        λ c m. elim (one_of-cases xs (x ∷ []) c m) as (λ _. IsAncestor h s c) [ inl l ↦ at.sound c (inl l) | inr r ↦ subst (λ z. IsAncestor h s z) (sym (one_of-single x c r)) (at.sound x (inr next.0)) ],
-        let len : length (xs ++ x ∷ []) ≡ length xs + 1 = length_push xs x in omega arith,
-      )
+-- what was met is there
+pub met_there : (h : History) (s : ObjectId) (xs : List ObjectId) (c : ObjectId) → Has h s → is_met h s xs c ≡ true → Has h c
+met_there h s xs c has m = elim (or_split (same_id s c) (list_any (λ p. is_edge h p c) xs) m) as (λ _. Has h c) [
+  | inl is ↦ subst (λ z. Has h z) (same_id-true s c is) has
+  | inr e ↦ by xs e
 ]
+  where
+    by : (xs : List ObjectId) → list_any (λ p. is_edge h p c) xs ≡ true → Has h c
+    by [] e = absurd (let f : false ≡ true = e in cc)
+    by (x ∷ xs) e = elim (or_split (is_edge h x c) (list_any (λ p. is_edge h p c) xs) e) as (λ _. Has h c) [
+      | inl k ↦ and_right _ _ k
+      | inr k ↦ by xs k
+    ]
+
+pub hand_refused : (h : History) (s : ObjectId) (xs : List ObjectId) (x : ObjectId) → IsWalk h s xs → IsNext h s xs x → Has h s → (e : Message) → IsHandRefused h x e → IsWalkRefused h s e
+hand_refused h s xs x w next has (ParentsOf id) r = inr (subst (λ z. IsAncestor h s z) (sym r) (reached h s xs x w next has))
+hand_refused h s xs x w next has (MissingStart id) r = absurd (r.1 (next_there h s xs x w next has))
+hand_refused h s xs x w next has CounterFull r = absurd r
+hand_refused h s xs x w next has OutOfMemory r = r
+
+-- as the start is looked up
+pub begin_refused : (h : History) (s : ObjectId) (e : Message) → IsHandRefused h s e → IsWalkRefused h s e
+begin_refused h s (ParentsOf id) r = inl r
+begin_refused h s (MissingStart id) r = r
+begin_refused h s CounterFull r = absurd r
+begin_refused h s OutOfMemory r = r
+
+pub many : (h : History) (s : ObjectId) (xs : List ObjectId) (x : ObjectId) (n : ℕ) → IsWalk h s xs → IsNext h s xs x → Has h s → length xs ≡ n → AtLeast (n + 1) (IsAncestor h s)
+many h s xs x n w next has is =
+    let at = popped_of h s xs has w in (
+      xs ++ x ∷ [],
+      IsDistinct-push same_id-laws xs x at.once (absent xs x (open_out h s xs x next.0)),
+      λ c m. elim (one_of-cases xs (x ∷ []) c m) as (λ _. IsAncestor h s c) [ inl l ↦ at.sound c (inl l) | inr r ↦ subst (λ z. IsAncestor h s z) (sym (one_of-single x c r)) (at.sound x (inr next.0)) ],
+      let len : length (xs ++ x ∷ []) ≡ length xs + 1 = length_push xs x in omega arith,
+    )
 
 -- ---- ends
 -- all that is left is a parent of the last one, and gets its marks
@@ -274,14 +282,14 @@ late_le h m [] = omega arith
 late_le h m (x ∷ xs) = let r = late_le h (marked_after h m x) xs in elim (m x) as (λ b. length (cond b (late_by h (marked_after h m x) xs) (x ∷ late_by h (marked_after h m x) xs)) ≤ length (x ∷ xs)) [ true ↦ omega arith | false ↦ omega arith ]
 
 -- ---- the start
-pub queue_begins : (h : History) (s : ObjectId) (k : Key) (q0 q1 : Queue) → k ≡ key_of h s s → q0 ≡ [] → IsPermutation ((k, s) ∷ q0) q1 → IsQueue h s q1 (is_open h s [])
-queue_begins h s k q0 q1 is none perm = queue_back_ (subst (λ l. IsPermutation ((k, s) ∷ l) q1) none perm)
+pub queue_begins : {A : Type 0} (h : History) (s : ObjectId) (k : Key) (v : Met A) (q0 q1 : Queue A) → v.id ≡ s → IsEntry h s (k, v) → q0 ≡ [] → IsPermutation ((k, v) ∷ q0) q1 → IsQueue h s q1 (is_open h s [])
+queue_begins {A} h s k v q0 q1 start is none perm = queue_back_ (subst (λ (l : Queue A). IsPermutation ((k, v) ∷ l) q1) none perm)
   where
-    queue_back_ : IsPermutation ((k, s) ∷ []) q1 → IsQueue h s q1 (is_open h s [])
+    queue_back_ : IsPermutation ((k, v) ∷ []) q1 → IsQueue h s q1 (is_open h s [])
     queue_back_ p = record {
-      once = once_more k s [] q1 p refl nothing;
-      ids = λ c. sym (list_any-IsPermutation (same_id c) (s ∷ []) (queued_ids q1) (IsPermutation-map (λ r. r.1) ((k, s) ∷ []) q1 p)) ∙ by c;
-      keys = All-permutation (λ r. r.0 ≡ key_of h s r.1) ((k, s) ∷ []) q1 p (all_cons (λ r. r.0 ≡ key_of h s r.1) (k, s) [] is (λ i d lt. absurd (omega arith)));
+      once = once_more k v [] q1 p refl nothing;
+      ids = λ c. sym (list_any-IsPermutation (same_id c) (v.id ∷ []) (queued_ids q1) (IsPermutation-map (λ r. r.1.id) ((k, v) ∷ []) q1 p)) ∙ ap (λ z. same_id c z || false) start ∙ by c;
+      entries = All-permutation (IsEntry h s) ((k, v) ∷ []) q1 p (all_cons (IsEntry h s) (k, v) [] is (λ i d lt. absurd (omega arith)));
     }
       where
         by : (c : ObjectId) → (same_id c s || false) ≡ ((same_id s c || false) && true)
@@ -331,7 +339,7 @@ pub ok_when : {T E : Type 0} (r : Result T E) (b : Bool) (P : Type 0) → b ≡ 
 ok_when (Ok x) b P e f p = p
 ok_when (Err x) b P e f p = absurd (let k : true ≡ false = sym e ∙ f in cc)
 
-pub queue_none : (h : History) (s : ObjectId) (q : Queue) (picks : ObjectId → Bool) → IsQueue h s q picks → length q ≡ 0 → (c : ObjectId) → picks c ≡ false
+pub queue_none : {A : Type 0} (h : History) (s : ObjectId) (q : Queue A) (picks : ObjectId → Bool) → IsQueue h s q picks → length q ≡ 0 → (c : ObjectId) → picks c ≡ false
 queue_none h s [] picks at e c = sym (at.ids c)
 queue_none h s (p ∷ q) picks at e c = absurd (omega arith)
 
@@ -355,11 +363,8 @@ start_alone h s names xs x unnamed next none =
     ap (λ l. filter (is_named names) (l ++ x ∷ [])) none ∙ ap (λ b. cond b (x ∷ []) []) (ap is_some (ap (name_at names) is ∙ unnamed))
 
 -- ---- measures
-pub bounded : (h : History) (s : ObjectId) (xs : List ObjectId) → IsWalk h s xs → (xs ≡ []) ⊎ Has h s → length xs ≤ length h
-bounded h s xs w known = elim known as (λ _. length xs ≤ length h) [
-  | inl none ↦ let z : length xs ≡ 0 = ap length none in omega arith
-  | inr has ↦ let at = popped_of h s xs has w in length-le_from_keys same_id-laws xs h at.once (λ q m. (has_ancestor h s q (at.sound q (inl m))).0)
-]
+pub bounded : (h : History) (s : ObjectId) (xs : List ObjectId) → IsWalk h s xs → Has h s → length xs ≤ length h
+bounded h s xs w has = let at = popped_of h s xs has w in length-le_from_keys same_id-laws xs h at.once (λ q m. (has_ancestor h s q (at.sound q (inl m))).0)
 
 pub late_next : (h : History) (t : ObjectId) (xs : List ObjectId) (x : ObjectId) (b : Bool) → has_mark h t xs x ≡ b → (n : ℕ) → n ≡ 1 - bit b → length (late_of h t xs) + n ≡ length (late_of h t (xs ++ x ∷ []))
 late_next h t xs x true e n is = let z : length (late_of h t (xs ++ x ∷ [])) ≡ length (late_of h t xs) = ap length (late_more h (same_id t) xs x ∙ ap (λ b. late_of h t xs ++ cond b [] (x ∷ [])) e ∙ append-nil (late_of h t xs)) in omega arith
@@ -393,9 +398,9 @@ pub none_left : (cs : List ObjectId) (t : ObjectId) → length cs ≡ 0 → is_o
 none_left [] t e m = cc
 none_left (x ∷ cs) t e m = absurd (omega arith)
 
-pub queue_some : (h : History) (s : ObjectId) (q : Queue) (picks : ObjectId → Bool) → IsQueue h s q picks → (length q ≡ 0 → ⊥) → (c : ObjectId) × (picks c ≡ true)
+pub queue_some : {A : Type 0} (h : History) (s : ObjectId) (q : Queue A) (picks : ObjectId → Bool) → IsQueue h s q picks → (length q ≡ 0 → ⊥) → (c : ObjectId) × (picks c ≡ true)
 queue_some h s [] picks at e = absurd (e refl)
-queue_some h s (p ∷ q) picks at e = (p.1, sym (at.ids p.1) ∙ one_of-head p.1 (queued_ids q))
+queue_some h s (p ∷ q) picks at e = (p.1.id, sym (at.ids p.1.id) ∙ one_of-head p.1.id (queued_ids q))
 
 module _ (h : History) (s : ObjectId) (names : Names) (ys cs : List ObjectId) (ns : List ℕ) (x : ObjectId) (m : ℕ) (are : cs ≡ filter (is_named names) (ys ++ x ∷ [])) (counted : IsCounted h s (ys ++ x ∷ []) cs ns)
     (marks : (j : ℕ) → j < length cs → bit_at m j ≡ bit (has_mark h (get_or cs j s) ys x)) where

@@ -4,18 +4,19 @@ use Rattle.std.specs.Int.{bit_at}
 use Rattle.std.specs.List.{IsDistinct, filter}
 use Rattle.gix_base.specs.declared.hash.ObjectId.{ObjectId}
 use Rattle.gix_revwalk.specs.Graph.{Graphed, held_at}
-use Rattle.gix_revwalk.specs.History.{History, same_id, is_one_of, Has}
+use Rattle.gix_revwalk.specs.History.{History, entry_at, parents_in, same_id, is_one_of, Has}
 use Rattle.gix_describe.specs.Described.{Names, IsNamed}
 use Rattle.gix_describe.specs.Trace.{is_met, is_open, has_mark, late_of, is_named, IsNext, IsWalk}
-use Rattle.gix_describe.specs.Handing.{Queue, key_of, queued_ids, HasKeys, bits, bit, IsLowest}
+use Rattle.gix_describe.specs.Handing.{Queue, queued_ids, IsEntry, HasEntries, bits, bit, IsLowest}
 use Rattle.gix_describe.specs.declared.describe.walk.Walk.{Walk}
 use Rattle.gix_describe.specs.declared.describe.key.Key.{Key}
+use Rattle.gix_describe.specs.declared.describe.met.Met.{Met}
 
--- the queue has the commits that `picks` picks, each once, by their keys
-pub record IsQueue (h : History) (s : ObjectId) (queue : Queue) (picks : ObjectId → Bool) : Type 0 where
+-- the queue has the commits that `picks` picks, each once, by their keys and with their parents
+pub record IsQueue {A : Type 0} (h : History) (s : ObjectId) (queue : Queue A) (picks : ObjectId → Bool) : Type 0 where
   pub once : IsDistinct same_id (queued_ids queue)
   pub ids : (c : ObjectId) → is_one_of (queued_ids queue) c ≡ picks c
-  pub keys : HasKeys (key_of h s) queue
+  pub entries : HasEntries h s queue
 
 -- the commits that are met are held, with the marks of the candidates that they have
 pub record IsMarked (h : History) (s : ObjectId) (popped : List ObjectId) (candidates : List ObjectId) (held : ObjectId → Option ℕ) : Type 0 where
@@ -31,7 +32,7 @@ pub record IsCounted (h : History) (s : ObjectId) (popped : List ObjectId) (cand
 -- these were popped, and the queue has what `picks` picks
 pub record IsAt {S A : Type 0} (h : History) (s : ObjectId) (popped : List ObjectId) (picks : ObjectId → Bool) (w : Walk A) (g : Graphed S ℕ) : Type 0 where
   pub walk : IsWalk h s popped
-  pub known : (popped ≡ []) ⊎ Has h s
+  pub has : Has h s
   pub queue : IsQueue h s w.queue picks
   pub marked : IsMarked h s popped w.candidates.items (held_at g)
   pub seen : w.seen ≡ length popped
@@ -89,23 +90,24 @@ pub record Rests {S A : Type 0} (h : History) (s : ObjectId) (names : Names) (ca
   pub going : IsUnsettled h s names popped
 
 -- a commit has left the queue, with its key
-pub record Takes {S A : Type 0} (h : History) (s : ObjectId) (names : Names) (cap : ℕ) (p : Key × ObjectId) (w : Walk A) (g : Graphed S ℕ) : Type 0 where
+pub record Takes {S A : Type 0} (h : History) (s : ObjectId) (names : Names) (cap : ℕ) (p : Key × Met A) (w : Walk A) (g : Graphed S ℕ) : Type 0 where
   pub popped : List ObjectId
-  pub next : IsNext h s popped p.1
-  pub key_is : p.0 ≡ key_of h s p.1
-  pub at : IsAt h s popped (others h s popped p.1) w g
+  pub next : IsNext h s popped p.1.id
+  pub entry : IsEntry h s p
+  pub at : IsAt h s popped (others h s popped p.1.id) w g
   pub counted : IsCounted h s popped w.candidates.items w.counts.items
   pub named : HasCandidates names popped w
   pub few : length w.candidates.items ≤ cap
   pub going : IsUnsettled h s names popped
 
 -- x has left the queue, and is a candidate where it is named
-pub record Admits {S A : Type 0} (h : History) (s : ObjectId) (names : Names) (cap : ℕ) (x : ObjectId) (w : Walk A) (g : Graphed S ℕ) : Type 0 where
+pub record Admits {S A : Type 0} (h : History) (s : ObjectId) (names : Names) (cap : ℕ) (x : Met A) (w : Walk A) (g : Graphed S ℕ) : Type 0 where
   pub popped : List ObjectId
-  pub next : IsNext h s popped x
-  pub at : IsAt h s popped (others h s popped x) w g
+  pub next : IsNext h s popped x.id
+  pub parents : x.parents.items ≡ parents_in (entry_at h x.id)
+  pub at : IsAt h s popped (others h s popped x.id) w g
   pub counted : IsCounted h s popped w.candidates.items w.counts.items
-  pub named : HasCandidates names (popped ++ x ∷ []) w
+  pub named : HasCandidates names (popped ++ x.id ∷ []) w
   pub few : length w.candidates.items ≤ cap
   pub going : IsUnsettled h s names popped
 
@@ -172,10 +174,11 @@ pub record Completes {S A : Type 0} (h : History) (s : ObjectId) (place count cu
   pub since : IsUncompleted h s (get_or w.candidates.items place s) cut popped
 
 -- the same, where x has left the queue
-pub record CompletesTaken {S A : Type 0} (h : History) (s : ObjectId) (place count : ℕ) (x : ObjectId) (cut : ℕ) (w : Walk A) (g : Graphed S ℕ) : Type 0 where
+pub record CompletesTaken {S A : Type 0} (h : History) (s : ObjectId) (place count : ℕ) (x : Met A) (cut : ℕ) (w : Walk A) (g : Graphed S ℕ) : Type 0 where
   pub popped : List ObjectId
-  pub next : IsNext h s popped x
-  pub at : IsAt h s popped (others h s popped x) w g
+  pub next : IsNext h s popped x.id
+  pub parents : x.parents.items ≡ parents_in (entry_at h x.id)
+  pub at : IsAt h s popped (others h s popped x.id) w g
   pub has : Has h s
   pub inside : place < length w.candidates.items
   pub own : IsTrue (is_one_of popped (get_or w.candidates.items place s))

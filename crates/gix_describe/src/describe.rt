@@ -4,6 +4,7 @@ mod format;
 mod function;
 mod handing;
 mod key;
+mod met;
 mod options;
 mod outcome;
 mod queries;

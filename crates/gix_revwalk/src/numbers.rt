@@ -10,12 +10,13 @@ ghost use Rattle.gix_revwalk.specs.Faults.{count_after, is_source_fault};
 ghost use Rattle.gix_revwalk.specs.History.{entry_at, parents_in};
 ghost use Rattle.gix_revwalk.specs.Graph.{held_at, held_len};
 ghost use Rattle.gix_revwalk.specs.Data.{TakesIn, SameData, len_after, mark_at, Marks};
+ghost use Rattle.gix_revwalk.specs.Held.{entry_of};
 ghost use Rattle.gix_revwalk.specs.Number.{place_in};
 ghost use Rattle.gix_revwalk.specs.Numbers.{number_at, named, value_at, held_ids, item_at, Grows, HoldsMore, Puts};
 ghost use Rattle.gix_revwalk.specs.Nodes.{unturned};
 ghost use Rattle.gix_revwalk.specs.Rows.{AreNumbers};
 
-use crate::graph::{Commit, Error, Find, Graph, Held, Node, Row};
+use crate::graph::{Commit, Error, Find, Graph, Held, Node, Row, SourceCommit};
 use gix_base::hash::ObjectId;
 use std::alloc::{AllocError, Allocator};
 
@@ -47,6 +48,27 @@ impl Number {
 pub struct Mark<D> {
     pub marks: D,
     pub queued: u32,
+}
+
+/// What the source has under an id, whether or not the id is held. None becomes held.
+///
+/// # Errors
+///
+/// [`Error::Source`] only where the source failed in this call, or its count of faults is full;
+/// [`Error::OutOfMemory`] where there was no memory. The graph holds what it held.
+pub fn ask<S: Find, T: Held, A: Allocator + Copy>(
+    graph: &mut Graph<S, T, A>,
+    alloc: A,
+    id: ObjectId,
+) -> Result<Option<SourceCommit<A>>, Error>
+    ensures held { graph.new.held ≡ graph.old.held }
+    ensures history { S.history graph.new.source ≡ S.history graph.old.source }
+    ensures found { IfOk result
+        (λ found. option_map entry_of found ≡ entry_at (S.history graph.old.source) id) }
+    ensures count { S.fault_count graph.new.source
+        ≡ count_after (is_source_fault result) (S.fault_count graph.old.source) }
+{
+    graph.ask(alloc, id)
 }
 
 /// The number of an id; `None` where it is not held.

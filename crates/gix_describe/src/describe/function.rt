@@ -127,10 +127,8 @@ pub fn counted<'name, S: Find, A: Allocator + Copy>(
         first_parent,
     } = options;
     if name_by_oid.contains_key(commit) {
-        return match with_name_of(*commit, *commit, 0, name_by_oid, 0) {
-            Ok(found) => Ok((found, 0)),
-            Err(refused) => Err(refused),
-        };
+        let own = with_name_of(*commit, *commit, 0, name_by_oid, 0)?;
+        return Ok((own, 0));
     }
     if is_idle(&name_by_oid, max_candidates) {
         return Ok((without_name(*commit, name_by_oid, fallback_to_oid, 0), 0));
@@ -141,21 +139,14 @@ pub fn counted<'name, S: Find, A: Allocator + Copy>(
         cap: room(max_candidates),
         first_parent,
     };
-    let found = match find_name(alloc, &name_by_oid, search, graph) {
-        Ok(found) => found,
-        Err(refused) => return Err(refused),
-    };
+    let found = find_name(alloc, &name_by_oid, search, graph)?;
     let Found { best, seen, pops } = found;
-    match best {
-        None => Ok((
-            without_name(*commit, name_by_oid, fallback_to_oid, seen),
-            pops,
-        )),
-        Some((id, depth)) => match with_name_of(id, *commit, depth, name_by_oid, seen) {
-            Ok(named) => Ok((named, pops)),
-            Err(refused) => Err(refused),
-        },
-    }
+    let Some((id, depth)) = best else {
+        let answer = without_name(*commit, name_by_oid, fallback_to_oid, seen);
+        return Ok((answer, pops));
+    };
+    let named = with_name_of(id, *commit, depth, name_by_oid, seen)?;
+    Ok((named, pops))
 }
 
 /// The nearest name of a commit, and how far it is: git-describe.
@@ -205,8 +196,6 @@ pub fn describe<'name, S: Find, A: Allocator + Copy>(
     ensures count { S.fault_count graph.new.source
         ≡ count_after (is_source_fault result) (S.fault_count graph.old.source) }
 {
-    match counted(alloc, commit, graph, options) {
-        Ok((answer, _)) => Ok(answer),
-        Err(refused) => Err(refused),
-    }
+    let (answer, _pops) = counted(alloc, commit, graph, options)?;
+    Ok(answer)
 }

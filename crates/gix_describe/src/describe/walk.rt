@@ -8,7 +8,7 @@ ghost use Rattle.gix_revwalk.specs.Followed.{followed};
 ghost use Rattle.gix_revwalk.specs.Graph.{Graphed, held_at};
 ghost use Rattle.gix_revwalk.specs.History.{History, is_one_of, same_id};
 ghost use Rattle.std.specs.Ordering.{is_lt, is_gt};
-ghost use Rattle.gix_describe.specs.Asks.{Asks, IsWalkRefused};
+ghost use Rattle.gix_describe.specs.Asks.{Asks, IsHandRefused, IsWalkRefused};
 ghost use Rattle.gix_describe.specs.DescribeRefusals.{refusal};
 ghost use Rattle.gix_describe.specs.Choice.{rank_order, rank_at, name_of, IsChosen, IsFound};
 ghost use Rattle.gix_describe.specs.Described.{name_at};
@@ -18,6 +18,7 @@ ghost use Rattle.gix_describe.specs.Outcomes.{names_of};
 
 use crate::describe::handing::{count_late, hand_on, is_settled, mark, marks_of};
 use crate::describe::key::Key;
+use crate::describe::met::{Met, Queue, look_up};
 use crate::describe::options::Names;
 use gix_base::error::Message;
 use gix_base::hash::ObjectId;
@@ -38,7 +39,7 @@ pub(crate) struct Search {
 /// candidate's place is its mark.
 #[derive(Drop)]
 pub(crate) struct Walk<A: Allocator> {
-    queue: PriorityQueue<Key, ObjectId, A>,
+    queue: Queue<A>,
     candidates: Vec<ObjectId, A>,
     counts: Vec<u32, A>,
     seen: u32,
@@ -64,7 +65,7 @@ fn bit_of(marks: u32, place: usize) -> u32
 
 /// Whether each queued commit has the mark of a place.
 fn all_marked<S: Find, A: Allocator + Copy>(
-    queue: &PriorityQueue<Key, ObjectId, A>,
+    queue: &Queue<A>,
     place: usize,
     graph: &Graph<S, u32, A>,
 ) -> bool
@@ -72,8 +73,8 @@ fn all_marked<S: Find, A: Allocator + Copy>(
     ensures { IsTrue result ↔ ((c : ObjectId) → IsTrue (is_one_of (queued_ids queue.now) c)
         → bit_at (bits (held_at graph.now c)) place ≡ 1) }
 {
-    for id in queue.iter_unordered() {
-        if bit_of(marks_of(*id, graph), place) == 0 {
+    for met in queue.iter_unordered() {
+        if bit_of(marks_of(met.id, graph), place) == 0 {
             return false;
         }
     }
@@ -81,7 +82,7 @@ fn all_marked<S: Find, A: Allocator + Copy>(
 }
 
 impl<A: Allocator + Copy> Walk<A> {
-    ghost use Rattle.gix_describe.specs.Handing.{key_of};
+    ghost use Rattle.gix_describe.specs.Handing.{IsEntry};
     ghost use Rattle.gix_describe.specs.Trace.{is_open, IsNext, IsWalk};
     ghost use Rattle.gix_describe.specs.WalkState.{others, IsQueue, Rests, Takes, Admits, IsEnded, IsFull, Completes, CompletesTaken, IsComplete};
 
@@ -94,15 +95,20 @@ impl<A: Allocator + Copy> Walk<A> {
         requires empty { (q : ObjectId) → held_at graph.old q ≡ None }
         ensures begun { IfOk result (λ w. (names : List (ObjectId × List ℕ))
             → Rests (followed search.first_parent (S.history graph.old.source)) search.start names search.cap w graph.new) }
-        ensures refused { IfErr result (λ e. e ≡ Message.OutOfMemory) }
-        ensures source { graph.new.source ≡ graph.old.source }
+        ensures asked { Asks S.history S.fault_count
+            (IsHandRefused (followed search.first_parent (S.history graph.old.source)) search.start)
+            graph.old.source graph.new.source (refusal result) }
     {
+        let start = search.start;
+        let Some((_, met)) = look_up(alloc, start, start, search.first_parent, graph)? else {
+            return Err(Message::MissingStart(start));
+        };
         let mut queue = PriorityQueue::new(alloc);
         let key = Key {
             time: i64::MAX,
-            id: search.start,
+            id: start,
         };
-        if queue.insert(key, search.start).is_err() || graph.insert(search.start, 0).is_err() {
+        if queue.insert(key, met).is_err() || graph.insert(start, 0).is_err() {
             return Err(Message::OutOfMemory);
         }
         Ok(Walk {
@@ -114,11 +120,11 @@ impl<A: Allocator + Copy> Walk<A> {
     }
 
     /// The next commit, with its key; `None` where the queue is empty.
-    fn next(&mut self) -> Option<(Key, ObjectId)>
+    fn next(&mut self) -> Option<(Key, Met<A>)>
         ensures none { IsNone result → self.old.queue ≡ [] }
         ensures next { IfSome result (λ p. (h : History) (s : ObjectId) (popped : List ObjectId) → IsWalk h s popped
             → IsQueue h s self.old.queue (is_open h s popped)
-            → IsNext h s popped p.1 × (p.0 ≡ key_of h s p.1) × IsQueue h s self.new.queue (others h s popped p.1)) }
+            → IsNext h s popped p.1.id × IsEntry h s p × IsQueue h s self.new.queue (others h s popped p.1.id)) }
         ensures candidates { self.new.candidates ≡ self.old.candidates }
         ensures counts { self.new.counts ≡ self.old.counts }
         ensures seen { self.new.seen ≡ self.old.seen }
@@ -151,39 +157,39 @@ impl<A: Allocator + Copy> Walk<A> {
     }
 
     /// A popped commit becomes a candidate where it is named. Where there is no room for it, it goes
-    /// back to the queue: `true`.
+    /// back to the queue: `None`.
     fn admit<'name, S: Find>(
         &mut self,
-        next: (Key, ObjectId),
+        next: (Key, Met<A>),
         names: &Names<'name, A>,
         search: Search,
         graph: &mut Graph<S, u32, A>,
-    ) -> Result<bool, Message>
+    ) -> Result<Option<Met<A>>, Message>
         requires some { 0 < search.cap }
         requires cap { search.cap ≤ 32 }
         requires taken { Takes (followed search.first_parent (S.history graph.old.source)) search.start
             (names_of names.now.entries) search.cap next self.old graph.old }
-        ensures admitted { IfOk result (λ full. MatchBool full
+        ensures admitted { IfOk result (λ r. MatchOption r
             (IsFull (followed search.first_parent (S.history graph.old.source)) search.start
             (names_of names.now.entries) search.cap self.new graph.new)
-            (Admits (followed search.first_parent (S.history graph.old.source)) search.start
-            (names_of names.now.entries) search.cap next.1 self.new graph.new)) }
+            (λ met. Admits (followed search.first_parent (S.history graph.old.source)) search.start
+            (names_of names.now.entries) search.cap met self.new graph.new)) }
         ensures refused { IfErr result (λ e. e ≡ Message.OutOfMemory) }
         ensures seen { self.new.seen ≡ self.old.seen }
         ensures source { graph.new.source ≡ graph.old.source }
     {
-        let (key, id) = next;
-        if !names.contains_key(&id) {
-            return Ok(false);
+        let (key, met) = next;
+        if !names.contains_key(&met.id) {
+            return Ok(Some(met));
         }
         if self.candidates.len() < search.cap {
-            self.take_up(id, graph)?;
-            return Ok(false);
+            self.take_up(met.id, graph)?;
+            return Ok(Some(met));
         }
-        if self.queue.insert(key, id).is_err() {
+        if self.queue.insert(key, met).is_err() {
             return Err(Message::OutOfMemory);
         }
-        Ok(true)
+        Ok(None)
     }
 
     /// A popped commit is counted, and its parents are met. Where all that is left lies below each
@@ -191,7 +197,7 @@ impl<A: Allocator + Copy> Walk<A> {
     fn pass<S: Find>(
         &mut self,
         alloc: A,
-        id: ObjectId,
+        met: &Met<A>,
         names: &Names<'_, A>,
         search: Search,
         graph: &mut Graph<S, u32, A>,
@@ -199,7 +205,7 @@ impl<A: Allocator + Copy> Walk<A> {
         requires cap { search.cap ≤ 32 }
         requires unnamed { name_at (names_of names.now.entries) search.start ≡ None }
         requires admitted { Admits (followed search.first_parent (S.history graph.old.source)) search.start
-            (names_of names.now.entries) search.cap id self.old graph.old }
+            (names_of names.now.entries) search.cap met.now self.old graph.old }
         ensures passed { IfOk result (λ settled. MatchBool settled
             (IsEnded (followed search.first_parent (S.history graph.old.source)) search.start
             (names_of names.now.entries) search.cap self.new graph.new)
@@ -214,22 +220,20 @@ impl<A: Allocator + Copy> Walk<A> {
             return Err(Message::CounterFull);
         }
         self.seen += 1;
-        let marks = marks_of(id, graph);
+        let marks = marks_of(met.id, graph);
         count_late(&mut self.counts, marks);
         if self.queue.is_empty() && !self.candidates.is_empty() && is_settled(&self.counts, marks) {
             return Ok(true);
         }
-        match hand_on(
+        hand_on(
             alloc,
-            id,
+            met,
             marks,
             search.first_parent,
             &mut self.queue,
             graph,
-        ) {
-            Ok(()) => Ok(false),
-            Err(refused) => Err(refused),
-        }
+        )?;
+        Ok(false)
     }
 
     /// Pops commits until the walk ends: where all that is left lies below each candidate of the least
@@ -256,15 +260,12 @@ impl<A: Allocator + Copy> Walk<A> {
             graph.old.source graph.new.source (refusal result) }
     {
         while let Some(next) = self.next() {
-            match self.admit(next, names, search, graph) {
-                Ok(true) => return Ok(true),
-                Ok(false) => {}
-                Err(refused) => return Err(refused),
-            }
-            match self.pass(alloc, next.1, names, search, graph) {
-                Ok(true) => return Ok(false),
-                Ok(false) => {}
-                Err(refused) => return Err(refused),
+            let Some(met) = self.admit(next, names, search, graph)? else {
+                return Ok(true);
+            };
+            let settled = self.pass(alloc, &met, names, search, graph)?;
+            if settled {
+                return Ok(false);
             }
         }
         Ok(false)
@@ -330,7 +331,7 @@ impl<A: Allocator + Copy> Walk<A> {
     fn pass_for<S: Find>(
         &mut self,
         alloc: A,
-        id: ObjectId,
+        met: &Met<A>,
         place: usize,
         count: u32,
         search: Search,
@@ -338,10 +339,10 @@ impl<A: Allocator + Copy> Walk<A> {
     ) -> Result<(u32, bool), Message>
         requires few { place < 32 }
         requires taken { (cut : ℕ) × CompletesTaken (followed search.first_parent (S.history graph.old.source))
-            search.start place count id cut self.old graph.old }
+            search.start place count met.now cut self.old graph.old }
         ensures passed { IfOk result (λ r. (cut : ℕ)
             → CompletesTaken (followed search.first_parent (S.history graph.old.source)) search.start
-            place count id cut self.old graph.old
+            place count met.now cut self.old graph.old
             → MatchBool r.1
             (IsComplete (followed search.first_parent (S.history graph.old.source)) search.start
             (get_or self.old.candidates.items place search.start) r.0 self.new.seen cut
@@ -358,22 +359,20 @@ impl<A: Allocator + Copy> Walk<A> {
             return Err(Message::CounterFull);
         }
         self.seen += 1;
-        let marks = marks_of(id, graph);
+        let marks = marks_of(met.id, graph);
         let late = 1 - bit_of(marks, place);
         if late == 0 && all_marked(&self.queue, place, graph) {
             return Ok((count, true));
         }
-        match hand_on(
+        hand_on(
             alloc,
-            id,
+            met,
             marks,
             search.first_parent,
             &mut self.queue,
             graph,
-        ) {
-            Ok(()) => Ok((count + late, false)),
-            Err(refused) => Err(refused),
-        }
+        )?;
+        Ok((count + late, false))
     }
 
     /// Goes on for one candidate until its count is complete.
@@ -397,11 +396,11 @@ impl<A: Allocator + Copy> Walk<A> {
             graph.old.source graph.new.source (refusal result) }
     {
         let mut depth = count;
-        while let Some((_, id)) = self.next() {
-            match self.pass_for(alloc, id, place, depth, search, graph) {
-                Ok((complete, true)) => return Ok(complete),
-                Ok((counted, false)) => depth = counted,
-                Err(refused) => return Err(refused),
+        while let Some((_, met)) = self.next() {
+            let (counted, complete) = self.pass_for(alloc, &met, place, depth, search, graph)?;
+            depth = counted;
+            if complete {
+                return Ok(depth);
             }
         }
         Ok(depth)
@@ -448,23 +447,14 @@ pub(crate) fn find_name<'name, S: Find, A: Allocator + Copy>(
         (IsWalkRefused (followed search.first_parent (S.history graph.old.source)) search.start)
         graph.old.source graph.new.source (refusal result) }
 {
-    let mut walk = match Walk::begin(alloc, search, graph) {
-        Ok(walk) => walk,
-        Err(refused) => return Err(refused),
-    };
-    let full = match walk.run(alloc, names, search, graph) {
-        Ok(full) => full,
-        Err(refused) => return Err(refused),
-    };
-    let place = match walk.chosen(names) {
-        Some(place) => place,
-        None => {
-            return Ok(Found {
-                best: None,
-                seen: walk.seen,
-                pops: u128::from(walk.seen),
-            });
-        }
+    let mut walk = Walk::begin(alloc, search, graph)?;
+    let full = walk.run(alloc, names, search, graph)?;
+    let Some(place) = walk.chosen(names) else {
+        return Ok(Found {
+            best: None,
+            seen: walk.seen,
+            pops: u128::from(walk.seen),
+        });
     };
     let id = walk.candidates[place];
     let count = walk.counts[place];
@@ -476,12 +466,10 @@ pub(crate) fn find_name<'name, S: Find, A: Allocator + Copy>(
         });
     }
     // The commit that was given up is popped once more.
-    match walk.complete(alloc, place, count, search, graph) {
-        Ok(depth) => Ok(Found {
-            best: Some((id, depth)),
-            seen: walk.seen,
-            pops: one_more(walk.seen),
-        }),
-        Err(refused) => Err(refused),
-    }
+    let depth = walk.complete(alloc, place, count, search, graph)?;
+    Ok(Found {
+        best: Some((id, depth)),
+        seen: walk.seen,
+        pops: one_more(walk.seen),
+    })
 }

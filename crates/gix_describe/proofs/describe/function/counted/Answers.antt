@@ -5,6 +5,7 @@ use Rattle.gix_revwalk.specs.Graph.{held_at}
 use Rattle.gix_describe.specs.Outcomes.{names_of, description_of, Walks}
 use Rattle.gix_describe.proofs.NamesFound.{named_from, unnamed_from}
 use Rattle.gix_describe.proofs.Describes.{described_named, described_idle, described_none, described_some, refused_walk, fixed_none, fixed_some, held_none, held_some}
+use Rattle.gix_describe.proofs.Asked.{err_came}
 use Rattle.gix_describe.proofs.PopsCounted.{pops_named, pops_none, pops_some}
 use Rattle.gix_describe.proofs.describe.function.counted.Goals as goal
 
@@ -15,18 +16,18 @@ not_true : (b : Bool) → not b ≡ true → b ≡ false
 not_true false e = refl
 not_true true e = absurd (let f : false ≡ true = e in cc)
 
-pub returns-in-Ok-clause-described : goal.returns-in-Ok-clause-described
-returns-in-Ok-clause-described g c =
+pub returns-then-contains_key-clause-described : goal.returns-then-contains_key-clause-described
+returns-then-contains_key-clause-described g c =
     let named = named_from c.args.options.name_by_oid.entries c.args.commit.now (sym c.contains_key.ensures ∙ c.if-contains_key.true) in
     described_named (followed c.args.options.first_parent (g.S.Find.history c.args.graph.now.source)) c.args.commit.now (names_of c.args.options.name_by_oid.entries)
-    (min c.args.options.max_candidates 32) c.args.options.fallback_to_oid (option_map description_of c.in-Ok.found) named c.in-Ok.ensures.answer
+    (min c.args.options.max_candidates 32) c.args.options.fallback_to_oid (option_map description_of c.in_ok-own.own) named c.in_ok-own.ensures.answer
 
-pub returns-in-Ok-clause-pops : goal.returns-in-Ok-clause-pops
-returns-in-Ok-clause-pops g c =
-    pops_named (g.S.Find.history c.args.graph.now.source) c.args.commit.now c.args.options c.in-Ok.found (named_from c.args.options.name_by_oid.entries c.args.commit.now (sym c.contains_key.ensures ∙ c.if-contains_key.true))
+pub returns-then-contains_key-clause-pops : goal.returns-then-contains_key-clause-pops
+returns-then-contains_key-clause-pops g c =
+    pops_named (g.S.Find.history c.args.graph.now.source) c.args.commit.now c.args.options c.in_ok-own.own (named_from c.args.options.name_by_oid.entries c.args.commit.now (sym c.contains_key.ensures ∙ c.if-contains_key.true))
 
-pub returns-in-Err-clause-no_walk : goal.returns-in-Err-clause-no_walk
-returns-in-Err-clause-no_walk g c = λ absent idle.
+pub returns-in_err-own-clause-no_walk : goal.returns-in_err-own-clause-no_walk
+returns-in_err-own-clause-no_walk g c = λ absent idle.
     let named = named_from c.args.options.name_by_oid.entries c.args.commit.now (sym c.contains_key.ensures ∙ c.if-contains_key.true) in
     absurd (let no : Some named.0 ≡ None = sym named.1 ∙ absent in cc)
 
@@ -39,86 +40,86 @@ returns-then-is_idle-clause-described g c =
 pub find_name-requires-clause-unnamed : goal.find_name-requires-clause-unnamed
 find_name-requires-clause-unnamed g c = unnamed_from c.args.options.name_by_oid.entries c.args.commit.now (sym c.contains_key.ensures ∙ c.if-contains_key.false)
 
-pub returns-in-Err-find_name-clause-refused : goal.returns-in-Err-find_name-clause-refused
-returns-in-Err-find_name-clause-refused g c =
-    let cause = rw c.clear.ensures.source at c.in-Err-find_name.ensures.asked.cause in
-    refused_walk (followed c.args.options.first_parent (g.S.Find.history c.args.graph.now.source)) c.args.commit.now (names_of c.args.options.name_by_oid.entries)
-    (min c.args.options.max_candidates 32) c.args.options.fallback_to_oid c.in-Err-find_name.refused
-    (unnamed_from c.args.options.name_by_oid.entries c.args.commit.now (sym c.contains_key.ensures ∙ c.if-contains_key.false)) (sym c.is_idle.ensures ∙ c.if-is_idle.false) cause
+pub returns-in_err-found-clause-refused : goal.returns-in_err-found-clause-refused
+returns-in_err-found-clause-refused g c =
+    let cause = rw c.clear.ensures.source at c.in_err-found.ensures.asked.cause in
+    rw (err_came c.from_residual-in_err-found.result _ c.from_residual-in_err-found.ensures.1) (refused_walk (followed c.args.options.first_parent (g.S.Find.history c.args.graph.now.source)) c.args.commit.now (names_of c.args.options.name_by_oid.entries)
+    (min c.args.options.max_candidates 32) c.args.options.fallback_to_oid c.in_err-found.field-0.0
+    (unnamed_from c.args.options.name_by_oid.entries c.args.commit.now (sym c.contains_key.ensures ∙ c.if-contains_key.false)) (sym c.is_idle.ensures ∙ c.if-is_idle.false) cause)
 
-pub returns-in-Err-find_name-clause-untouched : goal.returns-in-Err-find_name-clause-untouched
-returns-in-Err-find_name-clause-untouched g c = λ no. absurd (no (unnamed_from c.args.options.name_by_oid.entries c.args.commit.now (sym c.contains_key.ensures ∙ c.if-contains_key.false), walks _ (sym c.is_idle.ensures) c.if-is_idle.false))
+pub returns-in_err-found-clause-untouched : goal.returns-in_err-found-clause-untouched
+returns-in_err-found-clause-untouched g c = λ no. absurd (no (unnamed_from c.args.options.name_by_oid.entries c.args.commit.now (sym c.contains_key.ensures ∙ c.if-contains_key.false), walks _ (sym c.is_idle.ensures) c.if-is_idle.false))
 
-pub returns-in-None-clause-described : goal.returns-in-None-clause-described
-returns-in-None-clause-described g c =
-    let found = rw (c.in-None.is, c.clear.ensures.source) at c.in-Ok-find_name.ensures.found in
+pub returns-in_default-clause-described : goal.returns-in_default-clause-described
+returns-in_default-clause-described g c =
+    let found = rw (c.in_default.is, c.clear.ensures.source) at c.in_ok-found.ensures.found in
     described_none (followed c.args.options.first_parent (g.S.Find.history c.args.graph.now.source)) c.args.commit.now (names_of c.args.options.name_by_oid.entries)
-    (min c.args.options.max_candidates 32) c.args.options.fallback_to_oid (option_map description_of c.without_name-in-None.result) c.in-Ok-find_name.found.seen c.in-Ok-find_name.found.pops
-    (unnamed_from c.args.options.name_by_oid.entries c.args.commit.now (sym c.contains_key.ensures ∙ c.if-contains_key.false)) (sym c.is_idle.ensures ∙ c.if-is_idle.false) found c.without_name-in-None.ensures.answer
+    (min c.args.options.max_candidates 32) c.args.options.fallback_to_oid (option_map description_of c.without_name-answer.result) c.in_ok-found.found.seen c.in_ok-found.found.pops
+    (unnamed_from c.args.options.name_by_oid.entries c.args.commit.now (sym c.contains_key.ensures ∙ c.if-contains_key.false)) (sym c.is_idle.ensures ∙ c.if-is_idle.false) found c.without_name-answer.ensures.answer
 
-pub returns-in-None-clause-pops : goal.returns-in-None-clause-pops
-returns-in-None-clause-pops g c =
-    let found = rw (c.in-None.is, c.clear.ensures.source) at c.in-Ok-find_name.ensures.found in
+pub returns-in_default-clause-pops : goal.returns-in_default-clause-pops
+returns-in_default-clause-pops g c =
+    let found = rw (c.in_default.is, c.clear.ensures.source) at c.in_ok-found.ensures.found in
     let w : Walks c.args.commit.now c.args.options = (unnamed_from c.args.options.name_by_oid.entries c.args.commit.now (sym c.contains_key.ensures ∙ c.if-contains_key.false), walks _ (sym c.is_idle.ensures) c.if-is_idle.false) in
-    pops_none (g.S.Find.history c.args.graph.now.source) c.args.commit.now c.args.options c.without_name-in-None.result c.args.options.fallback_to_oid c.in-Ok-find_name.found.seen c.in-Ok-find_name.found.pops w found c.without_name-in-None.ensures.answer
+    pops_none (g.S.Find.history c.args.graph.now.source) c.args.commit.now c.args.options c.without_name-answer.result c.args.options.fallback_to_oid c.in_ok-found.found.seen c.in_ok-found.found.pops w found c.without_name-answer.ensures.answer
 
-pub returns-in-None-clause-untouched : goal.returns-in-None-clause-untouched
-returns-in-None-clause-untouched g c = λ no. absurd (no (unnamed_from c.args.options.name_by_oid.entries c.args.commit.now (sym c.contains_key.ensures ∙ c.if-contains_key.false), walks _ (sym c.is_idle.ensures) c.if-is_idle.false))
+pub returns-in_default-clause-untouched : goal.returns-in_default-clause-untouched
+returns-in_default-clause-untouched g c = λ no. absurd (no (unnamed_from c.args.options.name_by_oid.entries c.args.commit.now (sym c.contains_key.ensures ∙ c.if-contains_key.false), walks _ (sym c.is_idle.ensures) c.if-is_idle.false))
 
-pub returns-in-Ok-with_name_of-clause-described : goal.returns-in-Ok-with_name_of-clause-described
-returns-in-Ok-with_name_of-clause-described g c =
-    let found = rw (c.in-Some.is, c.clear.ensures.source, c.room.ensures) at c.in-Ok-find_name.ensures.found in
+pub returns-clause-described : goal.returns-clause-described
+returns-clause-described g c =
+    let found = rw (c.in-Some.is, c.clear.ensures.source, c.room.ensures) at c.in_ok-found.ensures.found in
     described_some (followed c.args.options.first_parent (g.S.Find.history c.args.graph.now.source)) c.args.commit.now (names_of c.args.options.name_by_oid.entries)
-    (min c.args.options.max_candidates 32) c.args.options.fallback_to_oid (option_map description_of c.in-Ok-with_name_of.named) (c.in-Some.id, c.in-Some.depth) c.in-Ok-find_name.found.seen c.in-Ok-find_name.found.pops
-    (unnamed_from c.args.options.name_by_oid.entries c.args.commit.now (sym c.contains_key.ensures ∙ c.if-contains_key.false)) (sym c.is_idle.ensures ∙ c.if-is_idle.false) found c.in-Ok-with_name_of.ensures.answer
+    (min c.args.options.max_candidates 32) c.args.options.fallback_to_oid (option_map description_of c.in_ok-named.named) (c.in-Some.id, c.in-Some.depth) c.in_ok-found.found.seen c.in_ok-found.found.pops
+    (unnamed_from c.args.options.name_by_oid.entries c.args.commit.now (sym c.contains_key.ensures ∙ c.if-contains_key.false)) (sym c.is_idle.ensures ∙ c.if-is_idle.false) found c.in_ok-named.ensures.answer
 
-pub returns-in-Ok-with_name_of-clause-pops : goal.returns-in-Ok-with_name_of-clause-pops
-returns-in-Ok-with_name_of-clause-pops g c =
-    let found = rw (c.in-Some.is, c.clear.ensures.source, c.room.ensures) at c.in-Ok-find_name.ensures.found in
+pub returns-clause-pops : goal.returns-clause-pops
+returns-clause-pops g c =
+    let found = rw (c.in-Some.is, c.clear.ensures.source, c.room.ensures) at c.in_ok-found.ensures.found in
     let w : Walks c.args.commit.now c.args.options = (unnamed_from c.args.options.name_by_oid.entries c.args.commit.now (sym c.contains_key.ensures ∙ c.if-contains_key.false), walks _ (sym c.is_idle.ensures) c.if-is_idle.false) in
-    pops_some (g.S.Find.history c.args.graph.now.source) c.args.commit.now c.args.options c.in-Ok-with_name_of.named (c.in-Some.id, c.in-Some.depth) c.in-Ok-find_name.found.seen c.in-Ok-find_name.found.pops w found c.in-Ok-with_name_of.ensures.answer
+    pops_some (g.S.Find.history c.args.graph.now.source) c.args.commit.now c.args.options c.in_ok-named.named (c.in-Some.id, c.in-Some.depth) c.in_ok-found.found.seen c.in_ok-found.found.pops w found c.in_ok-named.ensures.answer
 
-pub returns-in-Ok-with_name_of-clause-untouched : goal.returns-in-Ok-with_name_of-clause-untouched
-returns-in-Ok-with_name_of-clause-untouched g c = λ no. absurd (no (unnamed_from c.args.options.name_by_oid.entries c.args.commit.now (sym c.contains_key.ensures ∙ c.if-contains_key.false), walks _ (sym c.is_idle.ensures) c.if-is_idle.false))
+pub returns-clause-untouched : goal.returns-clause-untouched
+returns-clause-untouched g c = λ no. absurd (no (unnamed_from c.args.options.name_by_oid.entries c.args.commit.now (sym c.contains_key.ensures ∙ c.if-contains_key.false), walks _ (sym c.is_idle.ensures) c.if-is_idle.false))
 
-pub returns-in-Err-with_name_of-clause-untouched : goal.returns-in-Err-with_name_of-clause-untouched
-returns-in-Err-with_name_of-clause-untouched g c = λ no. absurd (no (unnamed_from c.args.options.name_by_oid.entries c.args.commit.now (sym c.contains_key.ensures ∙ c.if-contains_key.false), walks _ (sym c.is_idle.ensures) c.if-is_idle.false))
+pub returns-in_err-named-clause-untouched : goal.returns-in_err-named-clause-untouched
+returns-in_err-named-clause-untouched g c = λ no. absurd (no (unnamed_from c.args.options.name_by_oid.entries c.args.commit.now (sym c.contains_key.ensures ∙ c.if-contains_key.false), walks _ (sym c.is_idle.ensures) c.if-is_idle.false))
 
-pub returns-in-Ok-clause-tied : goal.returns-in-Ok-clause-tied
-returns-in-Ok-clause-tied g c = λ w.
+pub returns-then-contains_key-clause-tied : goal.returns-then-contains_key-clause-tied
+returns-then-contains_key-clause-tied g c = λ w.
     let named = named_from c.args.options.name_by_oid.entries c.args.commit.now (sym c.contains_key.ensures ∙ c.if-contains_key.true) in
     absurd (let no : Some named.0 ≡ None = sym named.1 ∙ w.0 in cc)
 
 pub returns-then-is_idle-clause-tied : goal.returns-then-is_idle-clause-tied
 returns-then-is_idle-clause-tied g c = λ w. absurd (let no : true ≡ false = sym (sym c.is_idle.ensures ∙ c.if-is_idle.true) ∙ not_true _ w.1 in cc)
 
-pub returns-in-None-clause-tied : goal.returns-in-None-clause-tied
-returns-in-None-clause-tied g c = λ w.
+pub returns-in_default-clause-tied : goal.returns-in_default-clause-tied
+returns-in_default-clause-tied g c = λ w.
     fixed_none (followed c.args.options.first_parent (g.S.Find.history c.args.graph.now.source)) c.args.commit.now (names_of c.args.options.name_by_oid.entries)
-    (min c.args.options.max_candidates 32) c.in-Ok-find_name.found.seen c.args.options.fallback_to_oid (option_map description_of c.without_name-in-None.result) c.without_name-in-None.ensures.answer
+    (min c.args.options.max_candidates 32) c.in_ok-found.found.seen c.args.options.fallback_to_oid (option_map description_of c.without_name-answer.result) c.without_name-answer.ensures.answer
 
-pub returns-in-Ok-with_name_of-clause-tied : goal.returns-in-Ok-with_name_of-clause-tied
-returns-in-Ok-with_name_of-clause-tied g c = λ w.
-    let tied = rw (c.in-Some.is, c.clear.ensures.source, c.room.ensures) at c.in-Ok-find_name.ensures.tied in
+pub returns-clause-tied : goal.returns-clause-tied
+returns-clause-tied g c = λ w.
+    let tied = rw (c.in-Some.is, c.clear.ensures.source, c.room.ensures) at c.in_ok-found.ensures.tied in
     fixed_some (followed c.args.options.first_parent (g.S.Find.history c.args.graph.now.source)) c.args.commit.now (names_of c.args.options.name_by_oid.entries)
-    (min c.args.options.max_candidates 32) c.in-Ok-find_name.found.seen c.in-Some.depth c.in-Some.id (option_map description_of c.in-Ok-with_name_of.named) c.in-Ok-with_name_of.ensures.answer tied
+    (min c.args.options.max_candidates 32) c.in_ok-found.found.seen c.in-Some.depth c.in-Some.id (option_map description_of c.in_ok-named.named) c.in_ok-named.ensures.answer tied
 
-pub returns-in-Ok-clause-held : goal.returns-in-Ok-clause-held
-returns-in-Ok-clause-held g c = λ w.
+pub returns-then-contains_key-clause-held : goal.returns-then-contains_key-clause-held
+returns-then-contains_key-clause-held g c = λ w.
     let named = named_from c.args.options.name_by_oid.entries c.args.commit.now (sym c.contains_key.ensures ∙ c.if-contains_key.true) in
     absurd (let no : Some named.0 ≡ None = sym named.1 ∙ w.0 in cc)
 
 pub returns-then-is_idle-clause-held : goal.returns-then-is_idle-clause-held
 returns-then-is_idle-clause-held g c = λ w. absurd (let no : true ≡ false = sym (sym c.is_idle.ensures ∙ c.if-is_idle.true) ∙ not_true _ w.1 in cc)
 
-pub returns-in-None-clause-held : goal.returns-in-None-clause-held
-returns-in-None-clause-held g c = λ w.
-    let held = rw c.clear.ensures.source at c.in-Ok-find_name.ensures.held in
+pub returns-in_default-clause-held : goal.returns-in_default-clause-held
+returns-in_default-clause-held g c = λ w.
+    let held = rw c.clear.ensures.source at c.in_ok-found.ensures.held in
     held_none (followed c.args.options.first_parent (g.S.Find.history c.args.graph.now.source)) c.args.commit.now (held_at c.find_name.new.graph)
-    c.in-Ok-find_name.found.seen c.args.options.fallback_to_oid (option_map description_of c.without_name-in-None.result) c.without_name-in-None.ensures.answer held
+    c.in_ok-found.found.seen c.args.options.fallback_to_oid (option_map description_of c.without_name-answer.result) c.without_name-answer.ensures.answer held
 
-pub returns-in-Ok-with_name_of-clause-held : goal.returns-in-Ok-with_name_of-clause-held
-returns-in-Ok-with_name_of-clause-held g c = λ w.
-    let held = rw c.clear.ensures.source at c.in-Ok-find_name.ensures.held in
+pub returns-clause-held : goal.returns-clause-held
+returns-clause-held g c = λ w.
+    let held = rw c.clear.ensures.source at c.in_ok-found.ensures.held in
     held_some (followed c.args.options.first_parent (g.S.Find.history c.args.graph.now.source)) c.args.commit.now (names_of c.args.options.name_by_oid.entries) (held_at c.find_name.new.graph)
-    c.in-Ok-find_name.found.seen c.in-Some.depth c.in-Some.id (option_map description_of c.in-Ok-with_name_of.named) c.in-Ok-with_name_of.ensures.answer held
+    c.in_ok-found.found.seen c.in-Some.depth c.in-Some.id (option_map description_of c.in_ok-named.named) c.in_ok-named.ensures.answer held

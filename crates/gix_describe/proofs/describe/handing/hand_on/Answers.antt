@@ -1,21 +1,53 @@
-use Rattle.std.proofs.Common.{refl, ◌≡◌, Some}
-use Rattle.gix_revwalk.specs.Followed.{followed_at}
+use Rattle.gix_revwalk.specs.History.{same_id, entry_at}
+use Rattle.std.proofs.Common.{◌||◌, ◌&&◌, ◌+◌, is_some, [], ◌≡◌, ◌∙◌, refl, take, get_or, Some, None, arith}
+use Rattle.std.proofs.lemmas.List.{take_all}
+use Rattle.gix_base.specs.declared.hash.ObjectId.{ObjectId}
+use Rattle.gix_revwalk.specs.Followed.{followed}
 use Rattle.gix_revwalk.specs.Graph.{held_at}
-use Rattle.gix_base.specs.declared.error.message.Message.TheVariants.{MissingStart}
-use Rattle.gix_describe.proofs.Asked.{asks_refused}
-use Rattle.gix_describe.proofs.HandsOn.{hands_on, on_ok, follows_none}
+use Rattle.gix_describe.proofs.Asked.{asks_nothing, asks_on, refusal_came}
+use Rattle.gix_describe.proofs.Handing.{there, there_more, hands_next, queues_next, entries_next, hands_along, queues_along, hands_nothing, queues_nothing, known_next, hands_on}
 use Rattle.gix_describe.proofs.describe.handing.hand_on.Goals as goal
 
-pub returns-in-Some-clause-handed : goal.returns-in-Some-clause-handed
-returns-in-Some-clause-handed g c =
-    let h = g.S.Find.history c.args.graph.now.source in
-    let found : Some c.in-Some.parents.items ≡ followed_at c.args.first_parent h c.args.id = rw c.in-Some.is at c.in_ok-parents.ensures.parents in
-    let marks = rw (c.deref.ensures.value, c.parents_of.ensures.held) at c.hand_all.ensures.marks in
-    let queued = rw (c.deref.ensures.value, c.parents_of.ensures.held) at c.hand_all.ensures.queued in
-    let keys = rw (c.deref.ensures.value, c.parents_of.ensures.held) at c.hand_all.ensures.keys in
-    on_ok c.hand_all.result _ _ _ _ (λ a b k. hands_on c.args.first_parent h c.args.id c.in-Some.parents.items found c.args.marks (held_at c.args.graph.now) (held_at c.hand_all.new.graph) c.args.queue.now c.hand_all.new.queue a b k) marks queued keys
+pub loop-parent-init : goal.loop-parent-init
+loop-parent-init g c =
+    let h = followed c.args.first_parent (g.S.Find.history c.args.graph.now.source) in
+    record {
+      hands = hands_nothing h c.args.marks (held_at c.args.graph.now);
+      queues = queues_nothing h (held_at c.args.graph.now) c.args.queue.now;
+      entries = λ s start has. has;
+      asked = asks_nothing _ _ _ _ _ refl;
+    }
 
-pub returns-in-None-clause-asked : goal.returns-in-None-clause-asked
-returns-in-None-clause-asked g c =
-    let found = rw c.in-None.is at c.in_ok-parents.ensures.parents in
-    asks_refused _ _ _ _ _ _ (MissingStart c.args.id) refl (refl, follows_none c.args.first_parent (g.S.Find.history c.args.graph.now.source) c.args.id found) c.in_ok-parents.ensures.asked
+pub meet-requires : goal.meet-requires
+meet-requires g c = record {
+  known = λ q some.
+      let h = followed c.args.first_parent (g.S.Find.history c.args.graph.now.source) in
+      rw c.loop-parent.invariant.asked.same_history (known_next h _ c.args.marks (held_at c.args.graph.now) (held_at c.loop-parent.graph) c.loop-parent.invariant.hands c.requires.known q some);
+}
+
+pub loop-parent-preserved : goal.loop-parent-preserved
+loop-parent-preserved g c =
+    let h = followed c.args.first_parent (g.S.Find.history c.args.graph.now.source) in
+    let ps = c.as_slice-parents.result.now in
+    let i = c.loop-parent.parent-index in
+    let p = get_or ps i (record { 0 = [] }) in
+    let meets = rw c.loop-parent.invariant.asked.same_history at c.in_ok-meet.ensures.met in
+    let same : (q : ObjectId) → (there h (take i ps) q || (same_id p q && is_some (entry_at h q))) ≡ there h (take (i + 1) ps) q = λ q. there_more h ps i (record { 0 = [] }) q c.loop-parent-test.true in
+    record {
+      hands = hands_along _ _ c.args.marks (held_at c.args.graph.now) (held_at c.meet.new.graph) same (hands_next h p c.args.marks (there h (take i ps)) (held_at c.args.graph.now) (held_at c.loop-parent.graph) (held_at c.meet.new.graph) c.args.queue.now c.loop-parent.queue c.meet.new.queue c.loop-parent.invariant.hands meets);
+      queues = queues_along _ _ (held_at c.args.graph.now) c.args.queue.now c.meet.new.queue same (queues_next h p c.args.marks (there h (take i ps)) (held_at c.args.graph.now) (held_at c.loop-parent.graph) (held_at c.meet.new.graph) c.args.queue.now c.loop-parent.queue c.meet.new.queue c.loop-parent.invariant.hands meets c.loop-parent.invariant.queues);
+      entries = λ s start has. entries_next h p c.args.marks (there h (take i ps)) (held_at c.args.graph.now) (held_at c.loop-parent.graph) (held_at c.meet.new.graph) c.args.queue.now c.loop-parent.queue c.meet.new.queue c.loop-parent.invariant.hands meets s start (c.loop-parent.invariant.entries s start has);
+      asked = asks_on _ _ _ _ _ _ _ None c.loop-parent.invariant.asked (rw c.loop-parent.invariant.asked.same_history at c.in_ok-meet.ensures.asked);
+    }
+
+pub returns-in_err-meet-clause-asked : goal.returns-in_err-meet-clause-asked
+returns-in_err-meet-clause-asked g c =
+    rw (refusal_came c.from_residual.result _ c.from_residual.ensures.1) (asks_on _ _ _ _ _ _ _ (Some c.in_err-meet.field-0.0) c.loop-parent.invariant.asked (rw c.loop-parent.invariant.asked.same_history at c.in_err-meet.ensures.asked))
+
+pub returns-clause-handed : goal.returns-clause-handed
+returns-clause-handed g c =
+    let h = followed c.args.first_parent (g.S.Find.history c.args.graph.now.source) in
+    let ps = c.as_slice-parents.result.now in
+    let all : take c.loop-parent.parent-index ps ≡ ps = take_all c.loop-parent.parent-index ps (omega arith) in
+    hands_on h c.args.met.now.id ps c.args.marks (held_at c.args.graph.now) (held_at c.loop-parent.graph) c.args.queue.now c.loop-parent.queue c.requires.has (c.as_slice-parents.ensures.value ∙ c.requires.parents)
+    (rw all at c.loop-parent.invariant.hands) (rw all at c.loop-parent.invariant.queues) c.loop-parent.invariant.entries

@@ -1,9 +1,7 @@
-use Rattle.std.proofs.Common.{◌≡◌, ◌<◌, ◌≤◌, ◌+◌, ◌∙◌, sym, ap, true, false, [], ◌∷◌, ◌++◌, length, arith, inl, inr}
-use Rattle.std.specs.List.{filter}
+use Rattle.std.proofs.Common.{◌≡◌, ◌<◌, ◌≤◌, ◌+◌, ◌∙◌, sym, ap, true, false, [], ◌∷◌, ◌++◌, length, arith}
 use Rattle.std.proofs.lemmas.List.{length_push}
 use Rattle.gix_revwalk.specs.Followed.{followed}
 use Rattle.gix_revwalk.specs.Graph.{held_at}
-use Rattle.gix_revwalk.specs.History.{Has}
 use Rattle.gix_describe.specs.Trace.{is_named}
 use Rattle.gix_describe.specs.Outcomes.{names_of}
 use Rattle.gix_describe.proofs.Traces.{open_met, open_out}
@@ -14,13 +12,14 @@ pub returns-then-not-contains_key-clause-admitted : goal.returns-then-not-contai
 returns-then-not-contains_key-clause-admitted g c =
     let t = c.requires.taken in
     let names = names_of c.args.names.now.entries in
-    let unnamed : is_named names c.args.next.1 ≡ false = names_is c.args.names.now.entries c.args.next.1 false (sym c.if-not-contains_key.true ∙ c.contains_key.ensures) in
+    let unnamed : is_named names c.args.next.1.id ≡ false = names_is c.args.names.now.entries c.args.next.1.id false (sym c.if-not-contains_key.true ∙ c.contains_key.ensures) in
     record {
       popped = t.popped;
       next = t.next;
+      parents = t.entry.1;
       at = t.at;
       counted = t.counted;
-      named = t.named ∙ sym (filter_skips (is_named names) t.popped c.args.next.1 unnamed);
+      named = t.named ∙ sym (filter_skips (is_named names) t.popped c.args.next.1.id unnamed);
       few = t.few;
       going = t.going;
     }
@@ -30,7 +29,7 @@ returns-then-len-search-clause-admitted g c =
     let t = c.requires.taken in
     let h = followed c.args.search.first_parent (g.S.Find.history c.args.graph.now.source) in
     let s = c.args.search.start in
-    let x = c.args.next.1 in
+    let x = c.args.next.1.id in
     let names = names_of c.args.names.now.entries in
     let named : is_named names x ≡ true = names_is c.args.names.now.entries x true (sym c.if-not-contains_key.false ∙ c.contains_key.ensures) in
     let old = c.args.self.now.candidates.items in
@@ -41,9 +40,10 @@ returns-then-len-search-clause-admitted g c =
     record {
       popped = t.popped;
       next = t.next;
+      parents = t.entry.1;
       at = record {
         walk = t.at.walk;
-        known = t.at.known;
+        has = t.at.has;
         queue = rw c.take_up.ensures.queue t.at.queue;
         marked = rw more (marked_takes h s t.popped old x (held_at c.args.graph.now) (held_at c.take_up.new.graph) t.at.marked (open_met h s t.popped x t.next.0) (open_out h s t.popped x t.next.0) c.take_up.ensures.marks);
         seen = c.take_up.ensures.seen ∙ t.at.seen;
@@ -59,7 +59,7 @@ returns-clause-admitted g c =
     let t = c.requires.taken in
     let h = followed c.args.search.first_parent (g.S.Find.history c.args.graph.now.source) in
     let s = c.args.search.start in
-    let x = c.args.next.1 in
+    let x = c.args.next.1.id in
     let names = names_of c.args.names.now.entries in
     let named : is_named names x ≡ true = names_is c.args.names.now.entries x true (sym c.if-not-contains_key.false ∙ c.contains_key.ensures) in
     let queued = ok_when c.insert.result c.is_err.result _ c.is_err.ensures.value c.if-is_err.false c.insert.ensures.ok in
@@ -69,8 +69,8 @@ returns-clause-admitted g c =
       popped = t.popped;
       at = record {
         walk = t.at.walk;
-        known = t.at.known;
-        queue = queue_back h s t.popped c.args.next.0 x c.args.self.now.queue c.insert.new.self t.at.queue t.next.0 t.key_is queued;
+        has = t.at.has;
+        queue = queue_back h s t.popped c.args.next.0 c.args.next.1 c.args.self.now.queue c.insert.new.self t.at.queue t.next.0 t.entry queued;
         marked = t.at.marked;
         seen = t.at.seen;
       };
@@ -81,12 +81,5 @@ returns-clause-admitted g c =
       next_is = t.next;
       next_named = named_of names x named;
       going = t.going;
-      has = elim t.at.known as (λ _. Has h s) [
-        | inl none ↦ absurd (
-            let empty : length c.args.self.now.candidates.items ≡ 0 = ap length (t.named ∙ ap (λ l. filter (is_named names) l) none) in
-            let some : 0 < c.args.search.cap = c.requires.some in
-            omega arith
-            )
-        | inr has ↦ has
-      ];
+      has = t.at.has;
     }

@@ -4,12 +4,12 @@ use Rattle.gix_describe.specs.Asks.{Asks, IsWalkRefused}
 use Rattle.gix_describe.specs.WalkState.{Completes}
 use Rattle.gix_describe.proofs.describe.walk.Walk.complete.Given as goal
 
-abbrev pub invariant-loop-id : goal.invariant-loop-id
-invariant-loop-id g l = record {
+abbrev pub invariant-loop-met : goal.invariant-loop-met
+invariant-loop-met g l = record {
   completes : Completes (followed l.search.first_parent (g.S.Find.history l.fn.graph.source)) l.search.start l.place l.depth l.fn.self.seen l.self l.graph;
   candidates : l.self.candidates ≡ l.fn.self.candidates;
   asked : Asks g.S.Find.history g.S.Find.fault_count (IsWalkRefused (followed l.search.first_parent (g.S.Find.history l.fn.graph.source)) l.search.start) l.fn.graph.source l.graph.source None;
 }
 
-abbrev pub decreases-loop-id : goal.decreases-loop-id
-decreases-loop-id g l = length (followed l.search.first_parent (g.S.Find.history l.graph.source)) - l.self.seen
+abbrev pub decreases-loop-met : goal.decreases-loop-met
+decreases-loop-met g l = length (followed l.search.first_parent (g.S.Find.history l.graph.source)) - l.self.seen

@@ -4,14 +4,14 @@ use Rattle.std.specs.Vec.{with_items}
 use Rattle.std.proofs.lemmas.List.{length_push, with_items_is}
 use Rattle.gix_revwalk.specs.Followed.{followed}
 use Rattle.gix_revwalk.specs.Graph.{held_at}
-use Rattle.gix_revwalk.specs.History.{Has, is_one_of}
+use Rattle.gix_revwalk.specs.History.{is_one_of}
 use Rattle.gix_describe.specs.Trace.{has_mark, late_of}
 use Rattle.gix_describe.specs.WalkState.{IsCounted, others, IsSettledAt}
 use Rattle.gix_describe.specs.Outcomes.{names_of}
 use Rattle.gix_describe.specs.Handing.{bits, IsLowest}
-use Rattle.gix_describe.proofs.WalkSteps.{counted_more, marked_more_by, queue_more, known_more, goes_more, hand_refused, many, left_marked, late_le, queue_none, bit_true, no_length, some_length, start_alone, split_push, settled_at, are_settled, zero_from, none_left, queue_some}
+use Rattle.gix_describe.proofs.WalkSteps.{counted_more, marked_more_by, queue_more, goes_more, hand_refused, next_there, met_there, many, left_marked, late_le, queue_none, bit_true, no_length, some_length, split_push, settled_at, are_settled, zero_from, none_left, queue_some}
 use Rattle.gix_describe.proofs.describe.walk.Walk.pass.Goals.{else-is_empty-via-then-is_empty+then-not-is_empty+else-is_settled, else-is_empty-via-then-is_empty+else-not-is_empty, else-is_empty-via-else-is_empty}
-use Rattle.gix_describe.proofs.Asked.{asks_more, asks_answered}
+use Rattle.gix_describe.proofs.Asked.{asks_more, asks_answered, refusal_came}
 use Rattle.gix_describe.proofs.describe.walk.Walk.pass.Goals as goal
 
 pub returns-then-self-clause-asked : goal.returns-then-self-clause-asked
@@ -19,7 +19,7 @@ returns-then-self-clause-asked g c =
     let a = c.requires.admitted in
     let h = followed c.args.search.first_parent (g.S.Find.history c.args.graph.now.source) in
     let len : length a.popped ≡ 4294967295 = sym a.at.seen ∙ c.if-self.true in
-    record { same_history = refl; count = refl; cause = many h c.args.search.start a.popped c.args.id 4294967295 a.at.walk a.next a.at.known len (omega arith) }
+    record { same_history = refl; count = refl; cause = many h c.args.search.start a.popped c.args.met.now.id 4294967295 a.at.walk a.next a.at.has len }
 
 pub count_late-requires-clause-room : goal.count_late-requires-clause-room
 count_late-requires-clause-room g c =
@@ -41,7 +41,7 @@ returns-then-is_settled-clause-passed g c =
     let a = c.requires.admitted in
     let h = followed c.args.search.first_parent (g.S.Find.history c.args.graph.now.source) in
     let s = c.args.search.start in
-    let x = c.args.id in
+    let x = c.args.met.now.id in
     let w = c.args.self.now in
     let names = names_of c.args.names.now.entries in
     let counted = rw (c.deref_mut.ensures.value, c.marks_of-marks.ensures) at c.count_late.ensures.counted in
@@ -57,10 +57,7 @@ returns-then-is_settled-clause-passed g c =
     record {
       popped = a.popped ++ x ∷ [];
       walk = goes_more h s a.popped x a.at.walk a.next;
-      has = elim a.at.known as (λ _. Has h s) [
-        | inl none ↦ absurd (some (a.named ∙ start_alone h s names a.popped x c.requires.unnamed a.next none))
-        | inr has ↦ has
-      ];
+      has = a.at.has;
       counted = after;
       named = a.named;
       seen = let seen : w.seen ≡ length a.popped = a.at.seen in omega arith;
@@ -86,56 +83,66 @@ returns-then-is_settled-clause-passed g c =
       held = record { ys = a.popped; x = x; is = refl; met = a.at.marked.met };
     }
 
-pub returns-in-Ok-clause-passed : goal.returns-in-Ok-clause-passed
-returns-in-Ok-clause-passed g c =
+pub returns-clause-passed : goal.returns-clause-passed
+returns-clause-passed g c =
     let a = c.requires.admitted in
     let h = followed c.args.search.first_parent (g.S.Find.history c.args.graph.now.source) in
     let s = c.args.search.start in
     let w = c.args.self.now in
-    let on = rw c.marks_of-marks.ensures at c.in-Ok.ensures.handed in
+    let on = rw c.marks_of-marks.ensures at c.in_ok-hand_on.ensures.handed in
     let counted = rw (c.deref_mut.ensures.value, c.marks_of-marks.ensures) at c.count_late.ensures.counted in
     let same : length c.count_late.new.counts ≡ length w.counts.items = c.count_late.ensures.len ∙ ap length c.deref_mut.ensures.value in
-    let more : IsCounted h s (a.popped ++ c.args.id ∷ []) w.candidates.items c.count_late.new.counts =
-    counted_more h s a.popped w.candidates.items w.counts.items c.count_late.new.counts c.args.id (held_at c.args.graph.now) a.at.marked a.counted same counted in
-    let pushed : length (a.popped ++ c.args.id ∷ []) ≡ length a.popped + 1 = length_push a.popped c.args.id in
+    let more : IsCounted h s (a.popped ++ c.args.met.now.id ∷ []) w.candidates.items c.count_late.new.counts =
+    counted_more h s a.popped w.candidates.items w.counts.items c.count_late.new.counts c.args.met.now.id (held_at c.args.graph.now) a.at.marked a.counted same counted in
+    let pushed : length (a.popped ++ c.args.met.now.id ∷ []) ≡ length a.popped + 1 = length_push a.popped c.args.met.now.id in
     let names = names_of c.args.names.now.entries in
-    let after : IsCounted h s (a.popped ++ c.args.id ∷ []) w.candidates.items (with_items w.counts c.count_late.new.counts).items =
-    subst (λ l. IsCounted h s (a.popped ++ c.args.id ∷ []) w.candidates.items l) (sym (with_items_is w.counts c.count_late.new.counts (same ∙ sym w.counts.ok.0))) more in
-    let refuted = λ (st : IsSettledAt h s names a.popped c.args.id). elim c.else-is_empty.branch as (λ _. ⊥) [
+    let after : IsCounted h s (a.popped ++ c.args.met.now.id ∷ []) w.candidates.items (with_items w.counts c.count_late.new.counts).items =
+    subst (λ l. IsCounted h s (a.popped ++ c.args.met.now.id ∷ []) w.candidates.items l) (sym (with_items_is w.counts c.count_late.new.counts (same ∙ sym w.counts.ok.0))) more in
+    let refuted = λ (st : IsSettledAt h s names a.popped c.args.met.now.id). elim c.else-is_empty.branch as (λ _. ⊥) [
       | else-is_empty-via-then-is_empty+then-not-is_empty+else-is_settled b ↦
-          let all = are_settled h s names a.popped w.candidates.items (with_items w.counts c.count_late.new.counts).items c.args.id (bits (held_at c.args.graph.now c.args.id)) a.named after (λ j below. a.at.marked.marks j below c.args.id) st in
+          let all = are_settled h s names a.popped w.candidates.items (with_items w.counts c.count_late.new.counts).items c.args.met.now.id (bits (held_at c.args.graph.now c.args.met.now.id)) a.named after (λ j below. a.at.marked.marks j below c.args.met.now.id) st in
           let t = b.is_settled.ensures.1 (λ j below lowest. ap (λ m. bit_at m j) c.marks_of-marks.ensures ∙ all j (subst (λ l. j < length l) b.deref.ensures.value below) (subst (λ l. IsLowest l (slice_index l j)) b.deref.ensures.value lowest)) in
           let f : true ≡ false = sym t ∙ b.if-is_settled.false in cc
       | else-is_empty-via-then-is_empty+else-not-is_empty b ↦
           let len : w.candidates.len ≡ 0 = zero_from w.candidates.len (sym b.is_empty-then-is_empty.ensures ∙ b.if-not-is_empty.false) in
           none_left w.candidates.items st.some.0 (sym w.candidates.ok.0 ∙ len) (ap (λ l. is_one_of l st.some.0) a.named ∙ st.some.1)
       | else-is_empty-via-else-is_empty b ↦
-          let r = queue_some h s w.queue (others h s a.popped c.args.id) a.at.queue (λ e. let z : (length w.queue == 0) ≡ true = ap (λ n. n == 0) e in let f : true ≡ false = sym z ∙ sym c.is_empty.ensures ∙ b.if-is_empty.false in cc) in
+          let r = queue_some h s w.queue (others h s a.popped c.args.met.now.id) a.at.queue (λ e. let z : (length w.queue == 0) ≡ true = ap (λ n. n == 0) e in let f : true ≡ false = sym z ∙ sym c.is_empty.ensures ∙ b.if-is_empty.false in cc) in
           st.left r.0 r.1
     ] in
     record {
-      popped = a.popped ++ c.args.id ∷ [];
+      popped = a.popped ++ c.args.met.now.id ∷ [];
       at = record {
-        walk = goes_more h s a.popped c.args.id a.at.walk a.next;
-        known = inr (known_more h s a.popped w.candidates.items c.args.id (held_at c.args.graph.now) (held_at c.hand_on.new.graph) w.queue c.hand_on.new.queue a.at.walk a.next a.at.marked a.at.queue on a.at.known);
-        queue = queue_more h s a.popped w.candidates.items c.args.id (held_at c.args.graph.now) (held_at c.hand_on.new.graph) w.queue c.hand_on.new.queue a.at.walk a.next a.at.marked a.at.queue on;
-        marked = marked_more_by h s a.popped w.candidates.items c.args.id (held_at c.args.graph.now) (held_at c.hand_on.new.graph) w.queue c.hand_on.new.queue a.at.walk a.next a.at.marked a.at.queue on;
+        walk = goes_more h s a.popped c.args.met.now.id a.at.walk a.next;
+        has = a.at.has;
+        queue = queue_more h s a.popped w.candidates.items c.args.met.now.id (held_at c.args.graph.now) (held_at c.hand_on.new.graph) w.queue c.hand_on.new.queue a.at.walk a.next a.at.marked a.at.queue on;
+        marked = marked_more_by h s a.popped w.candidates.items c.args.met.now.id (held_at c.args.graph.now) (held_at c.hand_on.new.graph) w.queue c.hand_on.new.queue a.at.walk a.next a.at.marked a.at.queue on;
         seen = let seen : w.seen ≡ length a.popped = a.at.seen in omega arith;
       };
-      counted = subst (λ l. IsCounted h s (a.popped ++ c.args.id ∷ []) w.candidates.items l) (sym (with_items_is w.counts c.count_late.new.counts (same ∙ sym w.counts.ok.0))) more;
+      counted = subst (λ l. IsCounted h s (a.popped ++ c.args.met.now.id ∷ []) w.candidates.items l) (sym (with_items_is w.counts c.count_late.new.counts (same ∙ sym w.counts.ok.0))) more;
       named = a.named;
       few = a.few;
-      going = λ ys rest z e. elim (split_push a.popped c.args.id ys rest z e) as (λ _. ¬ IsSettledAt h s names ys z) [
-        | inl k ↦ λ st. absurd (refuted (subst (λ l. IsSettledAt h s names l c.args.id) k.0 (subst (λ q. IsSettledAt h s names ys q) k.1 st)))
+      going = λ ys rest z e. elim (split_push a.popped c.args.met.now.id ys rest z e) as (λ _. ¬ IsSettledAt h s names ys z) [
+        | inl k ↦ λ st. absurd (refuted (subst (λ l. IsSettledAt h s names l c.args.met.now.id) k.0 (subst (λ q. IsSettledAt h s names ys q) k.1 st)))
         | inr k ↦ a.going ys k.0 z k.1
       ];
     }
 
-pub returns-in-Ok-clause-asked : goal.returns-in-Ok-clause-asked
-returns-in-Ok-clause-asked g c = asks_answered _ _ _ _ _ _ c.in-Ok.ensures.asked
+pub returns-clause-asked : goal.returns-clause-asked
+returns-clause-asked g c = asks_answered _ _ _ _ _ _ c.in_ok-hand_on.ensures.asked
 
-pub returns-in-Err-clause-asked : goal.returns-in-Err-clause-asked
-returns-in-Err-clause-asked g c =
+pub returns-in_err-hand_on-clause-asked : goal.returns-in_err-hand_on-clause-asked
+returns-in_err-hand_on-clause-asked g c =
     let a = c.requires.admitted in
     let h = followed c.args.search.first_parent (g.S.Find.history c.args.graph.now.source) in
-    asks_more _ _ _ _ _ _ (Some c.in-Err.refused) (hand_refused h c.args.search.start a.popped c.args.id a.at.walk a.next a.at.known) c.in-Err.ensures.asked
+    rw (refusal_came c.from_residual.result _ c.from_residual.ensures.1) (asks_more _ _ _ _ _ _ (Some c.in_err-hand_on.field-0.0) (hand_refused h c.args.search.start a.popped c.args.met.now.id a.at.walk a.next a.at.has) c.in_err-hand_on.ensures.asked)
+
+pub hand_on-requires-clause-has : goal.hand_on-requires-clause-has
+hand_on-requires-clause-has g c =
+    let a = c.requires.admitted in
+    next_there (followed c.args.search.first_parent (g.S.Find.history c.args.graph.now.source)) c.args.search.start a.popped c.args.met.now.id a.at.walk a.next a.at.has
+
+pub hand_on-requires-clause-known : goal.hand_on-requires-clause-known
+hand_on-requires-clause-known g c = λ q held.
+    let a = c.requires.admitted in
+    met_there (followed c.args.search.first_parent (g.S.Find.history c.args.graph.now.source)) c.args.search.start a.popped q a.at.has (sym (a.at.marked.met q) ∙ held)

@@ -9,9 +9,9 @@ use Rattle.gix_describe.specs.Trace.{has_mark, late_of}
 use Rattle.gix_describe.specs.WalkState.{others, IsCompletedAt}
 use Rattle.gix_describe.specs.Handing.{bit}
 use Rattle.gix_revwalk.proofs.Members.{one_of-left}
-use Rattle.gix_describe.proofs.WalkSteps.{marked_more_by, queue_more, goes_more, hand_refused, many, left_marked, late_le, bit_true, late_next, split_push}
+use Rattle.gix_describe.proofs.WalkSteps.{marked_more_by, queue_more, goes_more, hand_refused, next_there, met_there, many, left_marked, late_le, bit_true, late_next, split_push}
 use Rattle.gix_describe.proofs.describe.walk.Walk.pass_for.Goals.{else-late-eq0-via-then-late-eq0+else-all_marked, else-late-eq0-via-else-late-eq0}
-use Rattle.gix_describe.proofs.Asked.{asks_more, asks_answered}
+use Rattle.gix_describe.proofs.Asked.{asks_more, asks_answered, refusal_came}
 use Rattle.gix_describe.proofs.describe.walk.Walk.pass_for.Goals as goal
 
 pub returns-then-self-clause-asked : goal.returns-then-self-clause-asked
@@ -19,13 +19,13 @@ returns-then-self-clause-asked g c =
     let a = c.requires.taken.1 in
     let h = followed c.args.search.first_parent (g.S.Find.history c.args.graph.now.source) in
     let len : length a.popped ≡ 4294967295 = sym a.at.seen ∙ c.if-self.true in
-    record { same_history = refl; count = refl; cause = many h c.args.search.start a.popped c.args.id 4294967295 a.at.walk a.next a.at.known len (omega arith) }
+    record { same_history = refl; count = refl; cause = many h c.args.search.start a.popped c.args.met.now.id 4294967295 a.at.walk a.next a.at.has len }
 
 pub returns-then-all_marked-clause-passed : goal.returns-then-all_marked-clause-passed
 returns-then-all_marked-clause-passed g c = λ cut a.
     let h = followed c.args.search.first_parent (g.S.Find.history c.args.graph.now.source) in
     let s = c.args.search.start in
-    let x = c.args.id in
+    let x = c.args.met.now.id in
     let t = get_or c.args.self.now.candidates.items c.args.place s in
     let low : bit_at c.marks_of-marks.result c.args.place < 2 = bit_at-lt c.marks_of-marks.result c.args.place in
     let lacks : 1 - bit_at c.marks_of-marks.result c.args.place ≡ 0 = ap (λ b. 1 - b) (sym c.bit_of-late.ensures) ∙ c.if-late-eq0.true in
@@ -61,14 +61,14 @@ overflow_add-result g c =
     let seen : c.args.self.now.seen ≡ length a.popped = a.at.seen in
     omega arith
 
-pub returns-in-Ok-clause-passed : goal.returns-in-Ok-clause-passed
-returns-in-Ok-clause-passed g c = λ cut a.
+pub returns-clause-passed : goal.returns-clause-passed
+returns-clause-passed g c = λ cut a.
     let h = followed c.args.search.first_parent (g.S.Find.history c.args.graph.now.source) in
     let s = c.args.search.start in
-    let x = c.args.id in
+    let x = c.args.met.now.id in
     let w = c.args.self.now in
     let t = get_or w.candidates.items c.args.place s in
-    let on = rw c.marks_of-marks.ensures at c.in-Ok.ensures.handed in
+    let on = rw c.marks_of-marks.ensures at c.in_ok-hand_on.ensures.handed in
     let pushed : length (a.popped ++ x ∷ []) ≡ length a.popped + 1 = length_push a.popped x in
     let mark : bit_at c.marks_of-marks.result c.args.place ≡ bit (has_mark h t a.popped x) = ap (λ m. bit_at m c.args.place) c.marks_of-marks.ensures ∙ a.at.marked.marks c.args.place a.inside x in
     let refuted : IsCompletedAt h s t a.popped x → ⊥ = λ st. elim c.else-late-eq0.branch as (λ _. ⊥) [
@@ -81,7 +81,7 @@ returns-in-Ok-clause-passed g c = λ cut a.
       popped = a.popped ++ x ∷ [];
       at = record {
         walk = goes_more h s a.popped x a.at.walk a.next;
-        known = inr a.has;
+        has = a.has;
         queue = queue_more h s a.popped w.candidates.items x (held_at c.args.graph.now) (held_at c.hand_on.new.graph) w.queue c.hand_on.new.queue a.at.walk a.next a.at.marked a.at.queue on;
         marked = marked_more_by h s a.popped w.candidates.items x (held_at c.args.graph.now) (held_at c.hand_on.new.graph) w.queue c.hand_on.new.queue a.at.walk a.next a.at.marked a.at.queue on;
         seen = let seen : w.seen ≡ length a.popped = a.at.seen in omega arith;
@@ -97,11 +97,21 @@ returns-in-Ok-clause-passed g c = λ cut a.
       ];
     }
 
-pub returns-in-Ok-clause-asked : goal.returns-in-Ok-clause-asked
-returns-in-Ok-clause-asked g c = asks_answered _ _ _ _ _ _ c.in-Ok.ensures.asked
+pub returns-clause-asked : goal.returns-clause-asked
+returns-clause-asked g c = asks_answered _ _ _ _ _ _ c.in_ok-hand_on.ensures.asked
 
-pub returns-in-Err-clause-asked : goal.returns-in-Err-clause-asked
-returns-in-Err-clause-asked g c =
+pub returns-in_err-hand_on-clause-asked : goal.returns-in_err-hand_on-clause-asked
+returns-in_err-hand_on-clause-asked g c =
     let a = c.requires.taken.1 in
     let h = followed c.args.search.first_parent (g.S.Find.history c.args.graph.now.source) in
-    asks_more _ _ _ _ _ _ (Some c.in-Err.refused) (hand_refused h c.args.search.start a.popped c.args.id a.at.walk a.next a.at.known) c.in-Err.ensures.asked
+    rw (refusal_came c.from_residual.result _ c.from_residual.ensures.1) (asks_more _ _ _ _ _ _ (Some c.in_err-hand_on.field-0.0) (hand_refused h c.args.search.start a.popped c.args.met.now.id a.at.walk a.next a.at.has) c.in_err-hand_on.ensures.asked)
+
+pub hand_on-requires-clause-has : goal.hand_on-requires-clause-has
+hand_on-requires-clause-has g c =
+    let a = c.requires.taken.1 in
+    next_there (followed c.args.search.first_parent (g.S.Find.history c.args.graph.now.source)) c.args.search.start a.popped c.args.met.now.id a.at.walk a.next a.at.has
+
+pub hand_on-requires-clause-known : goal.hand_on-requires-clause-known
+hand_on-requires-clause-known g c = λ q held.
+    let a = c.requires.taken.1 in
+    met_there (followed c.args.search.first_parent (g.S.Find.history c.args.graph.now.source)) c.args.search.start a.popped q a.at.has (sym (a.at.marked.met q) ∙ held)

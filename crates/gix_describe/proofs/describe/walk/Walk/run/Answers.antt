@@ -3,7 +3,7 @@ use Rattle.gix_revwalk.specs.History.{History}
 use Rattle.gix_revwalk.specs.Followed.{followed}
 use Rattle.gix_describe.specs.Outcomes.{names_of}
 use Rattle.gix_describe.proofs.WalkSteps.{bounded}
-use Rattle.gix_describe.proofs.Asked.{asks_on}
+use Rattle.gix_describe.proofs.Asked.{asks_on, refusal_came}
 use Rattle.gix_describe.proofs.WalkEnds.{rests_ended}
 use Rattle.gix_describe.proofs.describe.walk.Walk.run.Goals as goal
 
@@ -14,24 +14,24 @@ pub loop-next-smaller : goal.loop-next-smaller
 loop-next-smaller g c =
     let size = λ (x : History). length (followed c.args.search.first_parent x) in
     let hist : g.S.Find.history c.admit.new.graph.source ≡ g.S.Find.history c.args.graph.now.source = ap g.S.Find.history c.admit.ensures.source ∙ c.loop-next.invariant.asked.same_history in
-    let rests = rw (hist, c.in-Ok-false-pass.field-0-test) at c.in-Ok-false-pass.ensures.passed in
-    let few = bounded _ _ rests.popped rests.at.walk rests.at.known in
+    let rests = rw (hist, c.if-settled.false) at c.in_ok-settled.ensures.passed in
+    let few = bounded _ _ rests.popped rests.at.walk rests.at.has in
     let seen : c.pass.new.self.seen ≡ length rests.popped = rests.at.seen in
-    let more : c.pass.new.self.seen ≡ c.loop-next.self.seen + 1 = c.in-Ok-false-pass.ensures.seen ∙ ap (λ n. n + 1) (c.admit.ensures.seen ∙ c.next.ensures.seen) in
+    let more : c.pass.new.self.seen ≡ c.loop-next.self.seen + 1 = c.in_ok-settled.ensures.seen ∙ ap (λ n. n + 1) (c.admit.ensures.seen ∙ c.next.ensures.seen) in
     fewer _ _ _ _ _ (ap size c.loop-next.invariant.asked.same_history) (ap size (c.pass.ensures.asked.same_history ∙ hist)) more (omega (arith, few))
 
 pub loop-next-preserved : goal.loop-next-preserved
 loop-next-preserved g c =
     let same = c.loop-next.invariant.asked.same_history in
     record {
-      rests = rw (c.admit.ensures.source, same, c.in-Ok-false-pass.field-0-test) at c.in-Ok-false-pass.ensures.passed;
-      asked = asks_on _ _ _ _ _ _ _ None c.loop-next.invariant.asked (rw (c.admit.ensures.source, same) at c.in-Ok-false-pass.ensures.asked);
+      rests = rw (c.admit.ensures.source, same, c.if-settled.false) at c.in_ok-settled.ensures.passed;
+      asked = asks_on _ _ _ _ _ _ _ None c.loop-next.invariant.asked (rw (c.admit.ensures.source, same) at c.in_ok-settled.ensures.asked);
     }
 
-pub returns-in-Err-pass-clause-asked : goal.returns-in-Err-pass-clause-asked
-returns-in-Err-pass-clause-asked g c =
+pub returns-in_err-settled-clause-asked : goal.returns-in_err-settled-clause-asked
+returns-in_err-settled-clause-asked g c =
     let same = c.loop-next.invariant.asked.same_history in
-    asks_on _ _ _ _ _ _ _ (Some c.in-Err-pass.refused) c.loop-next.invariant.asked (rw (c.admit.ensures.source, same) at c.in-Err-pass.ensures.asked)
+    rw (refusal_came c.from_residual-in_err-settled.result _ c.from_residual-in_err-settled.ensures.1) (asks_on _ _ _ _ _ _ _ (Some c.in_err-settled.field-0.0) c.loop-next.invariant.asked (rw (c.admit.ensures.source, same) at c.in_err-settled.ensures.asked))
 
 pub returns-clause-ended : goal.returns-clause-ended
 returns-clause-ended g c =
