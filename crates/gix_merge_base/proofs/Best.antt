@@ -1,16 +1,14 @@
 -- The maximal ones of what painting gives are the best common ancestors.
-use Rattle.std.proofs.Common.{◌≡◌, true, false, cond, refl, ap, sym, subst, ◌∙◌, List, [], ◌∷◌, ◌++◌, inl, inr, IsTrue, ◌↔◌, ◌≤◌, length, arith, append_assoc}
+use Rattle.std.proofs.Common.{◌≡◌, true, false, refl, sym, subst, ◌∙◌, List, [], ◌∷◌, IsTrue, ◌↔◌, ◌≤◌, length, arith}
 use Rattle.std.specs.List.{IsDistinct}
 use Rattle.gix_revwalk.proofs.Ids.{same_id-equal}
 use Rattle.gix_base.specs.declared.hash.ObjectId.{ObjectId}
 use Rattle.gix_revwalk.specs.History.{History, IsAncestor, IsAcyclic, is_one_of, same_id}
 use Rattle.gix_merge_base.specs.Bases.{IsCommon, IsMaximal}
 use Rattle.gix_revwalk.specs.History.IsAncestor.{itself, further}
-use Rattle.gix_revwalk.specs.Walks.{all_added}
-use Rattle.gix_merge_base.specs.Keys.{InFallingOrder}
 use Rattle.gix_merge_base.specs.Reducing.{IsIndependent, firsts, SomeOf}
-use Rattle.gix_merge_base.proofs.Reduction.{falling_filter, firsts_once, firsts_has}
-use Rattle.gix_revwalk.proofs.Members.{one_of-head, one_of-tail, one_of-single, one_of-left, one_of-right, one_of-cases, one_of-filter, distinct_filter}
+use Rattle.gix_merge_base.proofs.Reduction.{firsts_once, firsts_has}
+use Rattle.gix_revwalk.proofs.Members.{one_of-head, one_of-tail, one_of-single, one_of-filter, distinct_filter}
 use Rattle.gix_revwalk.proofs.Ancestors.{anc-trans}
 use Rattle.gix_merge_base.proofs.Octopus.{best_above}
 
@@ -49,27 +47,6 @@ few_alike (x ∷ y ∷ xs) d alike =
     let off : same_id x y ≡ false = d.0.0 in
     let on : same_id x y ≡ true = same_id-equal x y (alike x y (one_of-head x (y ∷ xs)) (one_of-tail x (y ∷ xs) y (one_of-head y xs))) in
     cc
-
-falling_remove : (h : History) (xs : List ObjectId) (p : ObjectId) (ps : List ObjectId) → InFallingOrder h (xs ++ p ∷ ps) → InFallingOrder h (xs ++ ps)
-falling_remove h [] p ps o = o.1
-falling_remove h (x ∷ xs) p ps o = (
-  λ y k. o.0 y (elim (one_of-cases xs ps y k) as (λ _. IsTrue (is_one_of (xs ++ p ∷ ps) y)) [ inl a ↦ one_of-left xs (p ∷ ps) y a | inr b ↦ one_of-right xs (p ∷ ps) y (one_of-tail p ps y b) ]),
-  falling_remove h xs p ps o.1,
-)
-
-added_falls : (h : History) (xs ps : List ObjectId) → InFallingOrder h (xs ++ ps) → InFallingOrder h (all_added xs ps)
-added_falls h xs [] o = subst (InFallingOrder h) (append_nil xs) o
-  where
-    append_nil : (l : List ObjectId) → l ++ [] ≡ l
-    append_nil [] = refl
-    append_nil (x ∷ l) = ap (λ t. x ∷ t) (append_nil l)
-added_falls h xs (p ∷ ps) o = elim (is_one_of xs p) as (λ b. InFallingOrder h (all_added (cond b xs (xs ++ p ∷ [])) ps)) [
-  | true ↦ added_falls h xs ps (falling_remove h xs p ps o)
-  | false ↦ added_falls h (xs ++ p ∷ []) ps (rw append_assoc o)
-]
-
-pub some_falls : (h : History) (xs ys : List ObjectId) → SomeOf xs ys → InFallingOrder h xs → InFallingOrder h ys
-some_falls h xs ys s o = rw s.1 (falling_filter h s.0 (firsts xs) (added_falls h [] xs o))
 
 pub some_once : (xs ys : List ObjectId) → SomeOf xs ys → IsDistinct same_id ys
 some_once xs ys s = rw s.1 (distinct_filter s.0 (firsts xs) (firsts_once xs))

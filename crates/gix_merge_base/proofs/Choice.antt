@@ -4,17 +4,16 @@ use Rattle.std.proofs.Common.{◌≡◌, ℕ, Bool, true, false, if◌then◌els
 use Rattle.std.specs.Option.{MatchOption, option_cmp}
 use Rattle.std.specs.declared.cmp.Ordering.{Ordering}
 use Rattle.std.specs.declared.cmp.Ordering.TheVariants.{Less, Equal, Greater}
-use Rattle.std.specs.declared.cmp.Reverse.{Reverse}
 use Rattle.std.specs.Ordering.{nat_cmp, int_cmp, is_lt, is_gt, is_eq, ordering_then, ordering_reverse, ord_max}
 use Rattle.std.specs.Cmp.{IsTotalOrder, upto, tied_itself}
 use Rattle.std.specs.Cmp.Lexicographic.{slice_cmp, texts_ties}
 use Rattle.std.proofs.lemmas.Cmp.{then_total, back_total, on_total, nat_cmp_total, int_cmp_total, nat_list_cmp_total}
 use Rattle.gix_base.specs.declared.hash.ObjectId.{ObjectId}
 use Rattle.gix_revwalk.specs.History.{History, Has, entry_at, is_one_of, generation_of, time_of}
-use Rattle.gix_merge_base.specs.Octopus.{choice}
-use Rattle.gix_merge_base.specs.OctopusSteps.{IsFirstChoice, candidate_at}
+use Rattle.gix_merge_base.specs.Keys.{choice}
+use Rattle.gix_merge_base.specs.OctopusSteps.{IsFirstChoice}
+use Rattle.gix_merge_base.specs.Candidates.{Candidate, candidate_for, candidate_at}
 use Rattle.gix_merge_base.specs.GenThenTime.{key_order}
-use Rattle.gix_merge_base.specs.declared.merge_base.gen_then_time.GenThenTime.{GenThenTime}
 use Rattle.gix_revwalk.proofs.Ids.{same_id-true}
 use Rattle.gix_revwalk.proofs.Members.{one_of-left, one_of-right, one_of-cases, one_of-single, one_of-head, take_next}
 
@@ -50,14 +49,7 @@ neither Greater s e f g = absurd (f refl)
 pub choice-unique : (h : History) (x y : ObjectId) → (IsTrue (is_gt (choice h x y)) → ⊥) → (IsTrue (is_gt (choice h y x)) → ⊥) → x ≡ y
 choice-unique h x y f g = choice-same h x y (neither (choice h x y) (choice h y x) ((choice_total h).antisymm x y) f g)
 
--- what decides between commits
-abbrev Candidate : Type 0
-Candidate = GenThenTime × Reverse ObjectId
-
-abbrev key_at : History → ObjectId → Candidate
-key_at h id = (record { generation = generation_of h id; time = time_of h id }, record { 0 = id })
-
-abbrev candidate_cmp : Candidate → Candidate → Ordering
+abbrev pub candidate_cmp : Candidate → Candidate → Ordering
 candidate_cmp a b = ordering_then (key_order a.0 b.0) (slice_cmp nat_cmp b.1.0.0 a.1.0.0)
 
 then_assoc : (p q r : Ordering) → ordering_then (ordering_then p q) r ≡ ordering_then p (ordering_then q r)
@@ -65,8 +57,8 @@ then_assoc Less q r = refl
 then_assoc Equal q r = refl
 then_assoc Greater q r = refl
 
--- of two commits the one that is chosen first has the greater candidate
-greater_first : (h : History) (x b : ObjectId) → candidate_cmp (key_at h x) (key_at h b) ≡ choice h b x
+-- of two commits the one that comes first has the greater candidate
+pub greater_first : (h : History) (x b : ObjectId) → candidate_cmp (candidate_for h x) (candidate_for h b) ≡ choice h b x
 greater_first h x b = then_assoc (nat_cmp (generation_of h x) (generation_of h b)) (int_cmp (time_of h x) (time_of h b)) (slice_cmp nat_cmp b.0 x.0)
 
 lt_not_gt : (r : Ordering) → is_lt r ≡ true → is_gt r ≡ false
@@ -114,7 +106,7 @@ first_old h xs x b was later = record {
 
 -- c is the candidate of its id, which is the first choice among ids
 pub record IsChosen (h : History) (ids : List ObjectId) (c : Candidate) : Type 0 where
-  pub keyed : c ≡ key_at h c.1.0
+  pub keyed : c ≡ candidate_for h c.1.0
   pub first : IsFirstChoice h ids c.1.0
 
 -- the greatest candidate of some ids, none where the history has none of them
@@ -125,11 +117,11 @@ module _ (h : History) (ids : List ObjectId) (x : ObjectId) where
   lacks_more : ((y : ObjectId) → IsTrue (is_one_of ids y) → ¬ Has h y) → (¬ Has h x) → (y : ObjectId) → IsTrue (is_one_of (ids ++ x ∷ []) y) → ¬ Has h y
   lacks_more lacked not y m there = elim (one_of-cases ids (x ∷ []) y m) as (λ _. ⊥) [ inl k ↦ lacked y k there | inr k ↦ not (subst (λ z. Has h z) (one_of-single x y k) there) ]
 
-  better_is : (c : Candidate) → IsChosen h ids c → Has h x → IsChosenOf h (ids ++ x ∷ []) (ord_max (option_cmp candidate_cmp) (Some c) (Some (key_at h x)))
+  better_is : (c : Candidate) → IsChosen h ids c → Has h x → IsChosenOf h (ids ++ x ∷ []) (ord_max (option_cmp candidate_cmp) (Some c) (Some (candidate_for h x)))
   better_is c was has =
       let b = c.1.0 in
-      let is : candidate_cmp (key_at h x) c ≡ choice h b x = ap (candidate_cmp (key_at h x)) was.keyed ∙ greater_first h x b in
-      elim (is_lt (candidate_cmp (key_at h x) c)) as (λ t. is_lt (candidate_cmp (key_at h x) c) ≡ t → IsChosenOf h (ids ++ x ∷ []) (if t then Some c else Some (key_at h x))) [
+      let is : candidate_cmp (candidate_for h x) c ≡ choice h b x = ap (candidate_cmp (candidate_for h x)) was.keyed ∙ greater_first h x b in
+      elim (is_lt (candidate_cmp (candidate_for h x) c)) as (λ t. is_lt (candidate_cmp (candidate_for h x) c) ≡ t → IsChosenOf h (ids ++ x ∷ []) (if t then Some c else Some (candidate_for h x))) [
         | true ↦ λ e. record { keyed = was.keyed; first = first_old h ids x b was.first (λ _. lt_not_gt _ (sym (ap is_lt is) ∙ e)) }
         | false ↦ λ e. record { keyed = refl; first = first_new h ids x b was.first has (turned _ _ ((choice_total h).antisymm x b) (sym (ap is_lt is) ∙ e)) }
       ] refl
@@ -137,8 +129,8 @@ module _ (h : History) (ids : List ObjectId) (x : ObjectId) where
   chosen_more : (best : Option Candidate) → IsChosenOf h ids best → IsChosenOf h (ids ++ x ∷ []) (ord_max (option_cmp candidate_cmp) best (candidate_at h x))
   chosen_more best was =
       elim (is_some (entry_at h x)) as (λ t. is_some (entry_at h x) ≡ t
-      → IsChosenOf h (ids ++ x ∷ []) (ord_max (option_cmp candidate_cmp) best (if t then Some (key_at h x) else None))) [
-        | true ↦ λ has. elim best as (λ o. IsChosenOf h ids o → IsChosenOf h (ids ++ x ∷ []) (ord_max (option_cmp candidate_cmp) o (Some (key_at h x)))) [
+      → IsChosenOf h (ids ++ x ∷ []) (ord_max (option_cmp candidate_cmp) best (if t then Some (candidate_for h x) else None))) [
+        | true ↦ λ has. elim best as (λ o. IsChosenOf h ids o → IsChosenOf h (ids ++ x ∷ []) (ord_max (option_cmp candidate_cmp) o (Some (candidate_for h x)))) [
           | None ↦ λ lacked. record { keyed = refl; first = first_only h ids x lacked has }
           | Some c ↦ λ chosen. better_is c chosen has
         ] was

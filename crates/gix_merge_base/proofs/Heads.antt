@@ -11,7 +11,8 @@ use Rattle.gix_base.specs.declared.hash.ObjectId.{ObjectId}
 use Rattle.gix_revwalk.specs.History.{History, same_id, is_one_of, Has, IsAncestor, IsAncestorOfOne, IsAncestorOfAll, IsAcyclic, GenerationsNeverRise}
 use Rattle.gix_revwalk.specs.History.IsAncestor.{itself}
 use Rattle.gix_merge_base.specs.Bases.{IsCommon, IsMaximal, CoverBases, is_trivial}
-use Rattle.gix_merge_base.specs.Octopus.{IsOctopusBase, IsCommonToAll, choice}
+use Rattle.gix_merge_base.specs.Octopus.{IsOctopusBase, IsCommonToAll}
+use Rattle.gix_merge_base.specs.Keys.{choice}
 use Rattle.gix_merge_base.specs.OctopusSteps.{IsCommonWith, AddsBases, CoversEach, AreApart, IsReduced, IsStep, AreOctopusBases, IsBestOf}
 use Rattle.gix_revwalk.proofs.Ids.{same_id-equal}
 use Rattle.gix_revwalk.proofs.Members.{one_of-left, one_of-right, one_of-cases, one_of-single, one_of-head, take_next}

@@ -6,6 +6,8 @@ pub mod AmongOnes
 pub mod Lacked
 pub mod Least
 pub mod Choice
+pub mod Sorting
+pub mod Orders
 pub mod Unreached
 pub mod Heads
 pub mod AfterCalls

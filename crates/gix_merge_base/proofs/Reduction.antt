@@ -8,7 +8,6 @@ use Rattle.gix_base.specs.declared.hash.ObjectId.{ObjectId}
 use Rattle.gix_revwalk.specs.History.{History, Entry, entry_at, parents_in, Has, IsEdge, IsAncestor, IsAcyclic, is_one_of, same_id, generation_of, GenerationsNeverRise}
 use Rattle.gix_revwalk.specs.History.IsAncestor.{itself, further}
 use Rattle.gix_revwalk.specs.Walks.{parents_of_all, all_added}
-use Rattle.gix_merge_base.specs.Keys.{InFallingOrder}
 use Rattle.gix_merge_base.specs.Marks.{MarkSet, marks_in, level, met}
 use Rattle.gix_merge_base.specs.PaintSteps.{Hands, total}
 use Rattle.gix_merge_base.specs.Reducing.{firsts, IsIndependent}
@@ -219,14 +218,6 @@ nothing = tt
 
 pub firsts_once : (ids : List ObjectId) → IsDistinct same_id (firsts ids)
 firsts_once ids = gathered_once [] ids nothing
-
--- a part of a list in falling order is in falling order
-pub falling_filter : (h : History) (keep : ObjectId → Bool) (xs : List ObjectId) → InFallingOrder h xs → InFallingOrder h (filter keep xs)
-falling_filter h keep [] o = tt
-falling_filter h keep (x ∷ xs) o = elim (keep x) as (λ b. InFallingOrder h (cond b (x ∷ filter keep xs) (filter keep xs))) [
-  | true ↦ (λ y k. o.0 y (one_of-filter keep xs y k).0, falling_filter h keep xs o.1)
-  | false ↦ falling_filter h keep xs o.1
-]
 
 -- the answer
 pub left_over : (m : ObjectId → MarkSet) (ids : List ObjectId) (c : ObjectId) → IsTrue (is_one_of (filter (λ x. not (m x).stale) (firsts ids)) c) ↔ (IsTrue (is_one_of ids c) × ((m c).stale ≡ false))

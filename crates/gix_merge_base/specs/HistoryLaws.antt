@@ -3,7 +3,8 @@ use Rattle.std.specs.Prelude.{◌≡◌, ◌↔◌, List, [], ◌∷◌, ◌++�
 use Rattle.std.specs.List.Sorted.{IsPermutation}
 use Rattle.gix_merge_base.specs.Octopus.{IsOctopusBase}
 use Rattle.gix_revwalk.specs.History.{History, Has, is_one_of, IsEdge, IsAcyclic, IsAncestor}
-use Rattle.gix_merge_base.specs.Bases.{IsMaximal, IsBase}
+use Rattle.gix_merge_base.specs.Bases.{IsMaximal, IsBase, AreBases}
+use Rattle.gix_merge_base.specs.Keys.{IsInOrder, InFallingOrder}
 use Rattle.gix_revwalk.specs.Sizes.{is_empty}
 use Rattle.gix_base.specs.declared.hash.ObjectId.{ObjectId}
 
@@ -87,3 +88,13 @@ OctopusBaseInAnyOrder =
     (h : History) (f g : ObjectId) (os ps : List ObjectId) (r s : Option ObjectId)
     → IsPermutation (f ∷ os) (g ∷ ps)
     → IsOctopusBase h f os r → IsOctopusBase h g ps s → r ≡ s
+
+-- ids in order fall by generation, then time
+abbrev pub OrderedIdsFall : Type 0
+OrderedIdsFall = (h : History) (ids : List ObjectId) → IsInOrder h ids → InFallingOrder h ids
+
+-- the merge bases in order are one list
+abbrev pub OrderedBasesAreOne : Type 0
+OrderedBasesAreOne =
+    (h : History) (f : ObjectId) (os xs ys : List ObjectId)
+    → AreBases h f os xs → IsInOrder h xs → AreBases h f os ys → IsInOrder h ys → xs ≡ ys

@@ -1,5 +1,10 @@
--- The order of commits by generation, then time: git's technical/commit-graph, "generation number".
+-- The order of commits by generation, then time, then id: git's technical/commit-graph,
+-- "generation number".
 use Rattle.std.specs.Prelude.{◌≡◌, ◌<◌, ◌≤◌, List, [], ◌∷◌, IsTrue, ◌⊎◌, ◌<ℤ◌, ◌≤ℤ◌}
+use Rattle.std.specs.List.Sorted.{IsStrictlySortedBy}
+use Rattle.std.specs.Ordering.{nat_cmp, int_cmp, ordering_then}
+use Rattle.std.specs.Cmp.Lexicographic.{slice_cmp}
+use Rattle.std.specs.declared.cmp.Ordering.{Ordering}
 use Rattle.gix_revwalk.specs.History.{History, IsEdge, is_one_of, generation_of, time_of}
 use Rattle.gix_base.specs.declared.hash.ObjectId.{ObjectId}
 
@@ -30,3 +35,13 @@ abbrev pub InFallingOrder : History → List ObjectId → Type 0
 InFallingOrder h [] = Unit {0}
 InFallingOrder h (x ∷ xs) =
     ((y : ObjectId) → IsTrue (is_one_of xs y) → KeyAtMost h y x) × InFallingOrder h xs
+
+-- `Less` where x comes before y: the greater generation, then the greater time, then the smaller id
+abbrev pub choice : History → ObjectId → ObjectId → Ordering
+choice h x y =
+    ordering_then (nat_cmp (generation_of h y) (generation_of h x))
+    (ordering_then (int_cmp (time_of h y) (time_of h x)) (slice_cmp nat_cmp x.0 y.0))
+
+-- each id comes before all later ones
+abbrev pub IsInOrder : History → List ObjectId → Type 0
+IsInOrder h ids = IsStrictlySortedBy (choice h) ids

@@ -1,18 +1,11 @@
 -- What the merge of many heads goes back to: git-merge-base, "--octopus", over all bases of each step.
 use Rattle.std.specs.Prelude.{◌≡◌, List, ◌∷◌, IsTrue, Option, Some, MatchBool, MatchOption}
 use Rattle.std.specs.List.{list_all}
-use Rattle.std.specs.Ordering.{nat_cmp, int_cmp, ordering_then, is_gt}
-use Rattle.std.specs.Cmp.Lexicographic.{slice_cmp}
-use Rattle.std.specs.declared.cmp.Ordering.{Ordering}
+use Rattle.std.specs.Ordering.{is_gt}
 use Rattle.gix_base.specs.declared.hash.ObjectId.{ObjectId}
-use Rattle.gix_revwalk.specs.History.{History, same_id, generation_of, time_of, IsAncestorOfAll}
+use Rattle.gix_revwalk.specs.History.{History, same_id, IsAncestorOfAll}
 use Rattle.gix_merge_base.specs.Bases.{IsMaximal}
-
--- `Less` where x is chosen before y: the greater generation, then the greater time, then the smaller id
-abbrev pub choice : History → ObjectId → ObjectId → Ordering
-choice h x y =
-    ordering_then (nat_cmp (generation_of h y) (generation_of h x))
-    (ordering_then (int_cmp (time_of h y) (time_of h x)) (slice_cmp nat_cmp x.0 y.0))
+use Rattle.gix_merge_base.specs.Keys.{choice}
 
 -- r is the octopus base of f and os: f where all of them are f; else the first in that order of the
 -- maximal ones among the ancestors common to all, and none where nothing is common

@@ -1,13 +1,11 @@
 -- How an octopus goes from head to head: with each head it follows every base that it has.
-use Rattle.std.specs.Prelude.{◌≡◌, ◌↔◌, ◌⊎◌, List, [], ◌∷◌, IsTrue, MatchBool, MatchOption, Option, Some, None, is_some, if◌then◌else◌}
+use Rattle.std.specs.Prelude.{◌≡◌, ◌↔◌, ◌⊎◌, List, [], ◌∷◌, IsTrue, MatchBool, MatchOption, Option}
 use Rattle.std.specs.Ordering.{is_gt}
 use Rattle.gix_base.specs.declared.hash.ObjectId.{ObjectId}
-use Rattle.gix_revwalk.specs.History.{History, Has, entry_at, is_one_of, generation_of, time_of, IsAncestor, IsAncestorOfOne, IsAncestorOfAll, GenerationsNeverRise}
+use Rattle.gix_revwalk.specs.History.{History, Has, is_one_of, IsAncestor, IsAncestorOfOne, IsAncestorOfAll, GenerationsNeverRise}
 use Rattle.gix_merge_base.specs.Bases.{IsCommon, IsMaximal, is_trivial}
-use Rattle.gix_merge_base.specs.Octopus.{choice}
+use Rattle.gix_merge_base.specs.Keys.{choice}
 use Rattle.gix_merge_base.specs.Reducing.{IsIndependent}
-use Rattle.gix_merge_base.specs.declared.merge_base.gen_then_time.GenThenTime.{GenThenTime}
-use Rattle.std.specs.declared.cmp.Reverse.{Reverse}
 
 -- c may be answered for b and o: it is b where they are equal, else it is common to both
 abbrev pub IsCommonWith : History → ObjectId → ObjectId → ObjectId → Type 0
@@ -47,12 +45,6 @@ pub record AreOctopusBases (h : History) (f : ObjectId) (os ids : List ObjectId)
   pub each : (c : ObjectId) → IsTrue (is_one_of ids c) → IsAncestorOfAll h (f ∷ os) c
   pub cover : (c : ObjectId) → IsAncestorOfAll h (f ∷ os) c → IsAncestorOfOne h ids c
   pub maximal : GenerationsNeverRise h → (c : ObjectId) → IsTrue (is_one_of ids c) ↔ IsMaximal h (IsAncestorOfAll h (f ∷ os)) c
-
--- what decides whether the commit under an id is chosen; none where the history lacks it
-abbrev pub candidate_at : History → ObjectId → Option (GenThenTime × Reverse ObjectId)
-candidate_at h id =
-    if is_some (entry_at h id) then Some (record { generation = generation_of h id; time = time_of h id }, record { 0 = id })
-    else None
 
 -- x is one of ids and in the history, and no other such is chosen before it
 pub record IsFirstChoice (h : History) (ids : List ObjectId) (x : ObjectId) : Type 0 where

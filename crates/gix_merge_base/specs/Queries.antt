@@ -5,6 +5,7 @@ use Rattle.gix_base.specs.declared.hash.ObjectId.{ObjectId}
 use Rattle.gix_revwalk.specs.History.{History, same_id, IsAcyclic, GenerationsNeverRise}
 use Rattle.gix_revwalk.specs.Graph.{Graphed}
 use Rattle.gix_merge_base.specs.Bases.{AreBases, CoverBases, ids_of, is_trivial}
+use Rattle.gix_merge_base.specs.Keys.{IsInOrder}
 use Rattle.gix_merge_base.specs.Octopus.{IsOctopusBase, IsCommonToAll}
 use Rattle.gix_merge_base.specs.Refusals.{is_source_fault}
 use Rattle.gix_merge_base.specs.AfterCall.{AfterCall}
@@ -21,6 +22,7 @@ pub record AnswersBases (h : History) (f : ObjectId) (os ids : List ObjectId) : 
   pub bases : IsAcyclic h → GenerationsNeverRise h → AreBases h f os ids
   pub without_generations : IsAcyclic h → is_trivial f os ≡ false → CoverBases h f os ids
   pub once : IsDistinct same_id ids
+  pub order : IsInOrder h ids
   pub alone : IsTrue (is_trivial f os) → ids ≡ f ∷ []
 
 -- what `octopus` promises of an answer

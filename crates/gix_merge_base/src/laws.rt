@@ -8,6 +8,7 @@ ghost use Rattle.gix_merge_base.specs.HistoryLaws.{AncestorsAreLeast, NoneAreMut
 ghost use Rattle.gix_merge_base.specs.HistoryLaws.{MaximalAboveEach, MaximalExists};
 ghost use Rattle.gix_merge_base.specs.HistoryLaws.{LackedChangesNoBases, BasesCover};
 ghost use Rattle.gix_merge_base.specs.HistoryLaws.{SameIdsSameOctopusBase, OctopusBaseInAnyOrder};
+ghost use Rattle.gix_merge_base.specs.HistoryLaws.{OrderedIdsFall, OrderedBasesAreOne};
 ghost use Rattle.gix_base.specs.Laws.{OrderAgrees, OrderIs};
 ghost use Rattle.gix_merge_base.specs.GenThenTime.{key_order};
 
@@ -69,6 +70,17 @@ pub fn bases_cover()
 pub fn octopus_base_is_of_the_set()
     ensures same_ids { SameIdsSameOctopusBase }
     ensures any_order { OctopusBaseInAnyOrder }
+{}
+
+/// Ids in the order in which `merge_base` answers fall by generation, then by time.
+pub fn ordered_ids_fall()
+    ensures { OrderedIdsFall }
+{}
+
+/// The merge bases in order are one list: an answer depends on the history and the arguments alone,
+/// and not on what the graph held.
+pub fn ordered_bases_are_one()
+    ensures { OrderedBasesAreOne }
 {}
 
 /// Keys are ordered by generation, then by time, and `Ord` agrees with `==`.

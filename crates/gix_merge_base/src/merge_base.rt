@@ -8,6 +8,7 @@ mod gather;
 mod gen_then_time;
 mod hand;
 mod heads;
+mod order;
 mod painting;
 mod queries;
 mod reduction;

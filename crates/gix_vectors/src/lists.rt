@@ -2,7 +2,7 @@
 
 use crate::histories::{CRISS_CROSS, id, ids, source_of};
 use crate::questions::Call::{Bases, Octopus};
-use crate::questions::{Question, are_set, is_one};
+use crate::questions::{Question, are_bases, is_one};
 use crate::sources::{Failing, Turn};
 use gix_revision::graph::{Commit, Find, FindFault, Graph, MemorySource};
 use gix_revision::merge_base::{Answer, Error, Flags, Query, run};
@@ -28,15 +28,11 @@ static UNLIKE: [Question; 4] = [
 /// The query of a question.
 fn query_of<A: Allocator + Copy>(alloc: A, question: &Question) -> Result<Query<A>, AllocError> {
     let others = ids(alloc, question.3)?;
-    Ok(match question.0 {
-        Bases => Query::MergeBase {
-            first: id(question.2),
-            others,
-        },
-        Octopus => Query::Octopus {
-            first: id(question.2),
-            others,
-        },
+    let first = id(question.2);
+    Ok(if question.0 == Octopus {
+        Query::Octopus { first, others }
+    } else {
+        Query::MergeBase { first, others }
     })
 }
 
@@ -64,7 +60,7 @@ struct Tally {
 
 fn is_right<A: Allocator>(answer: &Answer<A>, question: &Question) -> bool {
     match answer {
-        Answer::MergeBase(found) => question.0 == Bases && are_set(found, question.4),
+        Answer::MergeBase(found) => question.0 == Bases && are_bases(found, question.4),
         Answer::Octopus(found) => question.0 == Octopus && is_one(*found, question.4),
         Answer::Refused(_) => false,
     }

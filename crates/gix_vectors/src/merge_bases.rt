@@ -1,12 +1,12 @@
 //! Merge bases of worked histories, failing look-ups, and memory refused at each request.
 
-use crate::histories::{CRISS_CROSS, OLD_PATH, OLDER_CHILD, Row};
+use crate::histories::{CRISS_CROSS, OLD_PATH, OLDER_CHILD, Row, id, source_of};
 use crate::printed::prints;
 use crate::questions::Call::Bases;
 use crate::questions::{Question, WELL, first_lost, first_wrong, with_failure};
 use bitflags::Flags as BitFlags;
-use gix_revision::graph::FindFault;
-use gix_revision::merge_base::{Error, Flags, Simple};
+use gix_revision::graph::{FindFault, Graph};
+use gix_revision::merge_base::{Error, Flags, Simple, merge_base, octopus};
 use std::alloc::{AllocError, Global};
 use std::test::Fail;
 
@@ -22,6 +22,32 @@ const EQUAL_TIMES: [Row<'static>; 5] = [
     Row(5, 7, None, &[2, 3]),
 ];
 
+/// The least and the greatest generations.
+const FAR_GENERATIONS: [Row<'static>; 5] = [
+    Row(1, 1, Some(0), &[]),
+    Row(2, 2, Some(u32::MAX), &[1]),
+    Row(3, 2, Some(u32::MAX), &[1]),
+    Row(4, 3, Some(u32::MAX), &[2, 3]),
+    Row(5, 3, Some(u32::MAX), &[2, 3]),
+];
+
+/// Parents that are listed twice.
+const LISTED_TWICE: [Row<'static>; 5] = [
+    Row(1, 1, None, &[]),
+    Row(2, 2, None, &[1, 1]),
+    Row(3, 2, None, &[1]),
+    Row(4, 3, None, &[2, 3, 2]),
+    Row(5, 3, None, &[3, 3, 2]),
+];
+
+/// 1 and 2 are each other's parents.
+const CYCLE: [Row<'static>; 4] = [
+    Row(1, 1, None, &[2]),
+    Row(2, 1, None, &[1]),
+    Row(3, 2, None, &[1]),
+    Row(4, 2, None, &[2]),
+];
+
 /// Nothing is looked up: there are no others, or the first is among them.
 static TRIVIAL: [Question; 4] = [
     Question(Bases, &CRISS_CROSS, 9, &[], &[9]),
@@ -30,7 +56,7 @@ static TRIVIAL: [Question; 4] = [
     Question(Bases, &CRISS_CROSS, 4, &[5, 4, 4], &[4]),
 ];
 
-static WORKED: [Question; 10] = [
+static WORKED: [Question; 12] = [
     // Both sides, several others, an ancestor, repeated others.
     CROSSED,
     Question(Bases, &CRISS_CROSS, 5, &[4], &[2, 3]),
@@ -43,6 +69,9 @@ static WORKED: [Question; 10] = [
     Question(Bases, &EQUAL_TIMES, 4, &[5], &[2, 3]),
     Question(Bases, &OLDER_CHILD, 3, &[4], &[2]),
     Question(Bases, &OLD_PATH, 6, &[7], &[5]),
+    // Generations at their ends, and parents listed twice.
+    Question(Bases, &FAR_GENERATIONS, 4, &[5], &[2, 3]),
+    Question(Bases, &LISTED_TWICE, 4, &[5], &[2, 3]),
 ];
 
 /// One of the others is not in the source, or the first is not.
@@ -58,6 +87,19 @@ fn bases_of_worked_histories(rt: HostRuntime) -> Result<(), Fail> {
     // What is held is not asked for again.
     assert_eq!(rt; first_wrong(rt.alloc(), &WORKED, 7)?, None);
     assert_eq!(rt; first_wrong(rt.alloc(), &LACKED, 20)?, None);
+    Ok(())
+}
+
+/// Whether both calls answer on a history with a cycle. What they answer is open.
+fn returns_on_a_cycle(alloc: Global) -> Result<bool, Fail> {
+    let mut graph = Graph::new(alloc, source_of(alloc, &CYCLE)?);
+    let bases = merge_base(alloc, id(3), &[id(4)], &mut graph);
+    Ok(bases.is_ok() && octopus(alloc, id(3), &[id(4)], &mut graph).is_ok())
+}
+
+#[test]
+fn calls_return_on_a_cycle(rt: HostRuntime) -> Result<(), Fail> {
+    assert!(rt; returns_on_a_cycle(rt.alloc())?);
     Ok(())
 }
 

@@ -1,9 +1,10 @@
 //! Painting, the reduction and the counts of pops, on worked histories.
 
 use crate::histories::{CRISS_CROSS, OLD_PATH, OLDER_CHILD, Row, id, ids, source_of};
-use gix_base::error::NonEmpty;
-use gix_base::hash::ObjectId;
-use gix_revision::graph::{Commit, Graph, MemorySource};
+use crate::questions::Call::{Counted, Paint, Reduce};
+use crate::questions::{Question, are_bases, are_set, first_lost};
+use crate::sources::{Failing, Turn};
+use gix_revision::graph::{Commit, Find, FindFault, Graph, MemorySource};
 use gix_revision::merge_base::{Flags, counted, paint, reduce};
 use std::alloc::Global;
 use std::test::Fail;
@@ -46,7 +47,7 @@ const SKEWED: [Row<'static>; 6] = [
     Row(6, 90, None, &[3, 1, 4]),
 ];
 
-/// A history, two commits of it, their merge bases, and the pops where they are worked out.
+/// A history, two commits of it, their merge bases in order, and the pops where they are worked out.
 type Worked = (&'static [Row<'static>], u8, u8, &'static [u8], Option<u128>);
 
 const WORKED: [Worked; 8] = [
@@ -56,24 +57,9 @@ const WORKED: [Worked; 8] = [
     (&CRISS_CROSS, 4, 5, &[2, 3], None),
     (&BY_TIME, 4, 5, &[3, 2], None),
     (&BY_GENERATION, 4, 5, &[2, 3], None),
-    (&SKEWED, 5, 6, &[3, 4], None),
+    (&SKEWED, 5, 6, &[4, 3], None),
     (&OLD_PATH, 6, 7, &[5], None),
 ];
-
-/// Whether the list has exactly these ids, in any order.
-fn is_set(list: &[ObjectId], want: &[u8]) -> bool {
-    list.len() == want.len() && want.iter().all(|n| list.contains(&id(*n)))
-}
-
-/// Whether the answer is these bases, in any order.
-fn are_bases(found: &Option<NonEmpty<ObjectId>>, want: &[u8]) -> bool {
-    match found {
-        Some(list) => {
-            want.len() == list.len() && want.iter().all(|n| list.iter().any(|base| *base == id(*n)))
-        }
-        None => want.is_empty(),
-    }
-}
 
 /// Whether `counted` answers these bases, with these pops where they are known.
 fn counts(
@@ -114,7 +100,7 @@ fn paints_and_reduces(alloc: Global) -> Result<bool, Fail> {
     let mut graph = Graph::new(alloc, source_of(alloc, &OLDER_CHILD)?);
     let (painted, pops) = paint(alloc, id(3), &[id(4)], &mut graph)?;
     let left = reduce(alloc, &ids(alloc, &[1, 2, 9])?, &mut graph)?;
-    Ok(is_set(&painted, &[1, 2]) && pops == 7 && left.as_slice() == [id(2), id(9)].as_slice())
+    Ok(are_set(&painted, &[1, 2]) && pops == 7 && left.as_slice() == [id(2), id(9)].as_slice())
 }
 
 /// Whether a walk to a near base leaves the far end of the line alone.
@@ -124,9 +110,34 @@ fn leaves_the_far_end(alloc: Global) -> Result<bool, Fail> {
     Ok(graph.contains(&id(2)) && !graph.contains(&id(1)))
 }
 
+/// Whether that walk is answered as ever where the source fails for the far end.
+fn asks_not_for_the_far_end(alloc: Global) -> Result<bool, Fail> {
+    let inner = source_of(alloc, &NEAR)?;
+    let failing = Failing::new(inner, Turn::For(id(1)), FindFault::Failed, 0);
+    let mut graph = Graph::new(alloc, failing);
+    let (found, pops) = counted(alloc, id(4), &[id(5)], &mut graph)?;
+    Ok(are_bases(&found, &[3]) && pops == 4 && graph.source().faults() == 0)
+}
+
 #[test]
 fn painting_and_reduction_by_themselves(rt: HostRuntime) -> Result<(), Fail> {
     assert!(rt; paints_and_reduces(rt.alloc())?);
     assert!(rt; leaves_the_far_end(rt.alloc())?);
+    assert!(rt; asks_not_for_the_far_end(rt.alloc())?);
+    Ok(())
+}
+
+/// Each call by itself, where each look-up and each request for memory is refused in turn.
+static HOSTILE: [Question; 5] = [
+    Question(Counted, &CRISS_CROSS, 4, &[5], &[2, 3]),
+    Question(Counted, &SKEWED, 5, &[6], &[4, 3]),
+    Question(Paint, &CRISS_CROSS, 4, &[5], &[2, 3]),
+    Question(Paint, &OLDER_CHILD, 3, &[4], &[1, 2]),
+    Question(Reduce, &OLDER_CHILD, 9, &[1, 2, 9], &[2, 9]),
+];
+
+#[test]
+fn refused_look_ups_and_memory_refuse_each_call(rt: HostRuntime) -> Result<(), Fail> {
+    assert_eq!(rt; first_lost(rt.alloc(), &HOSTILE)?, None);
     Ok(())
 }

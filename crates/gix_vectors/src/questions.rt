@@ -1,12 +1,12 @@
-//! Questions of `merge_base` and `octopus`, and what comes of them where the source fails or memory is
+//! Questions of the calls of `merge_base`, and what comes of them where the source fails or memory is
 //! refused.
 
-use crate::histories::{Row, agrees, id, ids, source_of};
+use crate::histories::{Row, agrees, are, id, ids, source_of};
 use crate::sources::{Counting, Failing, Turn};
 use gix_revision::error::NonEmpty;
 use gix_revision::graph::{Commit, Find, FindFault, Graph};
 use gix_revision::hash::ObjectId;
-use gix_revision::merge_base::{Error, Flags, merge_base, octopus};
+use gix_revision::merge_base::{Error, Flags, counted, merge_base, octopus, paint, reduce};
 use refusing::Refusing;
 use std::alloc::{AllocError, Allocator, Global};
 
@@ -14,10 +14,15 @@ use std::alloc::{AllocError, Allocator, Global};
 #[derive(Clone, Copy, Debug, PartialEq)]
 pub enum Call {
     Bases,
+    Counted,
     Octopus,
+    Paint,
+    /// Of the others alone.
+    Reduce,
 }
 
-/// A call: the function, the history, the first id, the others, and the ids of the answer in any order.
+/// A call: the function, the history, the first id, the others, and the ids of the answer in order, but
+/// those of painting in any order.
 #[derive(Clone, Copy)]
 pub struct Question(
     pub Call,
@@ -27,17 +32,23 @@ pub struct Question(
     pub &'static [u8],
 );
 
-/// Whether these are the ids of the digits, in any order, each once.
-pub fn are_set<A: Allocator>(found: &Option<NonEmpty<ObjectId, A>>, digits: &[u8]) -> bool {
+/// Whether these are the ids of the digits, in order.
+pub fn are_bases<A: Allocator>(found: &Option<NonEmpty<ObjectId, A>>, digits: &[u8]) -> bool {
     match found {
         Some(list) => {
             list.len() == digits.len()
-                && digits
+                && list
                     .iter()
-                    .all(|digit| list.iter().any(|one| *one == id(*digit)))
+                    .zip(digits)
+                    .all(|(base, digit)| *base == id(*digit))
         }
         None => digits.is_empty(),
     }
+}
+
+/// Whether these are the ids of the digits, in any order, each once.
+pub fn are_set(list: &[ObjectId], digits: &[u8]) -> bool {
+    list.len() == digits.len() && digits.iter().all(|digit| list.contains(&id(*digit)))
 }
 
 /// Whether this is the id of the digit, or none where there is no digit.
@@ -52,13 +63,14 @@ pub fn ask<S: Find, A: Allocator + Copy>(
     question: &Question,
     others: &[ObjectId],
 ) -> Result<bool, Error> {
-    match question.0 {
-        Call::Bases => Ok(are_set(
-            &merge_base(alloc, id(question.2), others, graph)?,
-            question.4,
-        )),
-        Call::Octopus => Ok(is_one(octopus(alloc, id(question.2), others, graph)?, question.4)),
-    }
+    let (first, answer) = (id(question.2), question.4);
+    Ok(match question.0 {
+        Call::Bases => are_bases(&merge_base(alloc, first, others, graph)?, answer),
+        Call::Counted => are_bases(&counted(alloc, first, others, graph)?.0, answer),
+        Call::Octopus => is_one(octopus(alloc, first, others, graph)?, answer),
+        Call::Paint => are_set(&paint(alloc, first, others, graph)?.0, answer),
+        Call::Reduce => are(&reduce(alloc, others, graph)?, answer),
+    })
 }
 
 /// What came of a call: the answer, the faults counted then, and whether what is held is the source's.

@@ -9,13 +9,14 @@ ghost use Rattle.gix_revwalk.specs.Sizes.{AtMost, HasSize};
 ghost use Rattle.gix_revwalk.specs.Walks.{KeepsHeld};
 ghost use Rattle.gix_merge_base.specs.AfterCall.{AfterCall};
 ghost use Rattle.gix_merge_base.specs.Bases.{IsCommon, IsMaximal, IsBase, AreBases, CoverBases, ids_of, is_trivial};
-ghost use Rattle.gix_merge_base.specs.Keys.{KeysFall, NoneRises, InFallingOrder};
+ghost use Rattle.gix_merge_base.specs.Keys.{KeysFall, IsInOrder};
 ghost use Rattle.gix_merge_base.specs.Painting.{IsUnreached, MayBeTaken};
 ghost use Rattle.gix_merge_base.specs.PaintQueue.{IsHeld};
 ghost use Rattle.gix_merge_base.specs.Refusals.{HasInsertText, is_source_fault};
 
 use crate::merge_base::error::Error;
 use crate::merge_base::flags::Flags;
+use crate::merge_base::order::in_order;
 use crate::merge_base::painting::paint;
 use crate::merge_base::reduction::reduce;
 use gix_base::error::NonEmpty;
@@ -23,7 +24,8 @@ use gix_base::hash::ObjectId;
 use gix_revwalk::graph::{Commit, Find, Graph};
 use std::alloc::Allocator;
 
-/// The maximal common ancestors where something has to be looked up, beside the pops of painting.
+/// The maximal common ancestors in order, where something has to be looked up, beside the pops of
+/// painting.
 fn best<S: Find, A: Allocator + Copy>(
     alloc: A,
     first: ObjectId,
@@ -38,6 +40,7 @@ fn best<S: Find, A: Allocator + Copy>(
     ensures covers { IsAcyclic (S.history graph.old.source)
         → IfOk result (λ r. CoverBases (S.history graph.old.source) first others.now r.0.items) }
     ensures once { IfOk result (λ r. IsDistinct same_id r.0.items) }
+    ensures order { IfOk result (λ r. IsInOrder (S.history graph.old.source) r.0.items) }
     ensures most { (n : ℕ) → HasSize (Has (S.history graph.old.source)) n
         → IfOk result (λ r. r.1 ≤ 3 * n + 1 + length others.now) }
     ensures least { IsAcyclic (S.history graph.old.source) → IfOk result (λ r.
@@ -50,8 +53,6 @@ fn best<S: Find, A: Allocator + Copy>(
         (IsCommon (S.history graph.old.source) first others.now) b → a ≡ b)
         → (q : ObjectId) → IsHeld graph.new q
         → IsHeld graph.old q ⊎ MayBeTaken (S.history graph.old.source) first others.now q }
-    ensures falling { NoneRises (S.history graph.old.source)
-        → IfOk result (λ r. InFallingOrder (S.history graph.old.source) r.0.items) }
     ensures after { AfterCall S.history S.fault_count graph.old graph.new result }
 {
     let (painted, pops) = paint(alloc, first, others, graph)?;
@@ -59,7 +60,8 @@ fn best<S: Find, A: Allocator + Copy>(
         return Ok((painted, pops));
     }
     let left = reduce(alloc, &painted, graph)?;
-    Ok((left, pops))
+    let ordered = in_order(alloc, &left, graph)?;
+    Ok((ordered, pops))
 }
 
 /// Whether `x` is one of `xs`.
@@ -92,6 +94,9 @@ pub fn counted<S: Find, A: Allocator + Copy>(
         → IfOk result (λ r. CoverBases (S.history graph.old.source) first others.now (ids_of r.0)) }
     ensures once { IfOk result (λ r. IsDistinct same_id (ids_of r.0)) }
 
+    // Whatever the times and generations.
+    ensures order { IfOk result (λ r. IsInOrder (S.history graph.old.source) (ids_of r.0)) }
+
     // There are no others, or `first` is one of them.
     ensures trivial { IsTrue (is_trivial first others.now) → IsOk result × (graph.new ≡ graph.old) }
     ensures trivial_answer { IsTrue (is_trivial first others.now)
@@ -110,9 +115,6 @@ pub fn counted<S: Find, A: Allocator + Copy>(
         → IsBase (S.history graph.old.source) first others.now b → a ≡ b)
         → (q : ObjectId) → IsHeld graph.new q
         → IsHeld graph.old q ⊎ MayBeTaken (S.history graph.old.source) first others.now q }
-
-    ensures falling { NoneRises (S.history graph.old.source)
-        → IfOk result (λ r. InFallingOrder (S.history graph.old.source) (ids_of r.0)) }
 
     ensures history { S.history graph.new.source ≡ S.history graph.old.source }
     ensures cause { IfErr result HasInsertText }

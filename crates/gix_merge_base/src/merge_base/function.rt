@@ -4,6 +4,7 @@ ghost use Rattle.std.specs.Prelude.{◌≡◌, [], ◌∷◌, IsOk, IfOk, IfErr,
 ghost use Rattle.std.specs.List.{IsDistinct};
 ghost use Rattle.gix_revwalk.specs.History.{same_id, IsAcyclic, GenerationsNeverRise};
 ghost use Rattle.gix_merge_base.specs.Bases.{AreBases, CoverBases, ids_of, is_trivial};
+ghost use Rattle.gix_merge_base.specs.Keys.{IsInOrder};
 ghost use Rattle.gix_merge_base.specs.Refusals.{HasInsertText, is_source_fault};
 ghost use Rattle.gix_revwalk.specs.Faults.{count_after};
 ghost use Rattle.gix_revwalk.specs.Walks.{KeepsHeld};
@@ -20,8 +21,9 @@ use std::alloc::Allocator;
 ///
 /// Where `others` is empty or contains `first`, the answer is `first` alone; no memory is taken and
 /// nothing is asked of the source. Otherwise it is the maximal ones among the ancestors of `first`
-/// that are ancestors of at least one of `others`, each once, in no order; `None` where there is
-/// none. An id that the source lacks has no ancestors.
+/// that are ancestors of at least one of `others`, each once; `None` where there is none. They are
+/// ordered by falling generation, an absent one counting as the greatest, then falling time, then
+/// rising id. An id that the source lacks has no ancestors.
 ///
 /// The source must have no cycles, and no parent may have a greater generation than its child, an
 /// absent one counting as the greatest. Where a parent has one, every maximal one is still answered,
@@ -49,6 +51,10 @@ pub fn merge_base<S: Find, A: Allocator + Copy>(
         → IfOk result (λ found.
         CoverBases (S.history graph.old.source) first others.now (ids_of found)) }
     ensures once { IfOk result (λ found. IsDistinct same_id (ids_of found)) }
+
+    // Whatever the times and generations.
+    ensures order { IfOk result (λ found.
+        IsInOrder (S.history graph.old.source) (ids_of found)) }
 
     // There are no others, or `first` is one of them.
     ensures trivial { IsTrue (is_trivial first others.now) → IsOk result × (graph.new ≡ graph.old) }

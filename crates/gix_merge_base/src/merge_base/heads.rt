@@ -7,15 +7,14 @@ ghost use Rattle.gix_revwalk.specs.Faults.{count_after};
 ghost use Rattle.gix_revwalk.specs.Walks.{KeepsHeld};
 ghost use Rattle.gix_merge_base.specs.Octopus.{IsOctopusBase, IsCommonToAll};
 ghost use Rattle.gix_merge_base.specs.OctopusSteps.{AddsBases, CoversEach, IsStep};
-ghost use Rattle.gix_merge_base.specs.OctopusSteps.{AreOctopusBases, IsBestOf, candidate_at};
+ghost use Rattle.gix_merge_base.specs.OctopusSteps.{AreOctopusBases, IsBestOf};
 ghost use Rattle.gix_merge_base.specs.Refusals.{HasInsertText, is_source_fault};
 ghost use Rattle.gix_merge_base.specs.AfterCall.{AfterCall};
 
-use crate::merge_base::error::{Error, commit_refused};
+use crate::merge_base::error::Error;
 use crate::merge_base::flags::Flags;
 use crate::merge_base::function::merge_base;
-use crate::merge_base::gather::take_in;
-use crate::merge_base::gen_then_time::GenThenTime;
+use crate::merge_base::order::{Candidate, candidate_of};
 use crate::merge_base::reduction::reduce;
 use gix_base::hash::ObjectId;
 use gix_revwalk::graph::{Commit, Find, Graph};
@@ -66,28 +65,6 @@ fn bases_with<S: Find, A: Allocator + Copy>(
         add_bases(alloc, *base, other, &mut all, graph)?;
     }
     Ok(all)
-}
-
-/// What decides which commit is answered, the greatest first: generation, time, and the smaller id.
-type Candidate = (GenThenTime, Reverse<ObjectId>);
-
-/// The commit under `id`, which is taken in from the source unless it is held; `None` where the
-/// source lacks it.
-fn candidate_of<S: Find, A: Allocator + Copy>(
-    alloc: A,
-    id: ObjectId,
-    graph: &mut Graph<S, Commit<Flags, A>, A>,
-) -> Result<Option<Candidate>, Error>
-    ensures candidate { IfOk result (λ c. c ≡ candidate_at (S.history graph.old.source) id) }
-    ensures after { AfterCall S.history S.fault_count graph.old graph.new result }
-{
-    if let Err(error) = take_in(alloc, id, graph) {
-        return Err(commit_refused(error));
-    }
-    match graph.get(&id) {
-        Some(commit) => Ok(Some((GenThenTime::from(commit), Reverse(id)))),
-        None => Ok(None),
-    }
 }
 
 /// The one of `ids` that is chosen before all others; `None` where the source has none of them.

@@ -1,7 +1,9 @@
 use Rattle.std.proofs.Common.{◌≤◌, length, arith, subst, ◌∙◌, IsTrue, ◌↔◌}
 use Rattle.gix_revwalk.specs.History.{is_one_of}
 use Rattle.gix_merge_base.specs.Reducing.{IsIndependent, SomeOf}
-use Rattle.gix_merge_base.proofs.Best.{max_of_painted, few_are_max, few_alike, some_falls, some_once, some_within}
+use Rattle.gix_merge_base.proofs.Best.{max_of_painted, few_are_max, few_alike, some_once, some_within}
+use Rattle.gix_merge_base.proofs.Maximal.{common_has}
+use Rattle.gix_merge_base.proofs.Sorting.{few_in_order}
 use Rattle.gix_merge_base.proofs.merge_base.bases.best.Goals as goal
 
 pub returns-then-len-le1-clause-best : goal.returns-then-len-le1-clause-best
@@ -17,7 +19,8 @@ returns-clause-best g c acyclic hold c' =
     let max = rw c.paint.ensures.history at c.in_ok-left.ensures.independent in
     let left = subst (λ z. IsTrue (is_one_of c.in_ok-left.left.items c') ↔ IsIndependent h z c') c.deref.ensures.value (max acyclic hold c') in
     let is = max_of_painted h c.args.first c.args.others.now c.in_ok-painted.painted.items acyclic c.in_ok-painted.ensures.common (c.in_ok-painted.ensures.best acyclic) c' in
-    ((λ k. is.0 (left.0 k)), (λ m. left.1 (is.1 m)))
+    let same = rw (c.reduce.ensures.history, c.paint.ensures.history, c.deref-2.ensures.value) at c.in_ok-ordered.ensures.same in
+    ((λ k. is.0 (left.0 ((same c').0 k).0)), (λ m. (same c').1 (left.1 (is.1 m), common_has h c.args.first c.args.others.now c' m.0)))
 
 pub returns-then-len-le1-clause-covers : goal.returns-then-len-le1-clause-covers
 returns-then-len-le1-clause-covers g c acyclic = record { every = c.in_ok-painted.ensures.best acyclic; common = c.in_ok-painted.ensures.common }
@@ -26,19 +29,30 @@ pub returns-clause-covers : goal.returns-clause-covers
 returns-clause-covers g c acyclic =
     let h = g.S.Find.history c.args.graph.now.source in
     let kept = rw c.paint.ensures.history at c.in_ok-left.ensures.kept in
+    let some = subst (λ z. SomeOf z c.in_ok-left.left.items) c.deref.ensures.value c.in_ok-left.ensures.some in
+    let same = rw (c.reduce.ensures.history, c.paint.ensures.history, c.deref-2.ensures.value) at c.in_ok-ordered.ensures.same in
     record {
       every = λ c' m.
           let left = subst (λ z. IsIndependent h z c' → IsTrue (is_one_of c.in_ok-left.left.items c')) c.deref.ensures.value (kept acyclic c') in
           let is = max_of_painted h c.args.first c.args.others.now c.in_ok-painted.painted.items acyclic c.in_ok-painted.ensures.common (c.in_ok-painted.ensures.best acyclic) c' in
-          left (is.1 m);
-      common = λ c' k. c.in_ok-painted.ensures.common c' (some_within c.in_ok-painted.painted.items c.in_ok-left.left.items (subst (λ z. SomeOf z c.in_ok-left.left.items) c.deref.ensures.value c.in_ok-left.ensures.some) c' k);
+          (same c').1 (left (is.1 m), common_has h c.args.first c.args.others.now c' m.0);
+      common = λ c' k. c.in_ok-painted.ensures.common c' (some_within c.in_ok-painted.painted.items c.in_ok-left.left.items some c' ((same c').0 k).0);
     }
 
 pub returns-clause-once : goal.returns-clause-once
-returns-clause-once g c = some_once c.deref.result.now c.in_ok-left.left.items c.in_ok-left.ensures.some
+returns-clause-once g c =
+    let once = rw c.deref-2.ensures.value at c.in_ok-ordered.ensures.once in
+    once (some_once c.deref.result.now c.in_ok-left.left.items c.in_ok-left.ensures.some)
 
-pub returns-clause-falling : goal.returns-clause-falling
-returns-clause-falling g c none = some_falls _ c.in_ok-painted.painted.items c.in_ok-left.left.items (subst (λ z. SomeOf z c.in_ok-left.left.items) c.deref.ensures.value c.in_ok-left.ensures.some) (c.in_ok-painted.ensures.falling none)
+pub returns-then-len-le1-clause-order : goal.returns-then-len-le1-clause-order
+returns-then-len-le1-clause-order g c =
+    let few : length c.in_ok-painted.painted.items ≤ 1 = omega arith in
+    few_in_order (g.S.Find.history c.args.graph.now.source) c.in_ok-painted.painted.items few
+
+pub returns-clause-order : goal.returns-clause-order
+returns-clause-order g c =
+    let order = rw (c.reduce.ensures.history, c.paint.ensures.history, c.deref-2.ensures.value) at c.in_ok-ordered.ensures.order in
+    order (some_once c.deref.result.now c.in_ok-left.left.items c.in_ok-left.ensures.some)
 
 pub returns-clause-taken : goal.returns-clause-taken
 returns-clause-taken g c acyclic falls alike =
@@ -52,12 +66,18 @@ returns-in_err-left-clause-taken g c acyclic falls alike =
     let few = few_alike c.in_ok-painted.painted.items c.in_ok-painted.ensures.once (λ a b a_in b_in. alike a b (strict a a_in) (strict b b_in)) in
     absurd (omega arith)
 
+pub returns-in_err-ordered-clause-taken : goal.returns-in_err-ordered-clause-taken
+returns-in_err-ordered-clause-taken g c acyclic falls alike =
+    let strict = c.in_ok-painted.ensures.strict acyclic falls in
+    let few = few_alike c.in_ok-painted.painted.items c.in_ok-painted.ensures.once (λ a b a_in b_in. alike a b (strict a a_in) (strict b b_in)) in
+    absurd (omega arith)
+
 pub returns-clause-after : goal.returns-clause-after
 returns-clause-after g c = record {
-  same_history = c.in_ok-left.ensures.history ∙ c.in_ok-painted.ensures.history;
+  same_history = c.in_ok-ordered.ensures.after.same_history ∙ c.in_ok-left.ensures.history ∙ c.in_ok-painted.ensures.history;
   cause = tt;
-  count = c.in_ok-left.ensures.count ∙ c.in_ok-painted.ensures.count;
-  held = λ q k. c.reduce.ensures.held q (c.paint.ensures.held q k);
+  count = c.in_ok-ordered.ensures.after.count ∙ c.in_ok-left.ensures.count ∙ c.in_ok-painted.ensures.count;
+  held = λ q k. c.in_order.ensures.after.held q (c.reduce.ensures.held q (c.paint.ensures.held q k));
 }
 
 pub returns-then-len-le1-clause-most : goal.returns-then-len-le1-clause-most

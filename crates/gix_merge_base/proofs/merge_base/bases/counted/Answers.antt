@@ -1,17 +1,20 @@
-use Rattle.std.proofs.Common.{sym, subst, IsTrue, ◌↔◌}
+use Rattle.std.proofs.Common.{sym, subst, IsTrue, ◌↔◌, [], ◌∷◌, arith}
 use Rattle.std.specs.List.{IsDistinct}
 use Rattle.gix_revwalk.specs.History.{is_one_of, same_id}
 use Rattle.gix_revwalk.proofs.Members.{one_is_distinct}
-use Rattle.gix_merge_base.specs.Keys.{InFallingOrder}
+use Rattle.gix_merge_base.specs.Keys.{IsInOrder}
 use Rattle.gix_merge_base.specs.Bases.{IsBase, CoverBases}
 use Rattle.gix_merge_base.proofs.Answered.{from-vec, not_plain, base-from_max, bases-found}
+use Rattle.gix_merge_base.proofs.Sorting.{few_in_order}
 use Rattle.gix_merge_base.proofs.merge_base.bases.counted.Goals as goal
 
 pub returns-then-is_empty-clause-once : goal.returns-then-is_empty-clause-once
 returns-then-is_empty-clause-once g c = rw c.new.ensures (one_is_distinct c.args.first)
 
-pub returns-then-is_empty-clause-falling : goal.returns-then-is_empty-clause-falling
-returns-then-is_empty-clause-falling g c none = subst (InFallingOrder (g.S.Find.history c.args.graph.now.source)) (sym c.new.ensures) ((λ y k. cc), tt)
+pub returns-then-is_empty-clause-order : goal.returns-then-is_empty-clause-order
+returns-then-is_empty-clause-order g c =
+    let h = g.S.Find.history c.args.graph.now.source in
+    subst (IsInOrder h) (sym c.new.ensures) (few_in_order h (c.args.first ∷ []) (omega arith))
 
 pub returns-clause-bases : goal.returns-clause-bases
 returns-clause-bases g c acyclic hold c' =
@@ -22,8 +25,8 @@ returns-clause-bases g c acyclic hold c' =
 pub returns-clause-once : goal.returns-clause-once
 returns-clause-once g c = subst (IsDistinct same_id) (sym (from-vec c.from_vec.result c.in_ok-found.found.items c.from_vec.ensures.none c.from_vec.ensures.same)) c.in_ok-found.ensures.once
 
-pub returns-clause-falling : goal.returns-clause-falling
-returns-clause-falling g c none = subst (InFallingOrder (g.S.Find.history c.args.graph.now.source)) (sym (from-vec c.from_vec.result c.in_ok-found.found.items c.from_vec.ensures.none c.from_vec.ensures.same)) (c.in_ok-found.ensures.falling none)
+pub returns-clause-order : goal.returns-clause-order
+returns-clause-order g c = subst (IsInOrder (g.S.Find.history c.args.graph.now.source)) (sym (from-vec c.from_vec.result c.in_ok-found.found.items c.from_vec.ensures.none c.from_vec.ensures.same)) c.in_ok-found.ensures.order
 
 pub returns-clause-taken : goal.returns-clause-taken
 returns-clause-taken g c acyclic falls alike =

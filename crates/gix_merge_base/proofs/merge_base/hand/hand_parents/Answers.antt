@@ -13,19 +13,6 @@ use Rattle.gix_merge_base.proofs.Numbered.{named-id}
 use Rattle.gix_merge_base.proofs.QueueKeys.{keyed-grown, holds-after, kept-grown, kept-same}
 use Rattle.gix_merge_base.proofs.merge_base.hand.hand_parents.Goals as goal
 
-pub hand_all-requires : goal.hand_all-requires
-hand_all-requires g c =
-    let row = c.in_ok-known_parents.ensures.numbers (id_at c.args.graph.now (place_in c.args.number)) (named-id c.args.graph.now (place_in c.args.number) c.requires.number) in
-    rw c.deref.ensures.value (numbers-ids c.known_parents.new.graph c.known_parents.new.into.items (filter (λ p. is_some (entry_at (g.S.Find.history c.args.graph.now.source) p)) (parents_in (entry_at (g.S.Find.history c.args.graph.now.source) (id_at c.args.graph.now (place_in c.args.number))))) row).0
-
-pub returns-in-Ok-clause-counts : goal.returns-in-Ok-clause-counts
-returns-in-Ok-clause-counts g c k =
-    let same = c.in_ok-known_parents.ensures.marks in
-    c.in-Ok.ensures.counts (counts_same (marks_at c.args.graph.now) (marks_at c.known_parents.new.graph) (queued_at c.args.graph.now) (queued_at c.known_parents.new.graph)
-    (queued_ids c.args.graph.now c.args.queue.now) (queued_ids c.known_parents.new.graph c.args.queue.now) c.args.open_entries.now
-    (λ d. ap (λ o. marks_of (unwrap_or o no_mark).marks) (same d)) (λ d. ap (λ o. (unwrap_or o no_mark).queued) (same d))
-    (ids-grown-queue c.args.graph.now c.known_parents.new.graph c.in_ok-known_parents.ensures.grows c.args.queue.now c.requires.valid) k)
-
 pub returns-in-Ok-clause-handed : goal.returns-in-Ok-clause-handed
 returns-in-Ok-clause-handed g c =
     let h = g.S.Find.history c.args.graph.now.source in
@@ -45,6 +32,19 @@ returns-in-Ok-clause-handed g c =
     (queued_ids c.args.graph.now c.args.queue.now) (queued_ids mid c.args.queue.now) (queued_ids c.hand_all.new.graph c.hand_all.new.queue)
     (λ d. ap (λ o. marks_of (unwrap_or o no_mark).marks) (same d))
     (ids-grown-queue c.args.graph.now mid c.in_ok-known_parents.ensures.grows c.args.queue.now c.requires.valid) got)
+
+pub hand_all-requires : goal.hand_all-requires
+hand_all-requires g c =
+    let row = c.in_ok-known_parents.ensures.numbers (id_at c.args.graph.now (place_in c.args.number)) (named-id c.args.graph.now (place_in c.args.number) c.requires.number) in
+    rw c.deref.ensures.value (numbers-ids c.known_parents.new.graph c.known_parents.new.into.items (filter (λ p. is_some (entry_at (g.S.Find.history c.args.graph.now.source) p)) (parents_in (entry_at (g.S.Find.history c.args.graph.now.source) (id_at c.args.graph.now (place_in c.args.number))))) row).0
+
+pub returns-in-Ok-clause-counts : goal.returns-in-Ok-clause-counts
+returns-in-Ok-clause-counts g c k =
+    let same = c.in_ok-known_parents.ensures.marks in
+    c.in-Ok.ensures.counts (counts_same (marks_at c.args.graph.now) (marks_at c.known_parents.new.graph) (queued_at c.args.graph.now) (queued_at c.known_parents.new.graph)
+    (queued_ids c.args.graph.now c.args.queue.now) (queued_ids c.known_parents.new.graph c.args.queue.now) c.args.open_entries.now
+    (λ d. ap (λ o. marks_of (unwrap_or o no_mark).marks) (same d)) (λ d. ap (λ o. (unwrap_or o no_mark).queued) (same d))
+    (ids-grown-queue c.args.graph.now c.known_parents.new.graph c.in_ok-known_parents.ensures.grows c.args.queue.now c.requires.valid) k)
 
 pub returns-in-Ok-clause-valid : goal.returns-in-Ok-clause-valid
 returns-in-Ok-clause-valid g c = c.in-Ok.ensures.valid (held-grown c.args.graph.now c.known_parents.new.graph c.in_ok-known_parents.ensures.grows c.args.queue.now c.requires.valid)

@@ -3,6 +3,9 @@ use Rattle.std.proofs.lemmas.Result.{IfOk-weaker}
 use Rattle.gix_merge_base.proofs.Heads.{best_is_octopus, best_is_common}
 use Rattle.gix_merge_base.proofs.merge_base.heads.octopus.Goals as goal
 
+pub returns-clause-held : goal.returns-clause-held
+returns-clause-held g c q there = c.best_of.ensures.after.held q (c.in_ok-bases.ensures.after.held q there)
+
 pub returns-clause-base : goal.returns-clause-base
 returns-clause-base g c acyclic rises =
     let differ = sym c.all_are.ensures ∙ c.if-all_are.false in
@@ -22,6 +25,3 @@ returns-then-all_are-clause-common g c acyclic differ = let all = sym c.all_are.
 
 pub returns-then-all_are-clause-trivial : goal.returns-then-all_are-clause-trivial
 returns-then-all_are-clause-trivial g c all = (refl, refl)
-
-pub returns-clause-held : goal.returns-clause-held
-returns-clause-held g c q there = c.best_of.ensures.after.held q (c.in_ok-bases.ensures.after.held q there)

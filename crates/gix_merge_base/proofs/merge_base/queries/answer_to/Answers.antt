@@ -9,6 +9,7 @@ returns-in-Ok g c =
         bases = says.bases;
         without_generations = says.without_generations;
         once = says.once;
+        order = says.order;
         alone = says.trivial_answer;
       };
       unchanged = λ p. (trivial p).1;

@@ -1,4 +1,4 @@
-use Rattle.std.proofs.Common.{◌≡◌, ◌<◌, length, get_or, min, refl, sym, ap, ◌∙◌, arith}
+use Rattle.std.proofs.Common.{◌≡◌, ◌<◌, length, get_or, refl, sym, ap, ◌∙◌, arith}
 use Rattle.std.proofs.lemmas.List.{length-map}
 use Rattle.gix_revwalk.specs.History.{generation_of}
 use Rattle.gix_revwalk.specs.Number.{place_in}
@@ -24,7 +24,7 @@ loop-number-preserved g c =
     let below : c.loop-number.number-index < length ns = omega arith in
     let stale = c.is_stale.ensures ∙ ap (λ (z : Mark Flags). (marks_of z.marks).stale) c.mark_of.ensures in
     elim c.if-not-is_stale.branch [
-      | then-not-is_stale w ↦ rw (w.unmet-is, w.least-is, w.min-least.ensures) (
+      | then-not-is_stale w ↦ rw (w.unmet-is, w.least-is) (
           let k : Number = get_or c.args.numbers.now c.loop-number.number-index (record { 0 = 0 }) in
           let held = in-item graph c.args.numbers.now c.loop-number.number-index (record { 0 = 0 }) c.requires lt in
           let agrees = w.value.ensures.agrees (id_at graph (place_in k)) (named-id graph (place_in k) held) in
@@ -32,7 +32,7 @@ loop-number-preserved g c =
           let generation : w.from.result.generation ≡ generation_of h (get_or ns c.loop-number.number-index (id_at graph 0)) =
           ap (λ (z : GenThenTime). z.generation) (w.from.ensures ∙ ap key_in (sym agrees)) ∙ ap (generation_of h) item in
           survey_unmet h ns (marks_at graph) c.loop-number.number-index c.loop-number.unmet c.loop-number.least (id_at graph 0) below c.loop-number.invariant
-          (min c.loop-number.least w.from.result.generation) (omega arith) (omega arith)
+          _ (omega arith) (omega arith)
           )
       | else-not-is_stale w ↦ rw (w.unmet-is, w.least-is) (survey_met h ns (marks_at graph) c.loop-number.number-index c.loop-number.unmet c.loop-number.least _ below c.loop-number.invariant
           (ap (λ q. (marks_at graph q).stale) (sym (listed-item graph c.args.numbers.now c.loop-number.number-index _ lt ns refl)) ∙ sym stale ∙ w.if-not-is_stale.false))
