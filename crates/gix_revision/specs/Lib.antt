@@ -39,6 +39,10 @@ pub use Rattle.gix_spec.specs.Part
 pub use Rattle.gix_spec.specs.Cut
 pub use Rattle.gix_spec.specs.Number
 pub use Rattle.gix_spec.specs.DescribeText
+pub use Rattle.gix_spec.specs.Braces
+pub use Rattle.gix_spec.specs.Parens
+pub use Rattle.gix_spec.specs.AtParts
+pub use Rattle.gix_spec.specs.Targets
 pub use Rattle.gix_spec.specs.Names
 pub use Rattle.gix_spec.specs.Steps
 pub use Rattle.gix_spec.specs.ColonForms

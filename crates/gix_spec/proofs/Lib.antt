@@ -3,6 +3,8 @@ pub mod Places
 pub mod Numbers
 pub mod Describing
 pub mod Parts
+pub mod Pairs
+pub mod Opened
 pub mod Navigation
 pub mod Readings
 pub mod Memory

@@ -1,5 +1,6 @@
 -- Where no piece takes memory, the parse itself never wants any.
 use Rattle.std.proofs.Common.{inl, inr, ◌≡◌, ℕ, List, [], ◌∷◌, Option, Some, None, Bool, true, false, Result, Ok, Err, IsErrOf}
+use Rattle.gix_base.specs.declared.date.Time.{Time}
 use Rattle.gix_base.specs.declared.error.Exn.{Exn}
 use Rattle.gix_spec.specs.declared.spec.parse.Error.{Error}
 use Rattle.gix_spec.specs.declared.spec.parse.Error.TheVariants.{OutOfMemory, Refused}
@@ -9,7 +10,7 @@ use Rattle.gix_spec.specs.Tree.{Tree, leaf, ask, takes}
 use Rattle.gix_spec.specs.Run.{IsRun, goes_on, turns, has_room, has_none, without_memory, short_of_memory}
 use Rattle.gix_spec.specs.Context.{Context}
 use Rattle.gix_spec.specs.Pieces.{Piece, exclude, regex, index, head, name, branch, reflog, sibling, date, unescaped, step, peel, path, closer, without_parent, range, finish, finished, fault}
-use Rattle.gix_spec.specs.Trees.{tree_of, takes_memory, of_reference, repeat}
+use Rattle.gix_spec.specs.Trees.{tree_of, takes_memory, of_reference, at_time, repeat}
 use Rattle.gix_spec.specs.Parse.{Parses}
 
 -- a tree that takes no memory at any point
@@ -26,10 +27,13 @@ repeat_frugal : (anchor : Option Call) (after : List ℕ) (onward : Tree) → Is
 repeat_frugal None after onward h = tt
 repeat_frugal (Some c) after onward h = (h, λ e. tt)
 
+at_time_frugal : (time : Option Time) (inner : List ℕ) (onward : Tree) → IsFrugal onward → IsFrugal (at_time time inner onward)
+at_time_frugal None inner onward h = tt
+at_time_frugal (Some t) inner onward h = (h, λ e. tt)
+
 pub tree_frugal : (ps : List Piece) (m : Context) → takes_memory ps ≡ false → IsFrugal (tree_of ps m)
 tree_frugal [] m h = tt
 tree_frugal (unescaped ∷ ps) m h = cc
-tree_frugal (date meaning own inner ∷ ps) m h = cc
 tree_frugal (exclude ∷ ps) m h = (tree_frugal ps _ h, λ e. tt)
 tree_frugal (regex a b c ∷ ps) m h = (tree_frugal ps _ h, λ e. tt)
 tree_frugal (index a b ∷ ps) m h = (tree_frugal ps _ h, λ e. tt)
@@ -39,6 +43,7 @@ tree_frugal (name a b (Some p) ∷ ps) m h = (tree_frugal ps _ h, λ e. (tree_fr
 tree_frugal (branch a b ∷ ps) m h = (tree_frugal ps _ h, λ e. tt)
 tree_frugal (reflog a b c ∷ ps) m h = of_reference_frugal m.own_prefix _ (tree_frugal ps _ h, λ e. tt) _ b
 tree_frugal (sibling a b c ∷ ps) m h = of_reference_frugal m.own_prefix _ (tree_frugal ps _ h, λ e. tt) _ b
+tree_frugal (date meaning own inner ∷ ps) m h = of_reference_frugal m.own_prefix _ (at_time_frugal (meaning m.now) inner _ (tree_frugal ps _ h)) _ own
 tree_frugal (step a b ∷ ps) m h = (tree_frugal ps _ h, λ e. tt)
 tree_frugal (peel a b ∷ ps) m h = (tree_frugal ps _ h, λ e. tt)
 tree_frugal (path a ∷ ps) m h = (tree_frugal ps _ h, λ e. tt)

@@ -1,9 +1,9 @@
 -- The steps of a text are its first step and the steps behind it.
-use Rattle.std.proofs.Common.{◌≡◌, ◌⊎◌, inl, inr, ℕ, zero, suc, ◌==◌, ◌^◌, ◌≤◌, List, [], ◌∷◌, Bool, true, false, Option, Some, None, if◌then◌else◌, length, drop, length-drop, Ok, sym, ◌∙◌, ap, refl, arith}
+use Rattle.std.proofs.Common.{◌≡◌, ◌⊎◌, inl, inr, ℕ, zero, suc, ◌+◌, ◌==◌, ◌^◌, ◌≤◌, List, [], ◌∷◌, Bool, true, false, Option, Some, None, if◌then◌else◌, length, drop, length-drop, Ok, sym, ◌∙◌, ap, refl, arith}
 use Rattle.std.specs.Prelude.{nat_lt}
 use Rattle.gix_spec.specs.declared.spec.parse.part.Way.TheVariants.{Onward, Closed}
 use Rattle.gix_spec.specs.declared.spec.parse.part.Behind.{Behind}
-use Rattle.gix_spec.specs.Call.{Call}
+use Rattle.gix_spec.specs.Call.{Call, Target}
 use Rattle.gix_spec.specs.Answer.{Answer}
 use Rattle.gix_spec.specs.Context.{Context}
 use Rattle.gix_spec.specs.declared.spec.parse.part.Way.{Way as FoundWay}
@@ -11,6 +11,8 @@ use Rattle.gix_spec.specs.Found.{way_of}
 use Rattle.gix_spec.specs.Number.{number_of}
 use Rattle.gix_spec.specs.Part.{Part, Way, onward, closed, broken, nothing, joined, followed}
 use Rattle.gix_spec.specs.Steps.{step_at, steps_at, navigation, ancestor_at, ancestor_by, ancestor_run, parent_at, parent_by, without_at, without_by, run_at}
+use Rattle.gix_spec.specs.Braces.{Braced, close_of, braced_to, behind_escapes, braced_by, in_braces}
+use Rattle.gix_spec.specs.Targets.{target_named, regex_mark, marked_regex, peeled_to, inside_target, target_braces}
 use Rattle.gix_spec.specs.Performs.{Reads}
 
 -- a part that reading goes on behind takes some of a text
@@ -55,6 +57,32 @@ run_at_moves n [] rest after h k = λ e. k
 run_at_moves n (b ∷ digits) rest after h k =
     if_moves n (b == 45) _ _ (without_at_moves n digits (b ∷ digits) rest after) (parent_by_moves n (b ∷ digits) rest after (number_of (b ∷ digits)) h)
 
+-- braces, by what is left behind the pair
+behind_moves : (n : ℕ) (escapes : Bool) (p : Part) → Moves n p → Moves n (behind_escapes escapes p)
+behind_moves n true p h = h
+behind_moves n false p h = h
+
+pair_moves : (n : ℕ) (b : Bool) (x : Braced) (text : List ℕ) (reading : Braced → Part) → Moves n (reading x) → Moves n (braced_by (if b then Some x else None) text reading)
+pair_moves n true x text reading h = behind_moves n x.escapes (reading x) h
+pair_moves n false x text reading h = λ e. never refl e
+
+braces_move : (n : ℕ) (text : List ℕ) (reading : Braced → Part) → Moves n (reading (braced_to text (close_of text))) → Moves n (in_braces text reading)
+unfolding in_braces
+braces_move n text reading h = pair_moves n (nat_lt (close_of text) (length text)) (braced_to text (close_of text)) text reading h
+
+peeled_moves : (n : ℕ) (o : Option Target) (x : Braced) (after : List ℕ) → length x.rest ≤ n → Moves n (peeled_to o x after)
+peeled_moves n None x after h = λ e. never refl e
+peeled_moves n (Some target) x after h = λ e. h
+
+regex_moves : (n : ℕ) (raw meant rest : List ℕ) (o : Option (ℕ × Bool)) → length rest ≤ n → Moves n (marked_regex raw meant rest o)
+regex_moves n raw meant rest None h = λ e. never refl e
+regex_moves n raw meant rest (Some mark) h = λ e. h
+
+inside_moves : (n : ℕ) (meant : List ℕ) (x : Braced) (after : List ℕ) → length x.rest ≤ n → Moves n (inside_target meant x after)
+inside_moves n [] x after h = peeled_moves n (target_named []) x after h
+inside_moves n (b ∷ more) x after h =
+    if_moves n (b == 47) _ _ (regex_moves n (drop 1 x.raw) more x.rest (regex_mark more) h) (peeled_moves n (target_named (b ∷ more)) x after h)
+
 shorter : (k : ℕ) (text : List ℕ) → length (drop k text) ≤ length text
 shorter k text = omega (arith, length-drop k text)
 
@@ -62,13 +90,19 @@ ancestor_at_moves : (after : List ℕ) → Moves (length after) (ancestor_at aft
 unfolding ancestor_at
 ancestor_at_moves after = if_moves (length after) _ _ _ (λ e. never refl e) (ancestor_run_moves (length after) _ _ after (shorter _ after) (omega arith))
 
+target_moves : (after : List ℕ) → Moves (length after) (target_braces after)
+unfolding target_braces
+target_moves after =
+    let x : Braced = braced_to after (close_of after) in
+    braces_move (length after) after _ (inside_moves (length after) x.meant x after (shorter (close_of after + 1) after))
+
 parent_at_moves : (after : List ℕ) → Moves (length after) (parent_at after)
 unfolding parent_at
 parent_at_moves [] = λ e. omega arith
 parent_at_moves (b ∷ rest) =
     let n : ℕ = length (b ∷ rest) in
     if_moves n (b == 43) _ _ (λ e. never refl e)
-    (if_moves n (b == 123) _ _ (λ e. never refl e)
+    (if_moves n (b == 123) _ _ (target_moves (b ∷ rest))
     (if_moves n (b == 33) _ _ (λ e. never_closed refl e)
     (if_moves n (b == 64) _ _ (λ e. never_closed refl e) (run_at_moves n _ _ (b ∷ rest) (shorter _ (b ∷ rest)) (omega arith)))))
 

@@ -63,7 +63,7 @@ apart_by_forty n = apart_at n (n == 40 + n) refl
 -- what may stand behind forty digits
 record Follows (rest : List ℕ) : Type 0 where
   ends : 0 < length rest → (is_mark (slice_index rest 0) || two_dots_at rest 0) ≡ true
-  no_at : at_part rest ≡ nothing rest
+  no_at : (own : List ℕ) → at_part own rest ≡ nothing rest
 
 or_left : (a b : Bool) → a ≡ true → (a || b) ≡ true
 or_left a b h = rw h refl
@@ -105,7 +105,7 @@ front d rest q = record { pieces = full_name d (d ++ rest) ∷ q.pieces; rest = 
 
 anchor_front : (d rest : List ℕ) → AreForty d → Follows rest → anchor_at (d ++ rest) ≡ front d rest (nothing rest)
 unfolding anchor_at
-anchor_front d rest h f = rw (cut_front d rest h f, take_at d rest 40 h.forty, drop_at d rest 40 h.forty, attempt_full d h, f.no_at) refl
+anchor_front d rest h f = rw (cut_front d rest h f, take_at d rest 40 h.forty, drop_at d rest 40 h.forty, attempt_full d h, f.no_at d) refl
 
 by_name : (b : ℕ) (after : List ℕ) → IsPlain b → revision_at (b ∷ after) ≡ named_revision (b ∷ after)
 unfolding revision_at
@@ -131,15 +131,15 @@ three_dots d = refl
 -- the end of a text, dots and a closer
 follows_end : Follows []
 unfolding at_part
-follows_end = record { ends = λ h. absurd (omega arith); no_at = refl }
+follows_end = record { ends = λ h. absurd (omega arith); no_at = λ own. refl }
 
 follows_dots : (more : List ℕ) → Follows (46 ∷ 46 ∷ more)
 unfolding at_part
-follows_dots more = record { ends = λ h. refl; no_at = refl }
+follows_dots more = record { ends = λ h. refl; no_at = λ own. refl }
 
 follows_caret : (more : List ℕ) → Follows (94 ∷ more)
 unfolding at_part
-follows_caret more = record { ends = λ h. refl; no_at = refl }
+follows_caret more = record { ends = λ h. refl; no_at = λ own. refl }
 
 no_steps : navigation [] ≡ nothing []
 unfolding step_at

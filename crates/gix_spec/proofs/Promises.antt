@@ -12,9 +12,9 @@ use Rattle.gix_spec.specs.Tree.{Tree, Leaf, leaf, ask, takes, fine, faulty}
 use Rattle.gix_spec.specs.Run.{IsRun, at_leaf, goes_on, turns, runs_out, has_room, has_none, Outcome, ended}
 use Rattle.gix_spec.specs.Context.{Context, start}
 use Rattle.gix_spec.specs.Pieces.{Piece, exclude, regex, index, head, name, branch, reflog, sibling, date, unescaped, step, peel, path, closer, without_parent, range, finish, finished, fault}
-use Rattle.gix_spec.specs.Trees.{tree_of, repeat, takes_memory}
+use Rattle.gix_spec.specs.Trees.{tree_of, of_reference, at_time, repeat, takes_memory}
 use Rattle.gix_spec.specs.Reading.{pieces_of, unread_of}
-use Rattle.gix_spec.specs.Ends.{Records, DoneIsLast, ReadsAll, FaultIsLast, TakesNone, is_numbered, CallsAreNumbered, NamesPart, SecondIsOfName}
+use Rattle.gix_spec.specs.Ends.{Records, DoneIsLast, ReadsAll, FaultIsLast, HasNoEscape, TakesNone, is_numbered, CallsAreNumbered, NamesPart, SecondIsOfName}
 use Rattle.gix_spec.proofs.Sound.{Within, GivenWithin, AllSound}
 use Rattle.gix_spec.proofs.Ending.{EndsWell, LastFault, MayEnd}
 use Rattle.gix_spec.proofs.Whole.{pieces_whole}
@@ -46,6 +46,16 @@ repeat_keeps : (w : List ℕ) (P : Type 0) (anchor : Option Call) (after : List 
 repeat_keeps w P None after onward a h k = (h, tt)
 repeat_keeps w P (Some c) after onward a h k = (a, k (is_done c), λ e. (h, tt))
 
+reference_keeps : (w : List ℕ) (P : Type 0) (called own_prefix : Bool) (f : Fault) (own : List ℕ) (onward : Tree) → Within own w → Keeps w P called onward →
+    Keeps w P called (of_reference own_prefix f own onward)
+reference_keeps w P called true f own onward h k = (h, tt)
+reference_keeps w P called false f own onward h k = k
+
+time_keeps : (w : List ℕ) (P : Type 0) (called : Bool) (time : Option Time) (inner : List ℕ) (onward : Tree) → Within inner w → Keeps w P false onward →
+    Keeps w P called (at_time time inner onward)
+time_keeps w P called None inner onward h k = (h, tt)
+time_keeps w P called (Some t) inner onward h k = (refl, k, λ e. (h, tt))
+
 tree_keeps : (w : List ℕ) (P : Type 0) (called : Bool) (ps : List Piece) (m : Context) → AnchorKeeps m.anchor → AllSound w ps → EndsWell called ps → MayEnd P ps → Keeps w P called (tree_of ps m)
 tree_keeps w P called [] m a h k l = (k, l)
 tree_keeps w P called (exclude ∷ ps) m a h k l = (refl, tree_keeps w P false ps m a h.1 k l, λ e. (tt, tt))
@@ -55,11 +65,14 @@ tree_keeps w P called (head ∷ ps) m a h k l = (refl, tree_keeps w P false ps _
 tree_keeps w P called (name x y None ∷ ps) m a h k l = (refl, tree_keeps w P false ps _ refl h.1 k l, λ e. (h.0, tt))
 tree_keeps w P called (name x y (Some p) ∷ ps) m a h k l =
     (refl, tree_keeps w P false ps _ refl h.1 k l, λ e. (refl, tree_keeps w P false ps _ refl h.1 k l, λ d. (h.0, refl)))
-tree_keeps w P called (branch x y ∷ ps) m a h k l = absurd h.0
-tree_keeps w P called (reflog x y z ∷ ps) m a h k l = absurd h.0
-tree_keeps w P called (sibling x y z ∷ ps) m a h k l = absurd h.0
-tree_keeps w P called (date x y z ∷ ps) m a h k l = absurd h.0
-tree_keeps w P called (unescaped ∷ ps) m a h k l = absurd h.0
+tree_keeps w P called (branch x y ∷ ps) m a h k l = (h.0.1, tree_keeps w P false ps m a h.1 k l, λ e. (h.0.0, tt))
+tree_keeps w P called (reflog x y z ∷ ps) m a h k l =
+    reference_keeps w P called m.own_prefix _ y _ h.0.0 (refl, tree_keeps w P false ps m a h.1 k l, λ e. (h.0.1, tt))
+tree_keeps w P called (sibling x y z ∷ ps) m a h k l =
+    reference_keeps w P called m.own_prefix _ y _ h.0.0 (refl, tree_keeps w P false ps m a h.1 k l, λ e. (h.0.1, tt))
+tree_keeps w P called (date x y z ∷ ps) m a h k l =
+    reference_keeps w P called m.own_prefix _ y _ h.0.0 (time_keeps w P called (x m.now) z _ h.0.1 (tree_keeps w P false ps m a h.1 k l))
+tree_keeps w P called (unescaped ∷ ps) m a h k l = tree_keeps w P called ps m a h.1 k l
 tree_keeps w P called (step (NthParent n) y ∷ ps) m a h k l = (h.0.1, tree_keeps w P false ps m a h.1 k l, λ e. (h.0.0, tt))
 tree_keeps w P called (step (NthAncestor n) y ∷ ps) m a h k l = (refl, tree_keeps w P false ps m a h.1 k l, λ e. (h.0, tt))
 tree_keeps w P called (peel x y ∷ ps) m a h k l = (refl, tree_keeps w P false ps m a h.1 k l, λ e. (h.0, tt))
@@ -160,28 +173,28 @@ last_there (p ∷ before) after f i h = last_there before after f i h.1
 pub fault_is_last : FaultIsLast
 fault_is_last text before after f i e = last_there before after f i (subst LastFault e (pieces_whole text).last)
 
--- sound pieces take no memory
-takes_none : (w : List ℕ) (ps : List Piece) → AllSound w ps → takes_memory ps ≡ false
-takes_none w [] h = refl
-takes_none w (exclude ∷ ps) h = takes_none w ps h.1
-takes_none w (regex x y z ∷ ps) h = takes_none w ps h.1
-takes_none w (index x n ∷ ps) h = takes_none w ps h.1
-takes_none w (head ∷ ps) h = takes_none w ps h.1
-takes_none w (name x y z ∷ ps) h = takes_none w ps h.1
-takes_none w (branch x y ∷ ps) h = absurd h.0
-takes_none w (reflog x y z ∷ ps) h = absurd h.0
-takes_none w (sibling x y z ∷ ps) h = absurd h.0
-takes_none w (date x y z ∷ ps) h = absurd h.0
-takes_none w (unescaped ∷ ps) h = absurd h.0
-takes_none w (step x y ∷ ps) h = takes_none w ps h.1
-takes_none w (peel x y ∷ ps) h = takes_none w ps h.1
-takes_none w (path x ∷ ps) h = takes_none w ps h.1
-takes_none w (closer x y ∷ ps) h = takes_none w ps h.1
-takes_none w (without_parent n x y ∷ ps) h = takes_none w ps h.1
-takes_none w (range x ∷ ps) h = takes_none w ps h.1
-takes_none w (finish ∷ ps) h = takes_none w ps h.1
-takes_none w (finished ∷ ps) h = takes_none w ps h.1
-takes_none w (fault x y ∷ ps) h = takes_none w ps h.1
+-- sound pieces of a text without escapes take no memory
+takes_none : (w : List ℕ) → HasNoEscape w → (ps : List Piece) → AllSound w ps → takes_memory ps ≡ false
+takes_none w z [] h = refl
+takes_none w z (exclude ∷ ps) h = takes_none w z ps h.1
+takes_none w z (regex x y v ∷ ps) h = takes_none w z ps h.1
+takes_none w z (index x n ∷ ps) h = takes_none w z ps h.1
+takes_none w z (head ∷ ps) h = takes_none w z ps h.1
+takes_none w z (name x y v ∷ ps) h = takes_none w z ps h.1
+takes_none w z (branch x y ∷ ps) h = takes_none w z ps h.1
+takes_none w z (reflog x y v ∷ ps) h = takes_none w z ps h.1
+takes_none w z (sibling x y v ∷ ps) h = takes_none w z ps h.1
+takes_none w z (date x y v ∷ ps) h = takes_none w z ps h.1
+takes_none w z (unescaped ∷ ps) h = cc (z h.0.0 h.0.1, h.0.2)
+takes_none w z (step x y ∷ ps) h = takes_none w z ps h.1
+takes_none w z (peel x y ∷ ps) h = takes_none w z ps h.1
+takes_none w z (path x ∷ ps) h = takes_none w z ps h.1
+takes_none w z (closer x y ∷ ps) h = takes_none w z ps h.1
+takes_none w z (without_parent n x y ∷ ps) h = takes_none w z ps h.1
+takes_none w z (range x ∷ ps) h = takes_none w z ps h.1
+takes_none w z (finish ∷ ps) h = takes_none w z ps h.1
+takes_none w z (finished ∷ ps) h = takes_none w z ps h.1
+takes_none w z (fault x y ∷ ps) h = takes_none w z ps h.1
 
 pub texts_take_none : TakesNone
-texts_take_none text = takes_none text (pieces_of text) (pieces_whole text).sound
+texts_take_none text plain = takes_none text plain (pieces_of text) (pieces_whole text).sound

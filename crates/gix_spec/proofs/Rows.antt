@@ -1,17 +1,23 @@
 -- Each reader's part is sound, and its pieces end as its way on says.
-use Rattle.std.proofs.Common.{◌≡◌, ℕ, zero, suc, ◌==◌, ◌-◌, ◌^◌, ◌&&◌, List, [], ◌∷◌, Bool, true, false, if◌then◌else◌, Option, Some, None, length, ◌≤◌, refl, subst, arith}
+use Rattle.std.proofs.Common.{◌≡◌, ℕ, zero, suc, ◌+◌, ◌==◌, ◌-◌, ◌^◌, ◌&&◌, List, [], ◌∷◌, Bool, true, false, if◌then◌else◌, Option, Some, None, length, take, drop, ◌≤◌, refl, subst, arith}
 use Rattle.std.specs.Prelude.{nat_lt, nat_le}
 use Rattle.std.proofs.lemmas.Bool.{lt-ltb, leb-true, le-leb}
 use Rattle.gix_spec.specs.declared.spec.parse.fault.Fault.{Fault}
-use Rattle.gix_spec.specs.Number.{number_of}
-use Rattle.gix_spec.specs.Pieces.{Piece}
+use Rattle.gix_spec.specs.declared.spec.parse.delegate.SiblingBranch.{SiblingBranch}
+use Rattle.gix_spec.specs.Call.{Target}
+use Rattle.gix_spec.specs.Number.{number_of, Signed, minus, plain, signed_of}
+use Rattle.gix_spec.specs.Sibling.{sibling_of}
+use Rattle.gix_spec.specs.Pieces.{Piece, unescaped}
+use Rattle.gix_spec.specs.Braces.{Braced, close_of, braced_to, behind_escapes, braced_by, in_braces}
+use Rattle.gix_spec.specs.AtParts.{branch_at, number_at, word_at, inside_at, at_braces}
+use Rattle.gix_spec.specs.Targets.{target_named, regex_mark, marked_regex, peeled_to, inside_target, target_braces}
 use Rattle.gix_spec.specs.Part.{Part, Way, onward, closed, broken, nothing, piece, closing, refusal, joined, followed}
 use Rattle.gix_spec.specs.Cut.{cut_of}
 use Rattle.gix_spec.specs.Names.{at_part, without_name, anchor_by, anchor_at}
 use Rattle.gix_spec.specs.Steps.{ancestor_by, ancestor_run, ancestor_at, parent_by, without_by, without_at, run_at, parent_at, step_at, steps_at, navigation}
 use Rattle.gix_spec.specs.ColonForms.{negated_regex, banged, regex_at, is_stage, staged, index_at, colon_form}
 use Rattle.gix_spec.specs.Reading.{named_revision, revision_at}
-use Rattle.gix_spec.proofs.Sound.{Within, within_none, within_tail, within_drop, within_take, GivenWithin, IsSound, AllSound, sound_append}
+use Rattle.gix_spec.proofs.Sound.{Within, within_none, within_tail, within_drop, within_take, GivenWithin, HasEscape, escape_within, escape_there, IsSound, AllSound, sound_append}
 use Rattle.gix_spec.proofs.Ending.{called_after, is_fault, EndsBy, ends_join}
 
 pub record IsGood (text : List ℕ) (p : Part) : Type 0 where
@@ -91,13 +97,68 @@ run_at_good w [] rest after h k l = good_piece w _ _ (l, refl) refl l
 run_at_good w (b ∷ digits) rest after h k l =
     good_if w (b == 45) _ _ (without_at_good w digits (b ∷ digits) rest after h k l) (parent_by_good w (b ∷ digits) rest after (number_of (b ∷ digits)) h k l)
 
+-- braces
+good_escapes : (w : List ℕ) (escapes : Bool) (p : Part) → (escapes ≡ true → HasEscape w) → IsGood w p → IsGood w (behind_escapes escapes p)
+good_escapes w true p e h = record { sound = (e refl, h.sound); rest = h.rest; ends = ends_join p.way (unescaped ∷ []) p.pieces (refl, tt) h.ends }
+good_escapes w false p e h = h
+
+good_pair : (w : List ℕ) (b : Bool) (x : Braced) (text : List ℕ) (reading : Braced → Part) → Within text w → (x.escapes ≡ true → HasEscape w) → IsGood w (reading x) →
+    IsGood w (braced_by (if b then Some x else None) text reading)
+good_pair w true x text reading h e k = good_escapes w x.escapes (reading x) e k
+good_pair w false x text reading h e k = good_refusal w _ _ h
+
+-- what stands in braces, of a text whose parts are parts of w
+good_braces : (w text : List ℕ) (reading : Braced → Part) → Within text w → ((x : Braced) → Within x.raw w → Within x.rest w → IsGood w (reading x)) → IsGood w (in_braces text reading)
+unfolding in_braces
+good_braces w text reading h k =
+    let n : ℕ = close_of text in
+    good_pair w (nat_lt n (length text)) (braced_to text n) text reading h (λ e. escape_within text w h (escape_there text (n + 1) e))
+    (k (braced_to text n) (within_take (n - 1) (drop 1 text) w (within_drop 1 text w h)) (within_drop (n + 1) text w h))
+
+peeled_good : (w : List ℕ) (o : Option Target) (x : Braced) (after : List ℕ) → Within after w → Within x.raw w → Within x.rest w → IsGood w (peeled_to o x after)
+peeled_good w None x after h k l = good_refusal w _ _ k
+peeled_good w (Some target) x after h k l = good_piece w _ _ h refl l
+
+marked_good : (w raw meant rest : List ℕ) (o : Option (ℕ × Bool)) → Within raw w → Within rest w → IsGood w (marked_regex raw meant rest o)
+marked_good w raw meant rest None h k = good_refusal w _ _ h
+marked_good w raw meant rest (Some mark) h k = good_piece w _ _ (within_drop mark.0 raw w h) refl k
+
+inside_target_good : (w meant : List ℕ) (x : Braced) (after : List ℕ) → Within after w → Within x.raw w → Within x.rest w → IsGood w (inside_target meant x after)
+inside_target_good w [] x after h k l = peeled_good w (target_named []) x after h k l
+inside_target_good w (b ∷ more) x after h k l =
+    good_if w (b == 47) _ _ (marked_good w (drop 1 x.raw) more x.rest (regex_mark more) (within_drop 1 x.raw w k) l) (peeled_good w (target_named (b ∷ more)) x after h k l)
+
+target_good : (w after : List ℕ) → Within after w → IsGood w (target_braces after)
+unfolding target_braces
+target_good w after h = good_braces w after _ h (λ x k l. inside_target_good w x.meant x after h k l)
+
+branch_good : (w own : List ℕ) (n : ℕ) (x : Braced) → nat_lt 0 n ≡ true → Within x.raw w → Within x.rest w → IsGood w (branch_at own n x)
+branch_good w [] n x e k l = good_piece w _ _ (k, e) refl l
+branch_good w (b ∷ name) n x e k l = good_refusal w _ _ k
+
+number_good : (w own : List ℕ) (number : Signed) (x : Braced) → Within own w → Within x.raw w → Within x.rest w → IsGood w (number_at own number x)
+number_good w own (minus n) x h k l = good_where w (n == 0) _ _ (λ e. good_refusal w _ _ k) (λ e. branch_good w own n x (positive n e) k l)
+number_good w own (plain n) x h k l = good_piece w _ _ (h, k) refl l
+
+word_good : (w own : List ℕ) (o : Option SiblingBranch) (x : Braced) → Within own w → Within x.raw w → Within x.rest w → IsGood w (word_at own o x)
+word_good w own None x h k l = good_piece w _ _ (h, k) refl l
+word_good w own (Some which) x h k l = good_piece w _ _ (h, k) refl l
+
+inside_good : (w own : List ℕ) (o : Option Signed) (x : Braced) → Within own w → Within x.raw w → Within x.rest w → IsGood w (inside_at own o x)
+inside_good w own None x h k l = word_good w own (sibling_of x.meant) x h k l
+inside_good w own (Some number) x h k l = number_good w own number x h k l
+
+at_braces_good : (w own text : List ℕ) → Within own w → Within text w → IsGood w (at_braces own text)
+unfolding at_braces
+at_braces_good w own text h k = good_braces w text _ k (λ x r l. inside_good w own (signed_of x.meant) x h r l)
+
 parent_at_good : (w after : List ℕ) → Within after w → IsGood w (parent_at after)
 unfolding parent_at
 parent_at_good w [] h = good_piece w _ _ (h, refl) refl h
 parent_at_good w (b ∷ rest) h =
     let r : Within rest w = within_tail b rest w h in
     good_if w (b == 43) _ _ (good_refusal w _ _ h)
-    (good_if w (b == 123) _ _ (good_refusal w _ _ h)
+    (good_if w (b == 123) _ _ (target_good w (b ∷ rest) h)
     (good_if w (b == 33) _ _ (good_closing w _ _ r refl (λ c. refl) r)
     (good_if w (b == 64) _ _ (good_closing w _ _ r refl (λ c. refl) r)
     (run_at_good w _ _ (b ∷ rest) (within_take _ (b ∷ rest) w h) (within_drop _ (b ∷ rest) w h) h))))
@@ -117,21 +178,23 @@ steps_at_good zero w text h = good_nothing w text h
 steps_at_good (suc n) w text h = good_followed w (step_at text) (steps_at n) (step_at_good w text h) (λ rest k. steps_at_good n w rest k)
 
 -- names
-at_part_good : (w text : List ℕ) → Within text w → IsGood w (at_part text)
+at_part_good : (w own text : List ℕ) → Within own w → Within text w → IsGood w (at_part own text)
 unfolding at_part
-at_part_good w [] h = good_nothing w [] h
-at_part_good w (b ∷ after) h =
-    good_if w (b == 64) _ _ (good_if w _ _ _ (good_refusal w _ _ (within_tail b after w h)) (good_refusal w _ _ h)) (good_nothing w (b ∷ after) h)
+at_part_good w own [] k h = good_nothing w [] h
+at_part_good w own (b ∷ after) k h =
+    good_if w (b == 64) _ _ (good_if w _ _ _ (at_braces_good w own after k (within_tail b after w h)) (good_refusal w _ _ h)) (good_nothing w (b ∷ after) h)
 
 without_name_good : (w text : List ℕ) → Within text w → IsGood w (without_name text)
+unfolding without_name
 without_name_good w [] h = good_nothing w [] h
 without_name_good w (b ∷ after) h =
-    good_if w (b == 64) _ _ (good_if w _ _ _ (at_part_good w (b ∷ after) h) (good_piece w _ _ tt refl (within_tail b after w h))) (good_nothing w (b ∷ after) h)
+    let r : Within after w = within_tail b after w h in
+    good_if w (b == 64) _ _ (good_if w _ _ _ (at_braces_good w [] after (within_none w) r) (good_piece w _ _ tt refl r)) (good_nothing w (b ∷ after) h)
 
 anchor_by_good : (w text : List ℕ) (n : ℕ) → Within text w → IsGood w (anchor_by text n)
 anchor_by_good w text zero h = without_name_good w text h
 anchor_by_good w text (suc n) h =
-    good_followed w _ at_part (good_piece w _ _ h refl (within_drop (suc n) text w h)) (λ rest k. at_part_good w rest k)
+    good_followed w _ (at_part (take (suc n) text)) (good_piece w _ _ h refl (within_drop (suc n) text w h)) (λ rest k. at_part_good w (take (suc n) text) rest (within_take (suc n) text w h) k)
 
 anchor_at_good : (w text : List ℕ) → Within text w → IsGood w (anchor_at text)
 unfolding anchor_at

@@ -6,10 +6,10 @@ use Rattle.gix_spec.specs.declared.spec.parse.Error.{Error}
 use Rattle.gix_spec.specs.declared.spec.parse.Error.TheVariants.{OutOfMemory, Refused}
 use Rattle.gix_spec.specs.Call.{Call}
 use Rattle.gix_spec.specs.Answer.{Answer, answer_of, refused, no_memory}
-use Rattle.gix_spec.specs.Tree.{Tree, fine, faulty}
+use Rattle.gix_spec.specs.Tree.{Tree, takes, fine, faulty}
 use Rattle.gix_spec.specs.Run.{IsRun, at_leaf, goes_on, turns, runs_out, has_room, has_none, IsBeginning, stops, begins_accepted, begins_refused, begins_out, begins_room, Outcome, ended, without_memory, short_of_memory}
 use Rattle.gix_spec.specs.Context.{Context}
-use Rattle.gix_spec.specs.Pieces.{Piece, finished, fault}
+use Rattle.gix_spec.specs.Pieces.{Piece, unescaped, finished, fault}
 use Rattle.gix_spec.specs.Trees.{tree_of, demand}
 use Rattle.gix_spec.specs.Parse.{Fails, Parses}
 use Rattle.gix_spec.specs.Performs.{Leads, GoesTo, Performs, Asks, DemandedBy, Demanded}
@@ -97,6 +97,18 @@ module _ {S : Type 0} (by : S → Call → Answer → S → Type 0) where
   pub performs_fault : {X : Type 0} {f : Fault} {i : Option (List ℕ)} {j : Option (Bor (List ℕ))} {m n : Context} {s : S} →
       option_map (λ x. x.now) j ≡ i → Performs {X = X} by (fault f i ∷ []) s m s n (Err (Refused f j None None))
   performs_fault h = record { performs = λ more. rw h at_leaf }
+
+  -- an escape was taken out, and then some pieces were read
+  pub performs_room : {X : Type 0} {ps : List Piece} {m n : Context} {s u : S} {out : Result X Error} →
+      Performs by ps s m u n out → Performs by (unescaped ∷ ps) s m u n out
+  performs_room {ps} {m} {n} {s} {u} {out} h = record {
+    performs = λ more.
+        goes_then s s u (takes (tree_of (ps ++ more) m)) (tree_of (ps ++ more) m) (tree_of more n) (tt {0}) out (λ w o r. has_room r) (h.performs more);
+  }
+
+  -- there was no memory for it
+  pub performs_short : {X : Type 0} {ps : List Piece} {m n : Context} {s : S} → Performs {X = X} by (unescaped ∷ ps) s m s n (Err OutOfMemory)
+  performs_short = record { performs = λ more. inr has_none }
 
   -- the run of a whole text
   pub runs_whole : {ps : List Piece} {m n : Context} {s u : S} {out : Result (Unit {0}) Error} → Performs by ps s m u n out → Parses by s (tree_of ps m) u out

@@ -1,5 +1,5 @@
 -- How a parse ends, and what it calls.
-use Rattle.std.specs.Prelude.{◌≡◌, true, false, ℕ, List, [], ◌∷◌, ◌++◌, Bool, Option, Some, nat_lt, nat_le}
+use Rattle.std.specs.Prelude.{◌≡◌, true, false, ℕ, ◌+◌, slice_index, List, [], ◌∷◌, ◌++◌, Bool, Option, Some, nat_lt, nat_le}
 use Rattle.std.specs.List.{list_all}
 use Rattle.gix_base.specs.declared.date.Time.{Time}
 use Rattle.gix_base.specs.declared.error.Exn.{Exn}
@@ -9,6 +9,8 @@ use Rattle.gix_spec.specs.declared.spec.parse.fault.Fault.TheVariants.{NameRefus
 use Rattle.gix_spec.specs.Call.{Call, traverse, branch, index, done}
 use Rattle.gix_spec.specs.Answer.{Answer, accepted}
 use Rattle.gix_spec.specs.Pieces.{Piece, fault}
+use Rattle.gix_spec.specs.Marks.{backslash}
+use Rattle.gix_spec.specs.Braces.{is_special}
 use Rattle.gix_spec.specs.Tree.{fine, faulty}
 use Rattle.gix_spec.specs.Run.{IsRun, Outcome, ended}
 use Rattle.gix_spec.specs.Parse.{meaning_of}
@@ -32,9 +34,13 @@ ReadsAll {S} step = (text : List ℕ) (now : Time) (s u : S) → IsRun step s (m
 abbrev pub FaultIsLast : Type 0
 FaultIsLast = (text : List ℕ) (before after : List Piece) (f : Fault) (input : Option (List ℕ)) → pieces_of text ≡ before ++ fault f input ∷ after → after ≡ []
 
--- no text takes memory
+-- no backslash of a text stands before a brace or a backslash
+abbrev pub HasNoEscape : (text : List ℕ) → Type 0
+HasNoEscape text = (k : ℕ) → slice_index text k ≡ backslash → is_special (slice_index text (k + 1)) ≡ false
+
+-- where nothing is escaped, a text takes no memory
 abbrev pub TakesNone : Type 0
-TakesNone = (text : List ℕ) → takes_memory (pieces_of text) ≡ false
+TakesNone = (text : List ℕ) → HasNoEscape text → takes_memory (pieces_of text) ≡ false
 
 -- no call is for a parent or a branch of number 0, or for an index stage past 3
 abbrev pub is_numbered : Call → Bool

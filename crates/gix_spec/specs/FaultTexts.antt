@@ -3,7 +3,7 @@ use Rattle.std.specs.Prelude.{ℕ, List, codes, Option, Some, None}
 use Rattle.gix_spec.specs.declared.spec.parse.Error.{Error}
 use Rattle.gix_spec.specs.declared.spec.parse.Error.TheVariants.{OutOfMemory, Refused}
 use Rattle.gix_spec.specs.declared.spec.parse.fault.Fault.{Fault}
-use Rattle.gix_spec.specs.declared.spec.parse.fault.Fault.TheVariants.{KindRefused, HeadRefused, KindTwice, Unconsumed, DoneRefused, DoneRefusedInNavigation, LoneColon, LoneColonSlash, RegexPrefix, FindRefused, IndexRefused, NameRefused, AtWithoutBraces, UnclosedBrace, NegativeZero, NegativeEntry, ReflogWithoutName, SiblingWithoutName, Date, AtRefused, TildeFirst, Sign, Number, TraverseRefused, PeelRefused, UnknownTarget, RepeatRefused, NotYet}
+use Rattle.gix_spec.specs.declared.spec.parse.fault.Fault.TheVariants.{KindRefused, HeadRefused, KindTwice, Unconsumed, DoneRefused, DoneRefusedInNavigation, LoneColon, LoneColonSlash, RegexPrefix, FindRefused, IndexRefused, NameRefused, AtWithoutBraces, UnclosedBrace, NegativeZero, NegativeEntry, ReflogWithoutName, SiblingWithoutName, Date, AtRefused, TildeFirst, Sign, Number, TraverseRefused, PeelRefused, UnknownTarget, RepeatRefused}
 
 -- the place of a fault among the cases, from 1 on
 abbrev pub number_of : Fault → ℕ
@@ -34,7 +34,6 @@ number_of (TraverseRefused t) = 24
 number_of PeelRefused = 25
 number_of UnknownTarget = 26
 number_of RepeatRefused = 27
-number_of NotYet = 28
 
 -- what a fault prints; nothing is said of the texts that hold a debug form
 abbrev pub fault_text : Fault → Option (List ℕ)
@@ -65,7 +64,6 @@ fault_text (TraverseRefused t) = None
 fault_text PeelRefused = Some (codes "the delegate could not peel the object")
 fault_text UnknownTarget = Some (codes "cannot peel to unknown target")
 fault_text RepeatRefused = Some (codes "the delegate refused the repeated anchor")
-fault_text NotYet = Some (codes "not read yet")
 
 -- what an error prints: the text of its fault
 abbrev pub error_text : Error → Option (List ℕ)

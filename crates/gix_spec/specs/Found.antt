@@ -1,7 +1,9 @@
 -- What the readers of the code hand over, as pieces and parts.
-use Rattle.std.specs.Prelude.{ℕ, List, [], ◌∷◌, Option, Some, None, option_map, Result, Ok, Err}
+use Rattle.std.specs.Prelude.{ℕ, ◌≤◌, ◌<◌, ◌^◌, List, [], ◌∷◌, Option, Some, None, option_map, Result, Ok, Err}
 use Rattle.std.specs.Borrow.{Bor}
 use Rattle.gix_base.specs.Prefix.{prefix_text}
+use Rattle.gix_spec.specs.declared.spec.parse.number.Signed.{Signed as FoundSigned}
+use Rattle.gix_spec.specs.declared.spec.parse.number.Signed.TheVariants as signs
 use Rattle.gix_spec.specs.declared.spec.parse.part.Attempt.{Attempt as FoundAttempt}
 use Rattle.gix_spec.specs.declared.spec.parse.part.Piece.{Piece as FoundPiece}
 use Rattle.gix_spec.specs.declared.spec.parse.part.Piece.TheVariants as found
@@ -10,12 +12,22 @@ use Rattle.gix_spec.specs.declared.spec.parse.part.Refusal.{Refusal}
 use Rattle.gix_spec.specs.declared.spec.parse.part.Way.{Way as FoundWay}
 use Rattle.gix_spec.specs.declared.spec.parse.part.Way.TheVariants as ways
 use Rattle.gix_spec.specs.Call.{hint_of, target_of}
-use Rattle.gix_spec.specs.Pieces.{Piece, exclude, regex, index, head, name, step, peel, path, closer, without_parent, range, finish}
+use Rattle.gix_spec.specs.Pieces.{Piece, exclude, regex, index, head, name, branch, reflog, sibling, step, peel, path, closer, without_parent, range, finish}
 use Rattle.gix_spec.specs.DescribeText.{Attempt}
+use Rattle.gix_spec.specs.Number.{Signed, minus, plain}
 use Rattle.gix_spec.specs.Part.{Part, Way, onward, closed, refusal}
 
 abbrev pub attempt_found : FoundAttempt → Attempt
 attempt_found a = (prefix_text a.prefix, option_map hint_of a.hint)
+
+abbrev pub signed_found : FoundSigned → Signed
+signed_found (signs.Minus n) = minus n
+signed_found (signs.Plain n) = plain n
+
+-- an isize holds the number
+abbrev pub FitsIsize : FoundSigned → Type 0
+FitsIsize (signs.Minus n) = n ≤ 2 ^ 63
+FitsIsize (signs.Plain n) = n < 2 ^ 63
 
 abbrev pub slice_of : Option (Bor (List ℕ)) → Option (List ℕ)
 slice_of input = option_map (λ x. x.now) input
@@ -26,6 +38,9 @@ piece_of (found.Regex wanted raw negated) = regex wanted.now raw.now negated
 piece_of (found.Index p stage) = index p.now stage
 piece_of found.Head = head
 piece_of (found.Name text whole attempt) = name text.now whole.now (option_map attempt_found attempt)
+piece_of (found.Branch n inner) = branch n inner.now
+piece_of (found.Reflog query own inner) = reflog query own.now inner.now
+piece_of (found.Sibling which own inner) = sibling which own.now inner.now
 piece_of (found.Step t after) = step t after.now
 piece_of (found.Peel target after) = peel (target_of target) after.now
 piece_of (found.Path p) = path p.now

@@ -11,6 +11,11 @@ pub mod Cut
 pub mod Number
 pub mod DescribeText
 pub mod Found
+pub mod Braces
+pub mod Parens
+pub mod Opens
+pub mod AtParts
+pub mod Targets
 pub mod Names
 pub mod Steps
 pub mod ColonForms

@@ -20,6 +20,9 @@ at_sign = 64
 abbrev pub brace : ℕ
 brace = 123
 
+abbrev pub backslash : ℕ
+backslash = 92
+
 abbrev pub dash : ℕ
 dash = 45
 

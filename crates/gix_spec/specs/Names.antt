@@ -1,10 +1,11 @@
--- The name of a revision: gitrevisions, "<sha1>", "<describeOutput>", "<refname>" and "@".
+-- The name of a revision: gitrevisions, "<sha1>", "<describeOutput>", "<refname>" and "@", and an `@` behind it.
 use Rattle.std.specs.Prelude.{ℕ, zero, suc, ◌==◌, List, [], ◌∷◌, Option, Some, None, take, drop, if◌then◌else◌}
-use Rattle.gix_spec.specs.declared.spec.parse.fault.Fault.TheVariants.{AtWithoutBraces, NotYet}
+use Rattle.gix_spec.specs.declared.spec.parse.fault.Fault.TheVariants.{AtWithoutBraces}
 use Rattle.gix_spec.specs.Pieces.{head, name}
 use Rattle.gix_spec.specs.Marks.{at_sign, brace, starts_with}
 use Rattle.gix_spec.specs.Cut.{cut_of}
 use Rattle.gix_spec.specs.DescribeText.{Attempt, prefix_with, describe_attempt}
+use Rattle.gix_spec.specs.AtParts.{at_braces}
 use Rattle.gix_spec.specs.Part.{Part, nothing, piece, refusal, followed}
 
 -- the prefix call that is tried first on a name, if there is one: all of the name is digits, or it is a describe text
@@ -15,21 +16,21 @@ attempt_by None text = describe_attempt text
 unfoldable pub attempt_of : (text : List ℕ) → Option Attempt
 attempt_of text = attempt_by (prefix_with text None) text
 
--- what an `@` behind the name asks for; braces are not read yet
-abbrev pub behind_at : (after whole : List ℕ) → Part
-behind_at after whole = if starts_with brace after then refusal NotYet (Some after) else refusal AtWithoutBraces (Some whole)
+-- what an `@` behind the name `own` asks for
+abbrev pub behind_at : (own after whole : List ℕ) → Part
+behind_at own after whole = if starts_with brace after then at_braces own after else refusal AtWithoutBraces (Some whole)
 
-unfoldable pub at_part : (text : List ℕ) → Part
-at_part [] = nothing []
-at_part (b ∷ after) = if b == at_sign then behind_at after (b ∷ after) else nothing (b ∷ after)
+unfoldable pub at_part : (own text : List ℕ) → Part
+at_part own [] = nothing []
+at_part own (b ∷ after) = if b == at_sign then behind_at own after (b ∷ after) else nothing (b ∷ after)
 
 -- HEAD, where no name stands before an `@` and no brace behind it
-abbrev pub head_at : (after whole : List ℕ) → Part
-head_at after whole = if starts_with brace after then at_part whole else piece head after
+abbrev pub head_at : (after : List ℕ) → Part
+head_at after = if starts_with brace after then at_braces [] after else piece head after
 
-abbrev pub without_name : (text : List ℕ) → Part
+unfoldable pub without_name : (text : List ℕ) → Part
 without_name [] = nothing []
-without_name (b ∷ after) = if b == at_sign then head_at after (b ∷ after) else nothing (b ∷ after)
+without_name (b ∷ after) = if b == at_sign then head_at after else nothing (b ∷ after)
 
 -- the first n bytes of a text as a name
 abbrev pub named : (text : List ℕ) → (n : ℕ) → Part
@@ -38,7 +39,7 @@ named text n = piece (name (take n text) text (attempt_of (take n text))) (drop 
 -- a name that ends at its cut, and an `@` behind it
 abbrev pub anchor_by : (text : List ℕ) → (n : ℕ) → Part
 anchor_by text zero = without_name text
-anchor_by text (suc n) = followed (named text (suc n)) at_part
+anchor_by text (suc n) = followed (named text (suc n)) (at_part (take (suc n) text))
 
 unfoldable pub anchor_at : (text : List ℕ) → Part
 anchor_at text = anchor_by text (cut_of text)

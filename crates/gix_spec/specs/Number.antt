@@ -1,7 +1,8 @@
 -- Numbers in a text.
-use Rattle.std.specs.Prelude.{ℕ, ◌^◌, ◌&&◌, List, Option, Some, None, length, nat_lt, if◌then◌else◌}
+use Rattle.std.specs.Prelude.{ℕ, ◌==◌, ◌^◌, ◌&&◌, List, [], ◌∷◌, Option, Some, None, length, nat_lt, nat_le, if◌then◌else◌}
 use Rattle.std.specs.Str.{all_ascii_digits}
 use Rattle.std.specs.Str.Parse.{digits_value, without_leading_plus}
+use Rattle.gix_spec.specs.Marks.{dash, plus, starts_with}
 
 -- the number that decimal digits say, where a usize holds it
 abbrev pub digits_number : List ℕ → Option ℕ
@@ -12,3 +13,25 @@ digits_number digits =
 -- the same of a text in which a plus may stand first
 unfoldable pub number_of : List ℕ → Option ℕ
 number_of text = digits_number (without_leading_plus text)
+
+-- a number with a sign or with none, by its digits
+pub data Signed : Type 0 where
+  minus : ℕ → Signed
+  plain : ℕ → Signed
+
+-- the number behind a minus, and one without, where an isize holds it
+abbrev pub minus_by : Option ℕ → Option Signed
+minus_by None = None
+minus_by (Some n) = if nat_le n (2 ^ 63) then Some (minus n) else None
+
+abbrev pub plain_by : Option ℕ → Option Signed
+plain_by None = None
+plain_by (Some n) = if nat_lt n (2 ^ 63) then Some (plain n) else None
+
+-- the number that a text says: a sign may stand first, no second one behind a minus
+abbrev pub behind_minus : (text : List ℕ) → Option Signed
+behind_minus text = if starts_with plus text then None else minus_by (number_of text)
+
+unfoldable pub signed_of : (text : List ℕ) → Option Signed
+signed_of [] = None
+signed_of (b ∷ rest) = if b == dash then behind_minus rest else plain_by (number_of (b ∷ rest))

@@ -28,7 +28,7 @@ pub data Piece : Type 0 where
   reflog : ReflogLookup → (name inner : List ℕ) → Piece
   -- `@{upstream}`, `@{push}`
   sibling : SiblingBranch → (name inner : List ℕ) → Piece
-  -- any other text in braces, by the time that it means at a moment, if it means one
+  -- any other text in braces behind an `@`, by the time that it means at a moment, if it means one
   date : (meaning : Time → Option Time) (name inner : List ℕ) → Piece
   -- braces with escapes, which are taken out before what stands in them is read
   unescaped : Piece

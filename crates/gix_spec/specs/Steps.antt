@@ -1,15 +1,16 @@
--- The steps behind a name: gitrevisions, "<rev>~<n>", "<rev>^<n>", "<rev>^@", "<rev>^!", "<rev>^-<n>" and "<rev>:<path>".
+-- The steps behind a name: gitrevisions, "<rev>~<n>", "<rev>^<n>", "<rev>^{<type>}", "<rev>^@", "<rev>^!", "<rev>^-<n>" and "<rev>:<path>".
 use Rattle.std.specs.Prelude.{ℕ, zero, suc, ◌==◌, ◌^◌, ◌||◌, List, [], ◌∷◌, Option, Some, None, Bool, length, nat_lt, if◌then◌else◌}
 use Rattle.std.specs.Char.{is_ascii_digit}
 use Rattle.gix_base.specs.declared.object.Kind.TheVariants.{Commit}
 use Rattle.gix_spec.specs.declared.spec.Kind.TheVariants.{ExcludeReachableFromParents, IncludeReachableFromParents}
 use Rattle.gix_spec.specs.declared.spec.parse.delegate.Traversal.TheVariants.{NthParent, NthAncestor}
-use Rattle.gix_spec.specs.declared.spec.parse.fault.Fault.TheVariants.{NegativeZero, Sign, Number, NotYet}
+use Rattle.gix_spec.specs.declared.spec.parse.fault.Fault.TheVariants.{NegativeZero, Sign, Number}
 use Rattle.gix_spec.specs.Call.{object}
 use Rattle.gix_spec.specs.Pieces.{step, peel, path, closer, without_parent}
 use Rattle.gix_spec.specs.Marks.{tilde, caret, colon, at_sign, brace, dash, plus, bang, starts_with, run_of, behind_run}
 use Rattle.gix_spec.specs.Number.{number_of}
 use Rattle.gix_spec.specs.Part.{Part, nothing, piece, closing, refusal, followed}
+use Rattle.gix_spec.specs.Targets.{target_braces}
 
 -- In what follows, `after` is the text behind a `~` or a `^`, `run` the digits (and minus signs) at its front, and `rest` what
 -- follows these.
@@ -64,11 +65,11 @@ run_at (b ∷ digits) rest after =
 abbrev pub is_digit_or_minus : ℕ → Bool
 is_digit_or_minus b = is_ascii_digit b || (b == dash)
 
--- what stands behind a `^`; a brace is not read yet
+-- what stands behind a `^`
 abbrev pub marked_parent : (b : ℕ) → (rest after : List ℕ) → Part
 marked_parent b rest after =
     if b == plus then refusal Sign (Some after)
-    else if b == brace then refusal NotYet (Some after)
+    else if b == brace then target_braces after
     else if b == bang then closing (closer ExcludeReachableFromParents rest) rest
     else if b == at_sign then closing (closer IncludeReachableFromParents rest) rest
     else run_at (run_of is_digit_or_minus after) (behind_run is_digit_or_minus after) after

@@ -3,7 +3,9 @@ use Rattle.std.specs.Prelude.{ℕ, List, [], ◌∷◌, Option, Some, None, Bool
 use Rattle.gix_base.specs.declared.date.Time.{Time}
 use Rattle.gix_spec.specs.declared.spec.Kind.{Kind}
 use Rattle.gix_spec.specs.declared.spec.Kind.TheVariants.{ExcludeReachable, RangeBetween}
+use Rattle.gix_spec.specs.declared.spec.parse.delegate.ReflogLookup.{ReflogLookup}
 use Rattle.gix_spec.specs.declared.spec.parse.delegate.ReflogLookup.TheVariants.{Date as AtDate}
+use Rattle.gix_spec.specs.declared.spec.parse.delegate.SiblingBranch.{SiblingBranch}
 use Rattle.gix_spec.specs.declared.spec.parse.delegate.Traversal.TheVariants.{NthParent}
 use Rattle.gix_spec.specs.declared.spec.parse.fault.Fault.{Fault}
 use Rattle.gix_spec.specs.declared.spec.parse.fault.Fault.TheVariants.{KindRefused, HeadRefused, Unconsumed, DoneRefused, DoneRefusedInNavigation, FindRefused, IndexRefused, NameRefused, ReflogWithoutName, SiblingWithoutName, Date, AtRefused, TraverseRefused, PeelRefused, RepeatRefused}
@@ -39,6 +41,16 @@ attempts text whole (Some p) m onward =
     ask (prefix p.0 p.1) (onward (after_prefix m p.0 p.1))
     (λ e. ask (find_ref text) (onward (after_reference m text)) (λ d. leaf (faulty NameRefused (Some whole) (Some e) (Some d))))
 
+-- an entry or a date in the reflog, and a branch that belongs to another
+abbrev pub reflog_calls : ReflogLookup → (own inner : List ℕ) → (own_prefix : Bool) → Tree → Tree
+reflog_calls query own inner own_prefix onward = of_reference own_prefix ReflogWithoutName own (demand (calls.reflog query) AtRefused (Some inner) onward)
+
+abbrev pub sibling_calls : SiblingBranch → (own inner : List ℕ) → (own_prefix : Bool) → Tree → Tree
+sibling_calls which own inner own_prefix onward = of_reference own_prefix SiblingWithoutName own (demand (calls.sibling which) AtRefused (Some inner) onward)
+
+abbrev pub date_calls : Option Time → (own inner : List ℕ) → (own_prefix : Bool) → Tree → Tree
+date_calls time own inner own_prefix onward = of_reference own_prefix ReflogWithoutName own (at_time time inner onward)
+
 -- what `^!` and `^@` ask for
 abbrev pub closing_calls : Kind → (rest : List ℕ) → Tree → Tree
 closing_calls k rest onward = demand (kind k) (KindRefused k) (Some rest) (demand done DoneRefusedInNavigation (Some rest) onward)
@@ -59,12 +71,9 @@ tree_of (index p stage ∷ ps) m = demand (calls.index p stage) (IndexRefused st
 tree_of (head ∷ ps) m = demand (find_ref HEAD) HeadRefused None (tree_of ps (after_reference m HEAD))
 tree_of (name text whole attempt ∷ ps) m = attempts text whole attempt m (λ n. tree_of ps n)
 tree_of (branch number inner ∷ ps) m = demand (calls.branch number) AtRefused (Some inner) (tree_of ps m)
-tree_of (reflog query own inner ∷ ps) m =
-    of_reference m.own_prefix ReflogWithoutName own (demand (calls.reflog query) AtRefused (Some inner) (tree_of ps m))
-tree_of (sibling which own inner ∷ ps) m =
-    of_reference m.own_prefix SiblingWithoutName own (demand (calls.sibling which) AtRefused (Some inner) (tree_of ps m))
-tree_of (date meaning own inner ∷ ps) m =
-    of_reference m.own_prefix ReflogWithoutName own (takes (at_time (meaning m.now) inner (tree_of ps m)))
+tree_of (reflog query own inner ∷ ps) m = reflog_calls query own inner m.own_prefix (tree_of ps m)
+tree_of (sibling which own inner ∷ ps) m = sibling_calls which own inner m.own_prefix (tree_of ps m)
+tree_of (date meaning own inner ∷ ps) m = date_calls (meaning m.now) own inner m.own_prefix (tree_of ps m)
 tree_of (unescaped ∷ ps) m = takes (tree_of ps m)
 tree_of (step t after ∷ ps) m = demand (traverse t) (TraverseRefused t) (Some after) (tree_of ps m)
 tree_of (peel target after ∷ ps) m = demand (calls.peel target) PeelRefused (Some after) (tree_of ps m)
@@ -76,10 +85,9 @@ tree_of (finish ∷ ps) m = demand done DoneRefused None (tree_of ps m)
 tree_of (finished ∷ ps) m = tree_of ps m
 tree_of (fault f input ∷ ps) m = leaf (faulty f input None None)
 
--- whether reading a piece may take memory: an escape is taken out, or a text goes to a date
+-- whether reading a piece may take memory: where escapes are taken out, and nowhere else
 abbrev pub takes_one : Piece → Bool
 takes_one unescaped = true
-takes_one (date meaning own inner) = true
 takes_one _ = false
 
 abbrev pub takes_memory : List Piece → Bool

@@ -31,7 +31,8 @@ pub fn fault_is_last()
     ensures { FaultIsLast }
 {}
 
-/// No text takes memory, so that only its delegate can want some.
+/// A text in which no backslash stands before a brace or a backslash takes no memory, so that only
+/// its delegate can want some.
 #[tactic(auto, using(crate::proofs::Promises::texts_take_none))]
 pub fn texts_take_no_memory()
     ensures { TakesNone }

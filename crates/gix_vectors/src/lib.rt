@@ -3,6 +3,8 @@
 #![tactic(auto)]
 
 #[cfg(test)]
+mod braces;
+#[cfg(test)]
 mod dates;
 #[cfg(test)]
 mod delegate;

@@ -6,6 +6,8 @@ use gix_base::error::Exn;
 use std::fmt;
 use thiserror::Error;
 
+pub(crate) mod at_part;
+pub(crate) mod braces;
 pub(crate) mod calls;
 pub(crate) mod colon_form;
 pub(crate) mod context;
@@ -18,7 +20,9 @@ pub(crate) mod name;
 pub(crate) mod number;
 pub(crate) mod part;
 pub(crate) mod step;
+pub(crate) mod target;
 
+pub use braces::parens;
 pub use delegate::Delegate;
 pub use fault::Fault;
 pub use function::parse;

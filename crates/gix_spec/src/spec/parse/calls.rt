@@ -1,18 +1,20 @@
 //! The calls that the pieces of a text mean.
 
 ghost use Rattle.std.specs.Prelude.{◌≡◌, Some, None, [], ◌∷◌, option_map};
-ghost use Rattle.gix_spec.specs.Pieces.{head, name, range};
+ghost use Rattle.gix_spec.specs.Pieces.{head, name, range, regex};
 ghost use Rattle.gix_spec.specs.Context.{context_of, call_of};
 ghost use Rattle.gix_spec.specs.Found.{piece_of, attempt_found, slice_of};
 ghost use Rattle.gix_spec.specs.Trees.{repeat, closing_calls, without_parent_calls};
+ghost use Rattle.gix_spec.specs.Trees.{reflog_calls, sibling_calls, date_calls};
 ghost use Rattle.gix_spec.specs.Performs.{Performs, Asks, Demanded};
 
 use super::Error;
 use super::context::{Anchor, Context};
-use super::delegate::{Delegate, PeelTo, Traversal};
+use super::delegate::{Delegate, PeelTo, ReflogLookup, SiblingBranch, Traversal};
 use super::fault::Fault;
 use super::part::{Attempt, Piece};
 use crate::spec::Kind;
+use gix_base::date::Time;
 use gix_base::error::Exn;
 
 /// A fault of the text itself.
@@ -110,6 +112,81 @@ fn call_prefix<'a, D: Delegate>(
     })
 }
 
+/// A regex, as it is written and as it is looked for.
+pub(crate) fn call_find<'a, D: Delegate>(
+    wanted: &[u8],
+    raw: &'a [u8],
+    negated: bool,
+    context: &Context<'a>,
+    delegate: &mut D,
+) -> Result<(), Error<'a>>
+    ensures { Performs D.step (regex wanted.now raw.now negated ∷ [])
+        delegate.old (context_of context.entry.now)
+        delegate.new (context_of context.entry.now) result }
+{
+    demanded(
+        delegate.find(wanted, negated),
+        Fault::FindRefused,
+        Some(raw),
+    )
+}
+
+// An entry or a date in the reflog, which no accepted prefix has.
+fn call_reflog<'a, D: Delegate>(
+    query: ReflogLookup,
+    own: &'a [u8],
+    inner: &'a [u8],
+    own_prefix: bool,
+    delegate: &mut D,
+) -> Result<(), Error<'a>>
+    ensures { Asks D.step (reflog_calls query own.now inner.now own_prefix)
+        delegate.old delegate.new result }
+{
+    if own_prefix {
+        return Err(fault(Fault::ReflogWithoutName, Some(own)));
+    }
+    demanded(delegate.reflog(query), Fault::AtRefused, Some(inner))
+}
+
+// A branch that belongs to another, which no accepted prefix has.
+fn call_sibling<'a, D: Delegate>(
+    branch: SiblingBranch,
+    own: &'a [u8],
+    inner: &'a [u8],
+    own_prefix: bool,
+    delegate: &mut D,
+) -> Result<(), Error<'a>>
+    ensures { Asks D.step (sibling_calls branch own.now inner.now own_prefix)
+        delegate.old delegate.new result }
+{
+    if own_prefix {
+        return Err(fault(Fault::SiblingWithoutName, Some(own)));
+    }
+    let answer = delegate.sibling_branch(branch);
+    demanded(answer, Fault::AtRefused, Some(inner))
+}
+
+/// A date in the reflog, if the text in braces is one.
+pub(crate) fn call_date<'a, D: Delegate>(
+    time: Option<Time>,
+    own: &'a [u8],
+    inner: &'a [u8],
+    own_prefix: bool,
+    delegate: &mut D,
+) -> Result<(), Error<'a>>
+    ensures { Asks D.step (date_calls time own.now inner.now own_prefix)
+        delegate.old delegate.new result }
+{
+    if own_prefix {
+        return Err(fault(Fault::ReflogWithoutName, Some(own)));
+    }
+    let Some(time) = time else {
+        return Err(fault(Fault::Date, Some(inner)));
+    };
+    let answer = delegate.reflog(ReflogLookup::Date(time));
+    demanded(answer, Fault::AtRefused, Some(inner))
+}
+
 // A range mark, behind which the second revision begins.
 fn call_range<'a, D: Delegate>(
     kind: Kind,
@@ -201,13 +278,7 @@ pub(crate) fn perform<'a, D: Delegate>(
             wanted,
             raw,
             negated,
-        } => {
-            demanded(
-                delegate.find(wanted, negated),
-                Fault::FindRefused,
-                Some(raw),
-            )
-        }
+        } => { call_find(wanted, raw, negated, context, delegate) }
         Piece::Index { path, stage } => {
             let answer = delegate.index_lookup(path, stage);
             demanded(answer, Fault::IndexRefused(stage), Some(path))
@@ -223,6 +294,16 @@ pub(crate) fn perform<'a, D: Delegate>(
             whole,
             attempt: Some(attempt),
         } => { call_prefix(text, whole, attempt, context, delegate) }
+        Piece::Branch { number, inner } => {
+            let answer = delegate.nth_checked_out_branch(number);
+            demanded(answer, Fault::AtRefused, Some(inner))
+        }
+        Piece::Reflog { query, own, inner } => {
+            call_reflog(query, own, inner, context.own_prefix, delegate)
+        }
+        Piece::Sibling { branch, own, inner } => {
+            call_sibling(branch, own, inner, context.own_prefix, delegate)
+        }
         Piece::Step { step, after } => {
             demanded(
                 delegate.traverse(step),

@@ -65,8 +65,6 @@ pub enum Fault {
     UnknownTarget,
     /// What `^-` repeats was refused.
     RepeatRefused,
-    /// The text is of a form that is not read yet.
-    NotYet,
 }
 
 impl Fault {
@@ -102,7 +100,6 @@ impl Fault {
             Fault::PeelRefused => 25,
             Fault::UnknownTarget => 26,
             Fault::RepeatRefused => 27,
-            Fault::NotYet => 28,
         }
     }
 }
@@ -156,7 +153,6 @@ impl fmt::Display for Fault {
             Fault::PeelRefused => f.write_str("the delegate could not peel the object"),
             Fault::UnknownTarget => f.write_str("cannot peel to unknown target"),
             Fault::RepeatRefused => f.write_str("the delegate refused the repeated anchor"),
-            Fault::NotYet => f.write_str("not read yet"),
         }
     }
 }

@@ -14,13 +14,14 @@ ghost use Rattle.gix_spec.specs.Reading.{end_at, second_side, range_at, ranged};
 ghost use Rattle.gix_spec.specs.Reading.{sides_at, exclude_mark, excluded_at, pieces_of};
 
 use super::Error;
+use super::at_part::{at_part, without_name};
 use super::calls::{fault, perform};
 use super::colon_form::colon_form;
 use super::context::Context;
 use super::cut::cut;
 use super::delegate::Delegate;
 use super::fault::Fault;
-use super::name::{at_part, named, without_name};
+use super::name::named;
 use super::part::{Behind, Found, Part, Piece, Way};
 use super::step::next_step;
 use crate::spec::Kind;
@@ -28,7 +29,7 @@ use gix_base::date::Time;
 use std::alloc::Allocator;
 
 /// Makes the calls of what was found at the front of a text.
-fn read<'a, D: Delegate>(
+pub(crate) fn read<'a, D: Delegate>(
     found: Found<'a>,
     context: &mut Context<'a>,
     delegate: &mut D,
@@ -51,7 +52,8 @@ fn read<'a, D: Delegate>(
 
 /// Reads the name of a revision, and an `@` behind it.
 #[tactic(auto, unfolding(crate::specs::Names::anchor_at))]
-fn anchor<'a, D: Delegate>(
+fn anchor<'a, A: Allocator, D: Delegate>(
+    alloc: A,
     text: &'a [u8],
     context: &mut Context<'a>,
     delegate: &mut D,
@@ -61,14 +63,15 @@ fn anchor<'a, D: Delegate>(
 {
     let len = cut(text);
     if len == 0 {
-        return read(without_name(text), context, delegate);
+        return without_name(alloc, text, context, delegate);
     }
     let name = read(named(text, len), context, delegate)?;
-    read(at_part(name.rest), context, delegate)
+    at_part(alloc, &text[..len], name.rest, context, delegate)
 }
 
 /// Reads steps until none follows, or a closer ends them.
-fn navigate<'a, D: Delegate>(
+fn navigate<'a, A: Allocator + Copy, D: Delegate>(
+    alloc: A,
     text: &'a [u8],
     context: &mut Context<'a>,
     delegate: &mut D,
@@ -78,7 +81,7 @@ fn navigate<'a, D: Delegate>(
 {
     let mut rest = text;
     'steps: loop {
-        let step = read(next_step(rest), context, delegate)?;
+        let step = next_step(alloc, rest, context, delegate)?;
         if step.rest.len() >= rest.len() {
             return Ok(step);
         }
@@ -90,7 +93,8 @@ fn navigate<'a, D: Delegate>(
 }
 
 /// Reads a name and its steps.
-fn named_revision<'a, D: Delegate>(
+fn named_revision<'a, A: Allocator + Copy, D: Delegate>(
+    alloc: A,
     text: &'a [u8],
     context: &mut Context<'a>,
     delegate: &mut D,
@@ -98,16 +102,17 @@ fn named_revision<'a, D: Delegate>(
     ensures { Reads D.step (named_revision text.now)
         delegate.old (context_of context.old) delegate.new (context_of context.new) result }
 {
-    let name = anchor(text, context, delegate)?;
+    let name = anchor(alloc, text, context, delegate)?;
     match name.way {
-        Way::Onward => navigate(name.rest, context, delegate),
+        Way::Onward => navigate(alloc, name.rest, context, delegate),
         Way::Closed => Ok(name),
     }
 }
 
 /// Reads a revision.
 #[tactic(auto, unfolding(crate::specs::Reading::revision_at))]
-fn revision<'a, D: Delegate>(
+fn revision<'a, A: Allocator + Copy, D: Delegate>(
+    alloc: A,
     text: &'a [u8],
     context: &mut Context<'a>,
     delegate: &mut D,
@@ -118,7 +123,7 @@ fn revision<'a, D: Delegate>(
     match text {
         [b':', after @ ..] => read(colon_form(after, text), context, delegate),
         [b'~', ..] => read(Part::refusal(Fault::TildeFirst, None), context, delegate),
-        _ => named_revision(text, context, delegate),
+        _ => named_revision(alloc, text, context, delegate),
     }
 }
 
@@ -169,7 +174,8 @@ fn end<'a, D: Delegate>(
 
 /// Reads what stands after a range mark.
 #[tactic(auto, unfolding(crate::specs::Reading::second_side), using(crate::proofs::Runs::performs_then, crate::proofs::Runs::performs_stop))]
-fn second<'a, D: Delegate>(
+fn second<'a, A: Allocator + Copy, D: Delegate>(
+    alloc: A,
     text: &'a [u8],
     context: &mut Context<'a>,
     delegate: &mut D,
@@ -177,7 +183,7 @@ fn second<'a, D: Delegate>(
     ensures { Performs D.step (second_side text.now)
         delegate.old (context_of context.old) delegate.new (context_of context.new) result }
 {
-    let side = revision(text, context, delegate)?;
+    let side = revision(alloc, text, context, delegate)?;
     imply_head(text, side.rest, context, delegate)?;
     end(side.rest, context, delegate)
 }
@@ -193,7 +199,8 @@ struct First<'a> {
 
 /// Reads a range from its mark on.
 #[tactic(auto, using(crate::proofs::Runs::performs_fault, crate::proofs::Runs::performs_then, crate::proofs::Runs::performs_stop))]
-fn range_side<'a, D: Delegate>(
+fn range_side<'a, A: Allocator + Copy, D: Delegate>(
+    alloc: A,
     first: First<'a>,
     kind: Kind,
     after: &'a [u8],
@@ -210,11 +217,12 @@ fn range_side<'a, D: Delegate>(
     }
     imply_head(first.text, first.rest, context, delegate)?;
     perform(Piece::Range(kind), context, delegate)?;
-    second(after, context, delegate)
+    second(alloc, after, context, delegate)
 }
 
 /// Reads what stands behind the first side.
-fn after_side<'a, D: Delegate>(
+fn after_side<'a, A: Allocator + Copy, D: Delegate>(
+    alloc: A,
     first: First<'a>,
     context: &mut Context<'a>,
     delegate: &mut D,
@@ -225,14 +233,15 @@ fn after_side<'a, D: Delegate>(
         delegate.old (context_of context.old) delegate.new (context_of context.new) result }
 {
     match mark(first.rest) {
-        Some((kind, after)) => range_side(first, kind, after, context, delegate),
+        Some((kind, after)) => range_side(alloc, first, kind, after, context, delegate),
         None => end(first.rest, context, delegate),
     }
 }
 
 /// Reads one side, or two.
 #[tactic(auto, unfolding(crate::specs::Reading::sides_at), using(crate::proofs::Runs::performs_then, crate::proofs::Runs::performs_stop))]
-fn sides<'a, D: Delegate>(
+fn sides<'a, A: Allocator + Copy, D: Delegate>(
+    alloc: A,
     excluded: bool,
     text: &'a [u8],
     context: &mut Context<'a>,
@@ -241,14 +250,14 @@ fn sides<'a, D: Delegate>(
     ensures { Performs D.step (sides_at excluded text.now)
         delegate.old (context_of context.old) delegate.new (context_of context.new) result }
 {
-    let side = revision(text, context, delegate)?;
+    let side = revision(alloc, text, context, delegate)?;
     let first = First {
         excluded,
         text,
         rest: side.rest,
     };
     match side.way {
-        Way::Onward => after_side(first, context, delegate),
+        Way::Onward => after_side(alloc, first, context, delegate),
         Way::Closed if side.rest.is_empty() => Ok(()),
         Way::Closed => Err(fault(Fault::Unconsumed, Some(side.rest))),
     }
@@ -281,7 +290,8 @@ fn exclude<'a, D: Delegate>(
 
 /// Reads a text.
 #[tactic(auto, unfolding(crate::specs::Reading::pieces_of), using(crate::proofs::Runs::performs_then, crate::proofs::Runs::performs_stop))]
-fn whole<'a, D: Delegate>(
+fn whole<'a, A: Allocator + Copy, D: Delegate>(
+    alloc: A,
     text: &'a [u8],
     context: &mut Context<'a>,
     delegate: &mut D,
@@ -291,7 +301,7 @@ fn whole<'a, D: Delegate>(
 {
     let (excluded, sides_text) = strip_exclude(text);
     exclude(excluded, context, delegate)?;
-    sides(excluded, sides_text, context, delegate)
+    sides(alloc, excluded, sides_text, context, delegate)
 }
 
 /// Reads the revision text `input` and tells `delegate` what it says, in calls from the front of the
@@ -300,10 +310,8 @@ fn whole<'a, D: Delegate>(
 /// `Ok` where the text is read to its end and the delegate accepted each call that has to be.
 /// `Error::Refused` names the fault, the part of `input` that is at fault, and the delegate's
 /// refusals that led to it. `Error::OutOfMemory` where the delegate answered so; it is not called
-/// again. The parse takes no memory itself. `now` is the moment that dates are read at.
-///
-/// A brace behind an `@` or a `^` is not read yet: it is refused with `Fault::NotYet` and the text
-/// from that brace on, after the calls that stand before it.
+/// again. The parse takes memory itself only where a backslash is taken out of a text in braces, and
+/// wants some only there. `now` is the moment that dates are read at.
 #[tactic(auto, using(crate::proofs::Runs::runs_whole))]
 pub fn parse<'a, A: Allocator + Copy, D: Delegate>(
     alloc: A,
@@ -317,5 +325,5 @@ pub fn parse<'a, A: Allocator + Copy, D: Delegate>(
         → IsErrOf result Error.OutOfMemory
         → IsRun D.step delegate.old (meaning_of input.now now) delegate.new without_memory }
 {
-    whole(input, &mut Context::new(now), delegate)
+    whole(alloc, input, &mut Context::new(now), delegate)
 }

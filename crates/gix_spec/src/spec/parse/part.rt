@@ -4,7 +4,7 @@ ghost use Rattle.std.specs.Prelude.{◌≡◌};
 ghost use Rattle.gix_spec.specs.Part.{nothing, piece, closing, refusal};
 ghost use Rattle.gix_spec.specs.Found.{piece_of, part_of, slice_of};
 
-use super::delegate::{PeelTo, PrefixHint, Traversal};
+use super::delegate::{PeelTo, PrefixHint, ReflogLookup, SiblingBranch, Traversal};
 use super::fault::Fault;
 use crate::spec::Kind;
 use gix_base::hash::Prefix;
@@ -25,9 +25,12 @@ pub(crate) struct Attempt<'a> {
     pub(crate) hint: Option<PrefixHint<'a>>,
 }
 
-/// A piece of a text, with the parts of the text that its calls and their faults name: `after` is
-/// what follows the mark of a step, `rest` what follows the piece, `whole` the text from the start
-/// of its revision on.
+/// A piece of a text, with the parts of the text that its calls and their faults name: `inner` is
+/// what is written between braces, `own` the name of the revision, `after` what follows the mark of
+/// a step, `rest` what follows the piece, `whole` the text from the start of its revision on.
+///
+/// A regex and a date in braces are not among these: what they call for, where an escape is taken
+/// out, is no part of the text.
 #[derive(Clone, Copy, Debug)]
 pub(crate) enum Piece<'a> {
     /// `^` in front of the whole text.
@@ -51,12 +54,29 @@ pub(crate) enum Piece<'a> {
         whole: &'a [u8],
         attempt: Option<Attempt<'a>>,
     },
+    /// `@{-n}`.
+    Branch {
+        number: usize,
+        inner: &'a [u8],
+    },
+    /// `@{n}`.
+    Reflog {
+        query: ReflogLookup,
+        own: &'a [u8],
+        inner: &'a [u8],
+    },
+    /// `@{upstream}`, `@{push}`.
+    Sibling {
+        branch: SiblingBranch,
+        own: &'a [u8],
+        inner: &'a [u8],
+    },
     /// `~n`, `^n`.
     Step {
         step: Traversal,
         after: &'a [u8],
     },
-    /// `^0`.
+    /// `^0`, `^{tree}`, `^{}` and the like.
     Peel {
         target: PeelTo<'a>,
         after: &'a [u8],

@@ -1,9 +1,11 @@
 //! The steps behind a name.
 
-ghost use Rattle.std.specs.Prelude.{◌≡◌, ◌≤◌, length, drop};
+ghost use Rattle.std.specs.Prelude.{◌≡◌, ◌≤◌, length, false};
 ghost use Rattle.std.specs.Char.{is_ascii_digit};
 ghost use Rattle.std.specs.List.{prefix_len};
-ghost use Rattle.gix_spec.specs.Marks.{run_of};
+ghost use Rattle.gix_spec.specs.Context.{context_of};
+ghost use Rattle.gix_spec.specs.Marks.{brace, starts_with};
+ghost use Rattle.gix_spec.specs.Performs.{Reads};
 ghost use Rattle.gix_spec.specs.Steps.{ancestor_at, parent_by, without_by, without_at, run_at};
 ghost use Rattle.gix_spec.specs.Steps.{is_digit_or_minus, marked_parent, parent_at, step_at};
 ghost use Rattle.gix_spec.specs.Number.{number_of};
@@ -11,12 +13,17 @@ ghost use Rattle.gix_spec.specs.Found.{part_of};
 ghost use Rattle.gix_spec.specs.Part.{piece, closing};
 ghost use Rattle.gix_spec.specs.Pieces;
 
-use super::delegate::{PeelTo, Traversal};
+use super::Error;
+use super::context::Context;
+use super::delegate::{Delegate, PeelTo, Traversal};
 use super::fault::Fault;
+use super::function::read;
 use super::number::number;
-use super::part::{Found, Part, Piece};
+use super::part::{Behind, Found, Part, Piece};
+use super::target::target;
 use crate::spec::Kind;
 use gix_base::object;
+use std::alloc::Allocator;
 
 // In what follows, `after` is the text behind a `~` or a `^`, and `run` the digits (and minus
 // signs) at its front.
@@ -130,15 +137,15 @@ fn closer(kind: Kind, rest: &[u8]) -> Found<'_>
     Part::closing(Piece::Closer { kind, rest }, rest)
 }
 
-// What stands behind a `^`.
+// What stands behind a `^`, where no brace does.
 #[tactic(auto, unfolding(crate::specs::Steps::parent_at))]
 fn behind_caret(after: &[u8]) -> Found<'_>
+    requires { starts_with brace after.now ≡ false }
     ensures { part_of result ≡ parent_at after.now }
 {
     match after {
         [] => step(Traversal::NthParent(1), after, after),
         [b'+', ..] => Part::refusal(Fault::Sign, Some(after)),
-        [b'{', ..] => Part::refusal(Fault::NotYet, Some(after)),
         [b'!', rest @ ..] => closer(Kind::ExcludeReachableFromParents, rest),
         [b'@', rest @ ..] => closer(Kind::IncludeReachableFromParents, rest),
         _ => {
@@ -148,15 +155,38 @@ fn behind_caret(after: &[u8]) -> Found<'_>
     }
 }
 
-/// The step at the front of a text, if one stands there.
+// What stands behind a `^`.
+#[tactic(auto, unfolding(crate::specs::Steps::parent_at))]
+fn parent_step<'a, A: Allocator, D: Delegate>(
+    alloc: A,
+    after: &'a [u8],
+    context: &mut Context<'a>,
+    delegate: &mut D,
+) -> Result<Behind<'a>, Error<'a>>
+    ensures { Reads D.step (parent_at after.now)
+        delegate.old (context_of context.old) delegate.new (context_of context.new) result }
+{
+    match after {
+        [b'{', ..] => target(alloc, after, context, delegate),
+        _ => read(behind_caret(after), context, delegate),
+    }
+}
+
+/// Reads the step at the front of a text, if one stands there.
 #[tactic(auto, unfolding(crate::specs::Steps::step_at))]
-pub(crate) fn next_step(text: &[u8]) -> Found<'_>
-    ensures { part_of result ≡ step_at text.now }
+pub(crate) fn next_step<'a, A: Allocator, D: Delegate>(
+    alloc: A,
+    text: &'a [u8],
+    context: &mut Context<'a>,
+    delegate: &mut D,
+) -> Result<Behind<'a>, Error<'a>>
+    ensures { Reads D.step (step_at text.now)
+        delegate.old (context_of context.old) delegate.new (context_of context.new) result }
 {
     match text {
-        [b'~', after @ ..] => ancestor(after),
-        [b'^', after @ ..] => behind_caret(after),
-        [b':', path @ ..] => Part::piece(Piece::Path(path), b""),
-        _ => Part::nothing(text),
+        [b'~', after @ ..] => read(ancestor(after), context, delegate),
+        [b'^', after @ ..] => parent_step(alloc, after, context, delegate),
+        [b':', path @ ..] => read(Part::piece(Piece::Path(path), b""), context, delegate),
+        _ => read(Part::nothing(text), context, delegate),
     }
 }

@@ -5,11 +5,12 @@ use Rattle.gix_spec.proofs.spec.parse.calls.perform.Goals as goal
 pub returns-in-Exclude : goal.returns-in-Exclude
 returns-in-Exclude g c = rw c.in-Exclude.is (performs_demand g.D.Listener.step (λ more. refl) c.kind.ensures c.demanded.ensures)
 
-pub returns-in-Regex : goal.returns-in-Regex
-returns-in-Regex g c = rw c.in-Regex.is (performs_demand g.D.Listener.step (λ more. refl) c.find.ensures c.demanded-in-Regex.ensures)
-
 pub returns-in-Index : goal.returns-in-Index
 returns-in-Index g c = rw c.in-Index.is (performs_demand g.D.Listener.step (λ more. refl) c.index_lookup-answer.ensures c.demanded-in-Index.ensures)
+
+pub returns-in-Branch : goal.returns-in-Branch
+returns-in-Branch g c =
+    rw c.in-Branch.is (performs_demand g.D.Listener.step (λ more. refl) c.nth_checked_out_branch-answer.ensures c.demanded-in-Branch.ensures)
 
 pub returns-in-Step : goal.returns-in-Step
 returns-in-Step g c = rw c.in-Step.is (performs_demand g.D.Listener.step (λ more. refl) c.traverse.ensures c.demanded-in-Step.ensures)

@@ -1,0 +1,82 @@
+-- What was found in braces, and the part that it is.
+use Rattle.std.proofs.Common.{◌≡◌, ℕ, ◌+◌, ◌-◌, List, Bool, true, false, Option, Some, None, Result, Ok, Err, refl, sym, ◌∙◌, ap, subst, arith, length, take, drop, length-drop, IsErrAnd}
+use Rattle.std.proofs.lemmas.List.{length-take-le}
+use Rattle.std.specs.Borrow.{Bor}
+use Rattle.std.specs.declared.borrow.CowSlice.{CowSlice}
+use Rattle.gix_spec.specs.declared.spec.parse.Error.{Error}
+use Rattle.gix_spec.specs.declared.spec.parse.Error.TheVariants.{OutOfMemory, Refused}
+use Rattle.gix_spec.specs.declared.spec.parse.part.Behind.{Behind}
+use Rattle.gix_spec.specs.declared.spec.parse.braces.Braced.{Braced as FoundBraced}
+use Rattle.gix_spec.specs.Call.{Call}
+use Rattle.gix_spec.specs.Answer.{Answer}
+use Rattle.gix_spec.specs.Context.{Context}
+use Rattle.gix_spec.specs.Marks.{brace, starts_with}
+use Rattle.gix_spec.specs.Part.{Part}
+use Rattle.gix_spec.specs.Performs.{Reads}
+use Rattle.gix_spec.specs.Braces.{Braced, braced_at, braced_by, behind_escapes, in_braces, close_of}
+use Rattle.gix_spec.specs.Parens.{IsPair, ParensGives}
+use Rattle.gix_spec.specs.Opens.{braced_of, NotOpened, Opens}
+use Rattle.gix_spec.proofs.Runs.{performs_room, performs_short, performs_fault}
+use Rattle.gix_spec.proofs.Pairs.{pair_of, no_pair}
+
+-- a pair that was not opened
+not_given : (A : Type 0) (text : List ℕ) (pair : Option Braced) (e : Error) → braced_at text ≡ pair → starts_with brace text ≡ true → NotOpened pair text e → ParensGives {A = A} text (Err e)
+not_given A text None OutOfMemory same h k = absurd k
+not_given A text (Some x) OutOfMemory same h k =
+    let pair = pair_of text x same in (h, pair.0, subst (λ y. y.escapes ≡ true) (sym pair.1) k)
+not_given A text pair (Refused f i a b) same h k = (h, no_pair text (same ∙ k.0), k.1, k.2, k.3, k.4)
+
+pub parens_err : {A : Type 0} (text : List ℕ) (e : Error) (out : Result (Option (CowSlice ℕ A × Bor (List ℕ) × ℕ)) Error) → starts_with brace text ≡ true → NotOpened (braced_at text) text e → IsErrAnd out (λ y. y ≡ e) → ParensGives text out
+parens_err {A} text e (Ok x) h k q = absurd q
+parens_err {A} text e (Err y) h k q = rw q (not_given A text (braced_at text) e refl h k)
+
+-- one that was
+pub parens_ok : {A : Type 0} (text : List ℕ) (x : FoundBraced A) → starts_with brace text ≡ true → Opens text (Ok x) → IsPair text (x.meant, x.rest, length x.raw.now + 2)
+parens_ok text x h k =
+    let pair = pair_of text (braced_of x) k.0 in
+    let n : ℕ = close_of text in
+    let raw : take (n - 1) (drop 1 text) ≡ x.raw.now = ap (λ y. y.raw) pair.1 in
+    let long : length (take (n - 1) (drop 1 text)) ≡ n - 1 = length-take-le (n - 1) (drop 1 text) (omega (arith, pair.0, k.1, length-drop 1 text)) in
+    let consumed : length x.raw.now + 2 ≡ n + 1 = omega (arith, ap length raw, long, k.1) in
+    let shift : n + 1 - 2 ≡ n - 1 = omega arith in
+    record {
+      begins = h;
+      closes = consumed;
+      within = omega (arith, consumed, pair.0);
+      inner = sym (ap (λ y. y.meant) pair.1) ∙ rw (consumed, shift) refl;
+      rest = sym (ap (λ y. y.rest) pair.1) ∙ rw consumed refl;
+      borrowed = λ plain. k.2 (sym (ap (λ y. y.escapes) pair.1) ∙ rw consumed at plain);
+    }
+
+module _ {S : Type 0} (by : S → Call → Answer → S → Type 0) where
+  -- what is read behind braces, where escapes were taken out of them and where none were
+  room_reads : (escapes : Bool) (p : Part) {m n : Context} {s u : S} {out : Result Behind Error} → Reads by p s m u n out → Reads by (behind_escapes escapes p) s m u n out
+  room_reads true p h = record { calls = performs_room by h.calls; behind = h.behind }
+  room_reads false p h = h
+
+  read_by : (pair : Option Braced) (text : List ℕ) (reading : Braced → Part) (x : Braced) {m n : Context} {s u : S} {out : Result Behind Error} →
+      pair ≡ Some x → Reads by (reading x) s m u n out → Reads by (braced_by pair text reading) s m u n out
+  read_by pair text reading x e h = rw e (room_reads x.escapes (reading x) h)
+
+  pub braces_read : {A : Type 0} (text : List ℕ) (reading : Braced → Part) (x : FoundBraced A) {m n : Context} {s u : S} {out : Result Behind Error} →
+      Opens text (Ok x) → Reads by (reading (braced_of x)) s m u n out → Reads by (in_braces text reading) s m u n out
+  unfolding in_braces
+  braces_read text reading x e h = read_by (braced_at text) text reading (braced_of x) e.0 h
+
+  stop_room : (escapes : Bool) (p : Part) {m n : Context} {s : S} → escapes ≡ true → Reads by (behind_escapes escapes p) s m s n (Err OutOfMemory)
+  stop_room true p h = record { calls = performs_short by; behind = tt }
+  stop_room false p h = cc
+
+  stop_by : (pair : Option Braced) (text : List ℕ) (reading : Braced → Part) (e : Error) {m n : Context} {s : S} →
+      NotOpened pair text e → Reads by (braced_by pair text reading) s m s n (Err e)
+  stop_by None text reading OutOfMemory h = absurd h
+  stop_by (Some x) text reading OutOfMemory h = stop_room x.escapes (reading x) h
+  stop_by None text reading (Refused f i a b) h = rw (h.1, h.3, h.4) (record { calls = performs_fault by h.2; behind = tt })
+  stop_by (Some x) text reading (Refused f i a b) h = cc h.0
+
+  -- braces that were not opened end the run
+  pub braces_stop : (text : List ℕ) (reading : Braced → Part) (e : Error) (out : Result Behind Error) {m n : Context} {s : S} →
+      NotOpened (braced_at text) text e → IsErrAnd out (λ y. y ≡ e) → Reads by (in_braces text reading) s m s n out
+  unfolding in_braces
+  braces_stop text reading e (Ok x) h q = absurd q
+  braces_stop text reading e (Err y) h q = rw q (stop_by (braced_at text) text reading e h)

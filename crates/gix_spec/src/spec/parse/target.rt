@@ -1,0 +1,146 @@
+//! Braces behind a `^`.
+
+ghost use Rattle.std.specs.Prelude.{◌≡◌, true, drop, option_map};
+ghost use Rattle.gix_spec.specs.Call.{target_of};
+ghost use Rattle.gix_spec.specs.Context.{context_of};
+ghost use Rattle.gix_spec.specs.Found.{part_of};
+ghost use Rattle.gix_spec.specs.Marks.{brace, starts_with};
+ghost use Rattle.gix_spec.specs.Opens.{braced_of};
+ghost use Rattle.gix_spec.specs.Performs.{Reads};
+ghost use Rattle.gix_spec.specs.Targets.{target_named, banged_mark, regex_mark, marked_regex};
+ghost use Rattle.gix_spec.specs.Targets.{peeled_to, inside_target, target_braces};
+
+use super::Error;
+use super::braces::{Braced, opened};
+use super::calls::call_find;
+use super::context::Context;
+use super::delegate::{Delegate, PeelTo};
+use super::fault::Fault;
+use super::function::read;
+use super::part::{Behind, Found, Part, Piece, Way};
+use gix_base::object::Kind;
+use std::alloc::Allocator;
+
+// What an object is peeled to by a word, or by none.
+#[tactic(auto, unfolding(crate::specs::Targets::target_named))]
+fn named(word: &[u8]) -> Option<PeelTo<'static>>
+    ensures { option_map target_of result ≡ target_named word.now }
+{
+    if word == b"commit".as_slice() {
+        return Some(PeelTo::ObjectKind(Kind::Commit));
+    }
+    if word == b"tree".as_slice() {
+        return Some(PeelTo::ObjectKind(Kind::Tree));
+    }
+    if word == b"blob".as_slice() {
+        return Some(PeelTo::ObjectKind(Kind::Blob));
+    }
+    if word == b"tag".as_slice() {
+        return Some(PeelTo::ObjectKind(Kind::Tag));
+    }
+    if word == b"object".as_slice() {
+        return Some(PeelTo::ValidObject);
+    }
+    if word.is_empty() {
+        return Some(PeelTo::RecursiveTagObject);
+    }
+    None
+}
+
+// The mark that a `!` in front of a regex begins: how many bytes it takes, and whether it negates.
+fn banged(after: &[u8]) -> Option<(usize, bool)>
+    ensures { result ≡ banged_mark after.now }
+{
+    match after {
+        [b'-', ..] => Some((2, true)),
+        [b'!', ..] => Some((1, false)),
+        _ => None,
+    }
+}
+
+#[tactic(auto, unfolding(crate::specs::Targets::regex_mark))]
+fn mark(text: &[u8]) -> Option<(usize, bool)>
+    ensures { result ≡ regex_mark text.now }
+{
+    match text {
+        [b'!', after @ ..] => banged(after),
+        _ => Some((0, false)),
+    }
+}
+
+fn behind(text: &[u8], len: usize) -> &[u8]
+    ensures { result.now ≡ drop len text.now }
+{
+    &text[len.min(text.len())..]
+}
+
+// A regex behind its slash, as it is written and as it is meant.
+fn regex<'a, D: Delegate>(
+    raw: &'a [u8],
+    meant: &[u8],
+    rest: &'a [u8],
+    context: &mut Context<'a>,
+    delegate: &mut D,
+) -> Result<Behind<'a>, Error<'a>>
+    ensures { Reads D.step (marked_regex raw.now meant.now rest.now (regex_mark meant.now))
+        delegate.old (context_of context.old) delegate.new (context_of context.new) result }
+{
+    let Some((len, negated)) = mark(meant) else {
+        let fault = Part::refusal(Fault::RegexPrefix, Some(raw));
+        return read(fault, context, delegate);
+    };
+    let wanted = behind(meant, len);
+    call_find(wanted, behind(raw, len), negated, context, delegate)?;
+    Ok(Behind {
+        rest,
+        way: Way::Onward,
+    })
+}
+
+// What is peeled to.
+fn peeled<'a, A: Allocator>(
+    target: Option<PeelTo<'a>>,
+    braces: &Braced<'a, A>,
+    after: &'a [u8],
+) -> Found<'a>
+    ensures { part_of result
+        ≡ peeled_to (option_map target_of target.entry) (braced_of braces.now) after.now }
+{
+    match target {
+        Some(target) => Part::piece(Piece::Peel { target, after }, braces.rest),
+        None => Part::refusal(Fault::UnknownTarget, Some(braces.raw)),
+    }
+}
+
+// What the braces behind a `^` hold, where `after` begins with them.
+fn inside<'a, A: Allocator, D: Delegate>(
+    braces: &Braced<'a, A>,
+    after: &'a [u8],
+    context: &mut Context<'a>,
+    delegate: &mut D,
+) -> Result<Behind<'a>, Error<'a>>
+    ensures { Reads D.step
+        (inside_target (braced_of braces.now).meant (braced_of braces.now) after.now)
+        delegate.old (context_of context.old) delegate.new (context_of context.new) result }
+{
+    let meant = braces.meant.as_ref();
+    if let [b'/', more @ ..] = meant {
+        return regex(behind(braces.raw, 1), more, braces.rest, context, delegate);
+    }
+    read(peeled(named(meant), braces, after), context, delegate)
+}
+
+/// Reads braces behind a `^`, from the opening one on.
+pub(crate) fn target<'a, A: Allocator, D: Delegate>(
+    alloc: A,
+    after: &'a [u8],
+    context: &mut Context<'a>,
+    delegate: &mut D,
+) -> Result<Behind<'a>, Error<'a>>
+    requires { starts_with brace after.now ≡ true }
+    ensures { Reads D.step (target_braces after.now)
+        delegate.old (context_of context.old) delegate.new (context_of context.new) result }
+{
+    let braces = opened(alloc, after)?;
+    inside(&braces, after, context, delegate)
+}
