@@ -124,18 +124,114 @@ description_by_git() {
     fi
 }
 
-# Compares the `describe` lines of all commits with `git describe --tags --long`.
-compare_descriptions() {
+# Compares the `describe` lines of all commits with `git describe --tags --long`, by what a command leaves of each.
+compare_described() {
     local id
     for id in "${ids[@]}"; do description_by_git "$id" || return; done >"$room/wanted"
     {
         "$top/bin/from-git" --names .
         printf 'describe %s\n' "${ids[@]}"
     } | "$top/bin/revtool" >"$room/answered"
-    if ! cmp "$room/answered" "$room/wanted"; then
-        paste -d '|' "$room/answered" "$room/wanted" | awk -F '|' '$1 != $2 && differing++ < 5'
+    if ! cmp <("$@" <"$room/answered") <("$@" <"$room/wanted"); then
+        paste -d '|' <("$@" <"$room/answered") <("$@" <"$room/wanted") | awk -F '|' '$1 != $2 && differing++ < 5'
         return 1
     fi
     grep -q '^describe v' "$room/answered"
+}
+
+# Compares them by all that they say.
+compare_descriptions() {
+    compare_described cat || return
     echo "git agrees on the descriptions of ${#ids[@]} commits"
+}
+
+# Compares them by their depths and digits alone.
+compare_depths() {
+    compare_described sed -E 's/^describe v[0-9]+-/describe /' || return
+    echo "git agrees on the depths of ${#ids[@]} commits"
+}
+
+# The commits that git reads from a text, each behind a `^` where it is excluded. An annotated tag is its commit here.
+read_by_git() {
+    local found id
+    found=$(git rev-parse "$1" 2>/dev/null) || { echo refused && return; }
+    for id in $found; do
+        case $id in ^*) printf '^' ;; esac
+        git rev-parse "${id#^}^{commit}"
+    done | paste -s -d ' ' -
+}
+
+# Texts over revisions: each with steps, in ranges, excluded, with its parents and without them. A step that leads
+# nowhere is among them.
+texts_over() {
+    local revision step first=$1 last=${!#}
+    for revision in "$@"; do
+        for step in '' '~' '^' '~0' '^0' '~1' '~2' '^2' '^^' '~1^2' '^2~1' '~2^1~1' '~1000' '^9'; do
+            echo "$revision$step"
+        done
+        for step in '^@' '^!' '^-' '^-2' '^-9'; do echo "$revision$step"; done
+        echo "^$revision"
+        echo "..$revision"
+        echo "$revision..."
+        echo "$first..$revision"
+        echo "$revision...$last"
+        echo "$revision~1..$last^"
+        echo "^$revision~1"
+        echo "$revision~1^@"
+        echo "$revision^2^!"
+    done
+}
+
+# Compares `spec` lines with `git rev-parse`: what git reads from a text, and what it reads from the answer.
+compare_specs() {
+    local text answer
+    for text in "$@"; do read_by_git "$text"; done >"$room/wanted"
+    {
+        "$top/bin/from-git" --refs .
+        printf 'spec %s\n' "$@"
+    } | "$top/bin/revtool" >"$room/answered" || [ $? -eq 1 ]
+    while read -r _ answer; do
+        case $answer in
+            'refused P'*) echo refused ;;
+            *) read_by_git "$answer" ;;
+        esac
+    done <"$room/answered" >"$room/read"
+    if ! cmp "$room/read" "$room/wanted"; then
+        paste -d '|' <(printf '%s\n' "$@") "$room/answered" "$room/read" "$room/wanted" |
+            awk -F '|' '$3 != $4 && differing++ < 5'
+        return 1
+    fi
+    # Of both kinds there are some.
+    grep -q '^spec refused' "$room/answered" && grep -qv '^spec refused' "$room/answered"
+    echo "git agrees on $# texts over ${#ids[@]} commits"
+}
+
+# What git lists for a text, as bin/revtool says it, but for the number of a refusal.
+list_by_git() {
+    local found
+    if ! found=$(git rev-list "$1" -- 2>"$room/said"); then
+        echo "list refused"
+    elif [ -z "$found" ]; then
+        echo "list none"
+    else
+        echo "list $(LC_ALL=C sort <<<"$found" | paste -s -d ' ' -)"
+    fi
+}
+
+# Compares `list` lines with `git rev-list`.
+compare_lists() {
+    local text
+    for text in "$@"; do list_by_git "$text"; done >"$room/wanted"
+    {
+        "$top/bin/from-git" --refs .
+        printf 'list %s\n' "$@"
+    } | "$top/bin/revtool" >"$room/said_here" || [ $? -eq 1 ]
+    sed 's/^list refused .*/list refused/' "$room/said_here" >"$room/answered"
+    if ! cmp "$room/answered" "$room/wanted"; then
+        paste -d '|' <(printf '%s\n' "$@") "$room/answered" "$room/wanted" |
+            awk -F '|' '$2 != $3 && differing++ < 5'
+        return 1
+    fi
+    grep -q '^list none' "$room/answered" && grep -q '^list [0-9a-f]' "$room/answered"
+    echo "git agrees on $# lists over ${#ids[@]} commits"
 }

@@ -1,3 +1,4 @@
+pub mod Types
 pub use Rattle.gix_base.specs.Digits
 pub use Rattle.gix_base.specs.Hash
 pub use Rattle.gix_base.specs.HexError

@@ -21,6 +21,8 @@ mod ids;
 #[cfg(test)]
 mod lines;
 #[cfg(test)]
+mod listing;
+#[cfg(test)]
 mod lists;
 #[cfg(test)]
 mod merge_bases;
@@ -34,6 +36,8 @@ mod printed;
 mod questions;
 #[cfg(test)]
 mod queue;
+#[cfg(test)]
+mod resolving;
 #[cfg(test)]
 mod sets;
 #[cfg(test)]

@@ -31,6 +31,11 @@ name [1] v|describe [9]|describe [1]| => 1 describe refused D2|describe v|
 name [1] v|base [4] [5]|describe [2]|base [4] [5]| => 0 base [2] [3]|describe v-1-g2222222|base [2] [3]|
 parse [1]|parse ^..|parse [2]| => 1 parse prefix([1]); done|parse kind(ExcludeReachable); refused P3|\
 parse prefix([2]); done|
+ref [4] HEAD|spec HEAD^2|spec 5555|ref [9] a b|spec a b|base [4] [5]|spec @...5555| => 0 \
+spec [3]|spec [5]|spec [9]|base [2] [3]|spec [4]...[5]|
+spec HEAD|spec|spec | => 1 spec refused P12|spec refused P5|spec refused P5|
+ref [4] HEAD|ref [5] HEAD| => 2 line 7 is unreadable|
+ref [4] HEAD|ref [4] head|name [4] HEAD|spec HEAD^!| => 0 spec [4]^!|
 base [4] [5]|commit [9] x -| => 2 line 7 is unreadable|";
 
 /// The same, with nothing before the lines.
@@ -57,6 +62,10 @@ name|
 name [1]|
 name [1] |
 name [g] v|
+ref|
+ref [1]|
+ref [1] |
+ref [g] v|
 describe|
 describe [1] |
 describe [1] [2]|
@@ -275,20 +284,22 @@ fn nothing_is_written_after_a_write_that_failed(rt: HostRuntime) -> Result<(), F
 }
 
 const COMMANDS: &str =
-    "name [1] v|base [4] [5]|octopus [4] [5]|parse [1]..[2]|describe [2]|base [4]|parse|\
-    octopus [5] [4]|describe [2]|base [4] [5]|";
+    "name [1] v|ref [4] HEAD|base [4] [5]|octopus [4] [5]|parse [1]..[2]|describe [2]|base [4]|parse|\
+    octopus [5] [4]|describe [2]|base [4] [5]|spec HEAD~2|";
 
 const ANSWERS: &str =
     "base [2] [3]|octopus [2]|parse prefix([1]); kind(RangeBetween); prefix([2]); done|\
-    describe v-1-g2222222|base [4]|parse done|octopus [2]|describe v-1-g2222222|base [2] [3]|";
+    describe v-1-g2222222|base [4]|parse done|octopus [2]|describe v-1-g2222222|base [2] [3]|\
+    spec [1]|";
 
 /// Whether a line is this row, or says in its place that memory was wanting: after the word alone, or of a
 /// text after some of its calls.
 fn is_row_or_refusal(line: &[u8], row: &[u8]) -> bool {
-    let words: [(&[u8], &[u8]); 3] = [
+    let words: [(&[u8], &[u8]); 4] = [
         (b"base ", b"refused M2"),
         (b"octopus ", b"refused M2"),
         (b"describe ", b"refused D4"),
+        (b"spec ", b"refused P0"),
     ];
     for (word, refusal) in words {
         if row.starts_with(word) && line.strip_prefix(word) == Some(refusal) {

@@ -10,13 +10,19 @@ ghost use Rattle.revtool.specs.Numbers.{IsTime, IsNumber};
 use bstr::ByteSlice;
 use gix_revision::graph::InsertError;
 use gix_revision::hash::ObjectId;
-use std::alloc::{AllocFailed, Allocator};
+use std::alloc::{AllocError, AllocFailed, Allocator};
 
 /// Why a line was not read.
 #[derive(Clone, Copy, Debug, PartialEq, Eq)]
 pub(crate) enum LineFault {
     Unreadable,
     OutOfMemory,
+}
+
+impl From<AllocError> for LineFault {
+    fn from(_error: AllocError) -> LineFault {
+        LineFault::OutOfMemory
+    }
 }
 
 impl<T: Drop> From<AllocFailed<T>> for LineFault {

@@ -1,4 +1,4 @@
-//! What a line says: a commit of the source, a name, or a command.
+//! What a line says: a commit of the source, a name, a reference, or a command.
 
 use crate::fields::{Fields, LineFault, read_generation, read_time};
 use gix_revision::graph::SourceCommit;
@@ -12,6 +12,8 @@ pub(crate) enum Line<'t, A: Allocator> {
     Commit(ObjectId, SourceCommit<A>),
     /// The name of a commit.
     Name(ObjectId, &'t [u8]),
+    /// What a reference stands for.
+    Ref(ObjectId, &'t [u8]),
     /// What is to be answered.
     Command(Command<'t, A>),
 }
@@ -27,6 +29,10 @@ pub(crate) enum Command<'t, A: Allocator> {
     Describe(ObjectId),
     /// The calls that a revision text makes.
     Parse(&'t [u8]),
+    /// The spec that a revision text means.
+    Spec(&'t [u8]),
+    /// The commits that a revision text means.
+    List(&'t [u8]),
 }
 
 /// A commit, and zero or more others.
@@ -44,11 +50,20 @@ pub(crate) fn read_line<'t, A: Allocator + Copy>(
     let mut fields = Fields::of(line);
     match fields.take_field()? {
         b"commit" => read_commit(alloc, fields),
-        b"name" => read_name(fields),
+        b"name" => {
+            let (id, name) = read_name(fields)?;
+            Ok(Line::Name(id, name))
+        }
+        b"ref" => {
+            let (id, name) = read_name(fields)?;
+            Ok(Line::Ref(id, name))
+        }
         b"base" => Ok(Line::Command(Command::Base(read_heads(alloc, fields)?))),
         b"octopus" => Ok(Line::Command(Command::Octopus(read_heads(alloc, fields)?))),
         b"describe" => Ok(Line::Command(Command::Describe(read_only_id(fields)?))),
         b"parse" => Ok(Line::Command(Command::Parse(fields.rest().unwrap_or(&[])))),
+        b"spec" => Ok(Line::Command(Command::Spec(fields.rest().unwrap_or(&[])))),
+        b"list" => Ok(Line::Command(Command::List(fields.rest().unwrap_or(&[])))),
         _ => Err(LineFault::Unreadable),
     }
 }
@@ -73,11 +88,11 @@ fn read_commit<'t, A: Allocator>(
 }
 
 // `ID NAME`: the name is all bytes after the second space, and there is one.
-fn read_name<'t, A: Allocator>(mut fields: Fields<'t>) -> Result<Line<'t, A>, LineFault> {
+fn read_name<'t>(mut fields: Fields<'t>) -> Result<(ObjectId, &'t [u8]), LineFault> {
     let id = fields.take_id()?;
     match fields.rest() {
         None | Some([]) => Err(LineFault::Unreadable),
-        Some(name) => Ok(Line::Name(id, name)),
+        Some(name) => Ok((id, name)),
     }
 }
 

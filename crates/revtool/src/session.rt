@@ -1,14 +1,16 @@
-//! All lines of a text, read: the source that its commits make, their names, and the commands in
-//! order.
+//! All lines of a text, read: the source that its commits make, their names, the table of its
+//! references, and the commands in order.
 
 use crate::fields::LineFault;
 use crate::lines::{Command, Line, read_line};
 use crate::stop::Stop;
+use gix_resolve::Table;
 use gix_revision::describe::Options;
-use gix_revision::graph::MemorySource;
+use gix_revision::graph::{MemorySource, SourceCommit};
 use gix_revision::hash::ObjectId;
 use std::alloc::Allocator;
 use std::borrow::CowSlice;
+use std::collections::{BTreeMap, BTreeSet};
 
 /// What the lines of a text say together.
 #[derive(Drop)]
@@ -16,10 +18,13 @@ pub(crate) struct Session<'t, A: Allocator> {
     pub(crate) source: MemorySource<A>,
     /// What each `describe` line is answered by: all names of the text.
     pub(crate) options: Options<'t, A>,
+    /// What `spec` and `list` lines are answered by: all references of the text, and the ids of its commits.
+    pub(crate) table: Table<A>,
     pub(crate) commands: Vec<Command<'t, A>, A>,
 }
 
-/// Reads each line. The first that is unreadable, or repeats an id, is named by its number.
+/// Reads each line. The first that is unreadable, or repeats an id or a reference, is named by its
+/// number.
 pub(crate) fn read_lines<'t, A: Allocator + Copy>(
     alloc: A,
     text: &'t [u8],
@@ -27,6 +32,10 @@ pub(crate) fn read_lines<'t, A: Allocator + Copy>(
     let mut session = Session {
         source: MemorySource::new(alloc),
         options: Options::new(alloc),
+        table: Table {
+            names: BTreeMap::new(alloc),
+            ids: BTreeSet::new(alloc),
+        },
         commands: Vec::new(alloc),
     };
     let mut number: usize = 0;
@@ -44,17 +53,44 @@ pub(crate) fn read_lines<'t, A: Allocator + Copy>(
     Ok(session)
 }
 
-// One more line. A commit, or a name, whose id was there before is refused.
+// One more line. A commit, or a name, whose id was there before is refused, and so is a reference
+// that was there before.
 fn add_line<'t, A: Allocator + Copy>(
     alloc: A,
     line: &'t [u8],
     session: &mut Session<'t, A>,
 ) -> Result<(), LineFault> {
     match read_line(alloc, line)? {
-        Line::Commit(id, commit) => session.source.insert(id, commit)?,
+        Line::Commit(id, commit) => add_commit(id, commit, session)?,
         Line::Name(id, name) => add_name(id, name, &mut session.options)?,
+        Line::Ref(id, name) => add_ref(alloc, id, name, &mut session.table)?,
         Line::Command(command) => session.commands.push(command)?,
     }
+    Ok(())
+}
+
+// One more commit.
+fn add_commit<A: Allocator + Copy>(
+    id: ObjectId,
+    commit: SourceCommit<A>,
+    session: &mut Session<'_, A>,
+) -> Result<(), LineFault> {
+    session.source.insert(id, commit)?;
+    session.table.ids.insert(id)?;
+    Ok(())
+}
+
+// One more reference.
+fn add_ref<A: Allocator + Copy>(
+    alloc: A,
+    id: ObjectId,
+    name: &[u8],
+    table: &mut Table<A>,
+) -> Result<(), LineFault> {
+    if table.names.contains_key(name) {
+        return Err(LineFault::Unreadable);
+    }
+    table.names.insert(name.to_vec(alloc)?, id)?;
     Ok(())
 }
 

@@ -9,7 +9,7 @@ use gix_revision::merge_base::{self, Flags, merge_base, octopus};
 use std::alloc::Allocator;
 use std::io::{self, Write};
 
-/// The graph of the `base` and `octopus` lines.
+/// The graph of all lines but those of `describe`.
 pub(super) type BaseGraph<'s, A> = Graph<&'s MemorySource<A>, Commit<Flags, A>, A>;
 
 /// `base` and the ids in rising order, or `base none`.
@@ -59,8 +59,8 @@ fn print_bases<W: Write, A: Allocator>(
     Ok(Outcome::Answered)
 }
 
-// Each id after one space.
-fn print_ids<W: Write>(ids: &[ObjectId], output: &mut W) -> io::Result<()> {
+/// Each id after one space.
+pub(super) fn print_ids<W: Write>(ids: &[ObjectId], output: &mut W) -> io::Result<()> {
     for id in ids {
         write!(output, " {id}")?;
     }

@@ -1,33 +1,79 @@
 //! The answers to `describe` lines, on a graph of their own.
 
 use crate::answers::Outcome;
-use gix_revision::describe::{self, Options, describe};
+use gix_revision::describe::{self, Names, Options, describe};
 use gix_revision::error::Message;
 use gix_revision::graph::{Graph, MemorySource};
 use gix_revision::hash::ObjectId;
-use std::alloc::Allocator;
+use std::alloc::{AllocError, Allocator};
 use std::io::{self, Write};
-
-/// The graph of the `describe` lines.
-pub(super) type DescribeGraph<'s, A> = Graph<&'s MemorySource<A>, describe::Flags, A>;
+use std::mem;
 
 /// How many digits of an id are printed.
 const HEX_LEN: usize = 7;
 
+/// What `describe` lines are answered by: a graph of their own, and the names of the text.
+#[derive(Drop)]
+pub(super) struct Descriptions<'s, 't, A: Allocator> {
+    graph: Graph<&'s MemorySource<A>, describe::Flags, A>,
+    // The copied names that the last answer handed back; `None` before the first line and after a refusal.
+    names: Option<Names<'t, A>>,
+}
+
+impl<'s, 't, A: Allocator + Copy> Descriptions<'s, 't, A> {
+    /// An empty graph over a source. It takes no memory yet.
+    pub(super) fn new(alloc: A, source: &'s MemorySource<A>) -> Self {
+        Descriptions {
+            graph: Graph::new(alloc, source),
+            names: None,
+        }
+    }
+
+    // The options with a copy of their names, which is made where none was handed back. They ask for an answer
+    // without a name too, since each answer hands the names back.
+    fn take_options(&mut self, options: &Options<'t, A>) -> Result<Options<'t, A>, AllocError> {
+        let name_by_oid = match self.names.take() {
+            Some(names) => names,
+            None => options.name_by_oid.clone()?,
+        };
+        Ok(Options {
+            name_by_oid,
+            max_candidates: options.max_candidates,
+            fallback_to_oid: true,
+            first_parent: options.first_parent,
+        })
+    }
+
+    // The outcome without its names, which are kept for the next line.
+    fn describe(
+        &mut self,
+        alloc: A,
+        commit: &ObjectId,
+        options: &Options<'t, A>,
+    ) -> Result<Option<describe::Outcome<'t, A>>, Message> {
+        let options = self.take_options(options)?;
+        let Some(mut outcome) = describe(alloc, commit, &mut self.graph, options)? else {
+            return Ok(None);
+        };
+        let names = mem::replace(&mut outcome.name_by_oid, Names::new(alloc));
+        self.names = Some(names);
+        Ok(Some(outcome))
+    }
+}
+
 /// `describe` and the commit's name, depth and digits, or `describe none`.
-pub(super) fn answer_describe<W: Write, A: Allocator + Copy>(
+pub(super) fn answer_describe<'t, W: Write, A: Allocator + Copy>(
     alloc: A,
     commit: &ObjectId,
-    options: &Options<'_, A>,
-    graph: &mut DescribeGraph<'_, A>,
+    options: &Options<'t, A>,
+    descriptions: &mut Descriptions<'_, 't, A>,
     output: &mut W,
 ) -> io::Result<Outcome> {
-    let Ok(options) = options.clone() else {
-        return print_refusal(Message::OutOfMemory, output);
-    };
-    match describe(alloc, commit, graph, options) {
-        Ok(Some(outcome)) => writeln!(output, "describe {}", outcome.into_format(HEX_LEN))?,
-        Ok(None) => output.write_all(b"describe none\n")?,
+    match descriptions.describe(alloc, commit, options) {
+        Ok(Some(outcome)) if outcome.name.is_some() => {
+            writeln!(output, "describe {}", outcome.into_format(HEX_LEN))?;
+        }
+        Ok(_) => output.write_all(b"describe none\n")?,
         Err(message) => return print_refusal(message, output),
     }
     Ok(Outcome::Answered)

@@ -8,7 +8,7 @@ use std::alloc::{Allocator, Global};
 use std::io::{self, Write};
 
 /// When a text is read: at the epoch, in UTC.
-const NOW: Time = Time {
+pub(super) const NOW: Time = Time {
     seconds: 0,
     offset: 0,
 };
@@ -41,8 +41,8 @@ pub(super) fn answer_parse<W: Write, A: Allocator + Copy>(
     }
 }
 
-// The number of a refusal, 0 for want of memory.
-fn number_of(error: Error<'_>) -> u8 {
+/// The number of a refusal, 0 for want of memory.
+pub(super) fn number_of(error: Error<'_>) -> u8 {
     match error {
         Error::OutOfMemory => 0,
         Error::Refused { fault, .. } => fault.number(),

@@ -1,0 +1,13 @@
+pub mod Rounds
+pub mod Completed
+pub mod Answered
+pub mod TellsFaults
+pub mod LastCall
+pub mod Resolves
+pub mod OneOutcome
+pub mod ListWalks
+pub mod ListMarks
+pub mod ListAfter
+pub mod ListMerges
+pub mod ListMembers
+pub mod ListSorted

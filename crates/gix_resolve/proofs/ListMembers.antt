@@ -1,0 +1,102 @@
+-- The members of the sets that specs mean, as lists.
+use Rattle.std.proofs.Common.{◌≡◌, true, false, refl, sym, subst, ◌∙◌, List, [], ◌∷◌, ◌++◌, inl, inr, is_some, Option, Some, None, Result, Ok, Err, IfOk, IsTrue, true≢false}
+use Rattle.std.specs.List.{AllByRecursion, IsDistinct}
+use Rattle.std.proofs.lemmas.Map.Keys.{IsDistinct-head, IsDistinct-tail, IsDistinct-cons}
+use Rattle.gix_base.specs.declared.hash.ObjectId.{ObjectId}
+use Rattle.gix_revwalk.specs.History.{History, Entry, Has, entry_at, parents_in, same_id, is_one_of, IsAncestor, IsAncestorOfOne}
+use Rattle.gix_revwalk.specs.Sizes.{Lists}
+use Rattle.gix_revwalk.proofs.Ids.{same_id-true}
+use Rattle.gix_revwalk.proofs.Members.{nothing, one_is_distinct, one_of-left, one_of-right, one_of-cases, one_of-head, one_of-tail, one_of-single}
+use Rattle.gix_spec.specs.declared.spec.Spec.{Spec}
+use Rattle.gix_spec.specs.declared.spec.Spec.TheVariants.{Include, Exclude, Range, Merge, IncludeOnlyParents, ExcludeParents}
+use Rattle.gix_resolve.specs.ListMeaning.{IsMeant}
+
+-- what the shown ones reach and the hidden ones do not
+abbrev pub IsBeyond : History → (hidden shown : List ObjectId) → ObjectId → Type 0
+IsBeyond h hidden shown c = IsAncestorOfOne h shown c × (¬ IsAncestorOfOne h hidden c)
+
+-- the ancestors of one commit
+pub of-one : (h : History) (a c : ObjectId) → IsAncestorOfOne h (a ∷ []) c → IsAncestor h a c
+of-one h a c k = subst (λ z. IsAncestor h z c) (one_of-single a k.0 k.1) k.2
+
+pub as-one : (h : History) (a c : ObjectId) → IsAncestor h a c → IsAncestorOfOne h (a ∷ []) c
+as-one h a c k = (a, one_of-head a [], k)
+
+pub of-none : (h : History) (c : ObjectId) → ¬ IsAncestorOfOne h [] c
+of-none h c k = cc
+
+-- no members
+lists-none : (P : ObjectId → Type 0) → ((c : ObjectId) → ¬ P c) → Lists [] P
+lists-none P none = (nothing, λ c. ((λ m. cc), (λ q. absurd (none c q))))
+
+-- what holds of an answer
+pub if-ok : {T E : Type 0} (r : Result T E) (P Q : T → Type 0) → ((x : T) → P x → Q x) → IfOk r P → IfOk r Q
+if-ok (Ok x) P Q f k = f x k
+if-ok (Err e) P Q f k = tt
+
+-- the same set
+pub lists-same : (xs : List ObjectId) (P Q : ObjectId → Type 0) → ((c : ObjectId) → P c → Q c) → ((c : ObjectId) → Q c → P c) → Lists xs P → Lists xs Q
+lists-same xs P Q to from k = (k.0, λ c. ((λ m. to c ((k.1 c).0 m)), (λ q. (k.1 c).1 (from c q))))
+
+pub lists-include : (h : History) (a : ObjectId) (xs : List ObjectId) → Lists xs (IsBeyond h [] (a ∷ [])) → Lists xs (IsMeant h (Include a))
+lists-include h a xs k = lists-same xs (IsBeyond h [] (a ∷ [])) (IsMeant h (Include a)) (λ c p. of-one h a c p.0) (λ c q. (as-one h a c q, of-none h c)) k
+
+pub lists-exclude : (h : History) (spec : Spec) (a : ObjectId) (xs : List ObjectId) → spec ≡ Exclude a → xs ≡ [] → Lists xs (IsMeant h spec)
+lists-exclude h spec a xs of is = rw (of, is) (lists-none (IsMeant h (Exclude a)) (λ c q. q))
+
+pub lists-range : (h : History) (a b : ObjectId) (xs : List ObjectId) → Lists xs (IsBeyond h (a ∷ []) (b ∷ [])) → Lists xs (IsMeant h (Range a b))
+lists-range h a b xs k = lists-same xs (IsBeyond h (a ∷ []) (b ∷ [])) (IsMeant h (Range a b)) (λ c p. (of-one h b c p.0, λ q. p.1 (as-one h a c q))) (λ c q. (as-one h b c q.0, λ p. q.1 (of-one h a c p))) k
+
+pub lists-parents : (h : History) (a : ObjectId) (ps xs : List ObjectId) → ps ≡ parents_in (entry_at h a) → Lists xs (IsBeyond h [] ps) → Lists xs (IsMeant h (IncludeOnlyParents a))
+lists-parents h a ps xs is k = rw (sym is) (lists-same xs (IsBeyond h [] ps) (IsAncestorOfOne h ps) (λ c p. p.0) (λ c q. (q, of-none h c)) k)
+
+-- the parents of a commit that the history lacks reach nothing
+pub lists-no_parents : (h : History) (a : ObjectId) (xs : List ObjectId) → xs ≡ [] → is_some (entry_at h a) ≡ false → Lists xs (IsMeant h (IncludeOnlyParents a))
+lists-no_parents h a xs is lacks = rw is (lists-none (IsMeant h (IncludeOnlyParents a)) (λ c q. no_parents (entry_at h a) lacks c q))
+  where
+    no_parents : (e : Option Entry) → is_some e ≡ false → (c : ObjectId) → ¬ IsAncestorOfOne h (parents_in e) c
+    no_parents None e c k = of-none h c k
+    no_parents (Some x) e c k = absurd (true≢false e)
+
+pub lists-alone : (h : History) (a : ObjectId) (xs : List ObjectId) → xs ≡ a ∷ [] → Has h a → Lists xs (IsMeant h (ExcludeParents a))
+lists-alone h a xs is has = rw is (one_is_distinct a, λ c. ((λ m. (has, one_of-single a c m)), (λ q. subst (λ z. IsTrue (is_one_of (a ∷ []) z)) (sym q.1) (one_of-head a []))))
+
+pub lists-not_alone : (h : History) (a : ObjectId) (xs : List ObjectId) → xs ≡ [] → is_some (entry_at h a) ≡ false → Lists xs (IsMeant h (ExcludeParents a))
+lists-not_alone h a xs is lacks = rw is (lists-none (IsMeant h (ExcludeParents a)) (λ c q. true≢false (sym q.0 ∙ lacks)))
+
+-- two lists that share nothing, one behind the other
+all-append : (P : ObjectId → Type 0) (xs ys : List ObjectId) → AllByRecursion P xs → AllByRecursion P ys → AllByRecursion P (xs ++ ys)
+all-append P [] ys a b = b
+all-append P (x ∷ xs) ys a b = (a.0, all-append P xs ys a.1 b)
+
+all-members : (P : ObjectId → Type 0) (ys : List ObjectId) → ((y : ObjectId) → IsTrue (is_one_of ys y) → P y) → AllByRecursion P ys
+all-members P [] each = tt
+all-members P (y ∷ ys) each = (each y (one_of-head y ys), all-members P ys (λ z m. each z (one_of-tail y ys z m)))
+
+distinct-append : (xs ys : List ObjectId) → IsDistinct same_id xs → IsDistinct same_id ys → ((c : ObjectId) → IsTrue (is_one_of xs c) → ¬ IsTrue (is_one_of ys c)) → IsDistinct same_id (xs ++ ys)
+distinct-append [] ys a b apart = b
+distinct-append (x ∷ xs) ys a b apart =
+    IsDistinct-cons same_id x (xs ++ ys)
+    (all-append (λ y. same_id x y ≡ false) xs ys (IsDistinct-head same_id x xs a) (all-members (λ y. same_id x y ≡ false) ys (λ y m.
+    elim (same_id x y) as (λ b. same_id x y ≡ b → b ≡ false) [
+      | true ↦ λ e. absurd (apart x (one_of-head x xs) (subst (λ z. IsTrue (is_one_of ys z)) (sym (same_id-true x y e)) m))
+      | false ↦ λ e. refl
+    ] refl)))
+    (distinct-append xs ys (IsDistinct-tail same_id x xs a) b (λ c m. apart c (one_of-tail x xs c m)))
+
+-- the ancestors of just one of two
+pub lists-merge : (h : History) (a b : ObjectId) (xs ys zs : List ObjectId) → zs ≡ xs ++ ys → Lists xs (IsBeyond h (b ∷ []) (a ∷ [])) → Lists ys (IsBeyond h (a ∷ []) (b ∷ [])) → Lists zs (IsMeant h (Merge a b))
+lists-merge h a b xs ys zs is left right = rw is (
+  distinct-append xs ys left.0 right.0 (λ c m n. ((right.1 c).0 n).1 ((left.1 c).0 m).0),
+  λ c. ((λ m. to c m), (λ q. from c q)),
+)
+  where
+    to : (c : ObjectId) → IsTrue (is_one_of (xs ++ ys) c) → IsMeant h (Merge a b) c
+    to c m = elim (one_of-cases xs ys c m) as (λ _. IsMeant h (Merge a b) c) [
+      | inl k ↦ let p = (left.1 c).0 k in inl (of-one h a c p.0, λ q. p.1 (as-one h b c q))
+      | inr k ↦ let p = (right.1 c).0 k in inr (of-one h b c p.0, λ q. p.1 (as-one h a c q))
+    ]
+
+    from : (c : ObjectId) → IsMeant h (Merge a b) c → IsTrue (is_one_of (xs ++ ys) c)
+    from c (inl k) = one_of-left xs ys c ((left.1 c).1 (as-one h a c k.0, λ q. k.1 (of-one h b c q)))
+    from c (inr k) = one_of-right xs ys c ((right.1 c).1 (as-one h b c k.0, λ q. k.1 (of-one h a c q)))

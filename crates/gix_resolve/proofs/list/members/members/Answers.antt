@@ -1,0 +1,22 @@
+use Rattle.std.proofs.Common.{[], ◌∷◌}
+use Rattle.gix_revwalk.specs.Sizes.{Lists}
+use Rattle.gix_spec.specs.declared.spec.Spec.TheVariants.{Include, Range}
+use Rattle.gix_resolve.specs.ListMeaning.{IsMeant}
+use Rattle.gix_resolve.proofs.ListMembers.{IsBeyond, if-ok, lists-include, lists-exclude, lists-range}
+use Rattle.gix_resolve.proofs.list.members.members.Goals as goal
+
+pub returns-in-Include-clause-meant : goal.returns-in-Include-clause-meant
+returns-in-Include-clause-meant g c =
+    let h = g.S.Find.history c.args.graph.now.source in
+    let id = c.in-Include.id in
+    rw c.in-Include.is (if-ok c.ancestors_beyond.result (λ ids. Lists ids.items (IsBeyond h [] (id ∷ []))) (λ ids. Lists ids.items (IsMeant h (Include id))) (λ ids k. lists-include h id ids.items k) c.ancestors_beyond.ensures.beyond)
+
+pub returns-in-Exclude-clause-meant : goal.returns-in-Exclude-clause-meant
+returns-in-Exclude-clause-meant g c = lists-exclude (g.S.Find.history c.args.graph.now.source) c.args.spec _ c.new.result.items c.in-Exclude.is c.new.ensures.items
+
+pub returns-in-Range-clause-meant : goal.returns-in-Range-clause-meant
+returns-in-Range-clause-meant g c =
+    let h = g.S.Find.history c.args.graph.now.source in
+    let a = c.in-Range.from in
+    let b = c.in-Range.to in
+    rw c.in-Range.is (if-ok c.ancestors_beyond-in-Range.result (λ ids. Lists ids.items (IsBeyond h (a ∷ []) (b ∷ []))) (λ ids. Lists ids.items (IsMeant h (Range a b))) (λ ids k. lists-range h a b ids.items k) c.ancestors_beyond-in-Range.ensures.beyond)

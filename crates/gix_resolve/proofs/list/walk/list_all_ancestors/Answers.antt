@@ -1,0 +1,37 @@
+use Rattle.std.proofs.Common.{refl, subst, arith}
+use Rattle.std.proofs.lemmas.List.{take_all}
+use Rattle.gix_merge_base.specs.PaintQueue.{ids_at}
+use Rattle.gix_resolve.specs.ListWalk.{Adds}
+use Rattle.gix_resolve.proofs.ListWalks.{adds_none, adds_next}
+use Rattle.gix_resolve.proofs.ListAfter.{after_same, after_then}
+use Rattle.gix_resolve.proofs.list.walk.list_all_ancestors.Goals as goal
+
+pub loop-id-init : goal.loop-id-init
+loop-id-init g c = record {
+  marked = c.requires.marked;
+  closed = c.requires.closed;
+  adds = adds_none _ (ids_at c.args.graph.now c.args.listed.now.items);
+  after = after_same c.args.graph.now c.args.graph.now _ refl refl refl;
+}
+
+pub list_ancestors-requires-clause-closed : goal.list_ancestors-requires-clause-closed
+list_ancestors-requires-clause-closed g c = rw c.loop-id.invariant.after.same_history c.loop-id.invariant.closed
+
+pub loop-id-preserved : goal.loop-id-preserved
+loop-id-preserved g c =
+    let h = g.S.Find.history c.args.graph.now.source in
+    let same = c.loop-id.invariant.after.same_history in
+    let adds = rw same at c.in_ok-list_ancestors.ensures.adds in
+    let closed = rw same at c.in_ok-list_ancestors.ensures.closed in
+    record {
+      marked = c.in_ok-list_ancestors.ensures.marked;
+      closed = closed;
+      adds = adds_next h c.args.ids.now (ids_at c.args.graph.now c.args.listed.now.items) (ids_at c.loop-id.graph c.loop-id.listed.items) (ids_at c.list_ancestors.new.graph c.list_ancestors.new.listed.items)
+          c.loop-id.id-index _ c.loop-id-test.true c.loop-id.invariant.adds adds;
+      after = after_then c.args.graph.now c.loop-id.graph c.list_ancestors.new.graph _ c.loop-id.invariant.after c.in_ok-list_ancestors.ensures.after;
+    }
+
+pub returns-clause-adds : goal.returns-clause-adds
+returns-clause-adds g c =
+    subst (λ l. Adds (g.S.Find.history c.args.graph.now.source) l (ids_at c.args.graph.now c.args.listed.now.items) (ids_at c.loop-id.graph c.loop-id.listed.items))
+    (take_all c.loop-id.id-index c.args.ids.now (omega arith)) c.loop-id.invariant.adds

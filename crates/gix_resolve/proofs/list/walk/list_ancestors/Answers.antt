@@ -1,0 +1,51 @@
+use Rattle.std.proofs.Common.{◌∷◌, ◌++◌, [], ap, ◌∙◌, length, arith}
+use Rattle.std.proofs.lemmas.List.{length-map, take_all}
+use Rattle.gix_revwalk.specs.Number.{place_in}
+use Rattle.gix_revwalk.specs.declared.numbers.Number.{Number}
+use Rattle.gix_revwalk.proofs.Walk.{fewer_left, walk_bounded}
+use Rattle.gix_merge_base.specs.PaintQueue.{id_at, ids_at}
+use Rattle.gix_resolve.proofs.ListWalks.{adding_begins, adding_goes, adding_ends}
+use Rattle.gix_resolve.proofs.ListAfter.{after_then}
+use Rattle.gix_resolve.proofs.list.walk.list_ancestors.Goals as goal
+
+pub loop-i-init : goal.loop-i-init
+loop-i-init g c =
+    let h = g.S.Find.history c.args.graph.now.source in
+    let xs = ids_at c.args.graph.now c.args.listed.now.items in
+    let len = length-map c.args.listed.now.items (λ (k : Number). id_at c.args.graph.now (place_in k)) in
+    record {
+      marked = c.in_ok-list_id.ensures.marked;
+      adding = adding_begins h c.args.id xs (ids_at c.list_id.new.graph c.list_id.new.listed.items) c.len-i.result c.requires.closed c.in_ok-list_id.ensures.visited (omega (arith, c.len-i.ensures, len));
+      after = c.in_ok-list_id.ensures.after;
+    }
+
+pub loop-i-smaller : goal.loop-i-smaller
+loop-i-smaller g c =
+    let same = c.loop-i.invariant.after.same_history in
+    let ids = ids_at c.loop-i.graph c.loop-i.listed.items in
+    let len = length-map c.loop-i.listed.items (λ (k : Number). id_at c.loop-i.graph (place_in k)) in
+    let few = walk_bounded _ (ids_at c.args.graph.now c.args.listed.now.items ++ c.args.id ∷ []) ids c.loop-i.i c.loop-i.invariant.adding.walked in
+    fewer_left _ _ _ c.loop-i.i (length c.loop-i.listed.items) (ap length same) (ap length (c.list_parents.ensures.after.same_history ∙ same)) (omega arith) (omega arith)
+
+pub loop-i-preserved : goal.loop-i-preserved
+loop-i-preserved g c =
+    let h = g.S.Find.history c.args.graph.now.source in
+    let xs = ids_at c.args.graph.now c.args.listed.now.items in
+    let visited = rw c.loop-i.invariant.after.same_history at c.in_ok-list_parents.ensures.visited in
+    record {
+      marked = c.in_ok-list_parents.ensures.marked;
+      adding = adding_goes h c.args.id xs c.loop-i.graph c.loop-i.listed.items c.loop-i.i c.index-next.result.now (ids_at c.list_parents.new.graph c.list_parents.new.listed.items) c.loop-i.invariant.adding (omega arith) c.index-next.ensures visited;
+      after = after_then c.args.graph.now c.loop-i.graph c.list_parents.new.graph _ c.loop-i.invariant.after c.in_ok-list_parents.ensures.after;
+    }
+
+pub returns-clause-closed : goal.returns-clause-closed
+returns-clause-closed g c =
+    let ids = ids_at c.loop-i.graph c.loop-i.listed.items in
+    let len = length-map c.loop-i.listed.items (λ (k : Number). id_at c.loop-i.graph (place_in k)) in
+    (adding_ends _ c.args.id (ids_at c.args.graph.now c.args.listed.now.items) ids c.loop-i.i c.requires.closed c.loop-i.invariant.adding (take_all c.loop-i.i ids (omega arith))).0
+
+pub returns-clause-adds : goal.returns-clause-adds
+returns-clause-adds g c =
+    let ids = ids_at c.loop-i.graph c.loop-i.listed.items in
+    let len = length-map c.loop-i.listed.items (λ (k : Number). id_at c.loop-i.graph (place_in k)) in
+    (adding_ends _ c.args.id (ids_at c.args.graph.now c.args.listed.now.items) ids c.loop-i.i c.requires.closed c.loop-i.invariant.adding (take_all c.loop-i.i ids (omega arith))).1

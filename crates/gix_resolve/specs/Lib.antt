@@ -1,0 +1,12 @@
+pub mod Steps
+pub mod Says
+pub mod Resolved
+pub mod ResolverStep
+pub mod Comes
+pub mod Found
+pub mod Walk
+pub mod ResolveLaws
+pub mod ListMeaning
+pub mod ListErrors
+pub mod ListLaws
+pub mod ListWalk

@@ -1,0 +1,92 @@
+//! The members of the set that a spec means, in no order.
+
+ghost use Rattle.std.specs.Prelude.{IfOk, ◌∷◌, []};
+ghost use Rattle.gix_revwalk.specs.History.{entry_at, parents_in, IsAncestorOfOne};
+ghost use Rattle.gix_revwalk.specs.Sizes.{Lists};
+ghost use Rattle.gix_spec.specs.declared.spec.Spec.TheVariants.{Merge};
+ghost use Rattle.gix_spec.specs.declared.spec.Spec.TheVariants.{IncludeOnlyParents, ExcludeParents};
+ghost use Rattle.gix_resolve.specs.ListMeaning.{IsMeant};
+ghost use Rattle.gix_resolve.specs.ListWalk.{AfterWalk};
+
+use crate::list::walk::ancestors_beyond;
+use gix_revision::graph::{self, Commit, Find, Graph};
+use gix_revision::hash::ObjectId;
+use gix_revision::merge_base::Flags;
+use gix_revision::spec::Spec;
+use gix_revwalk::numbers;
+use std::alloc::Allocator;
+
+/// The ancestors of just one of the two, each once.
+fn ancestors_of_just_one<S: Find, A: Allocator + Copy>(
+    alloc: A,
+    theirs: ObjectId,
+    ours: ObjectId,
+    graph: &mut Graph<S, Commit<Flags, A>, A>,
+) -> Result<Vec<ObjectId, A>, graph::Error>
+    ensures meant { IfOk result (λ ids. Lists ids.items
+        (IsMeant (S.history graph.old.source) (Merge theirs ours))) }
+    ensures after { AfterWalk S.history S.fault_count graph.old graph.new result }
+{
+    let marks = Flags::default();
+    let mut ids = ancestors_beyond(alloc, &[ours], &[theirs], marks, graph)?;
+    let others = ancestors_beyond(alloc, &[theirs], &[ours], marks, graph)?;
+    ids.extend_from_slice(&others)?;
+    Ok(ids)
+}
+
+/// The ancestors of the parents of a commit, each once.
+fn ancestors_of_parents<S: Find, A: Allocator + Copy>(
+    alloc: A,
+    id: ObjectId,
+    graph: &mut Graph<S, Commit<Flags, A>, A>,
+) -> Result<Vec<ObjectId, A>, graph::Error>
+    ensures meant { IfOk result (λ ids. Lists ids.items
+        (IsMeant (S.history graph.old.source) (IncludeOnlyParents id))) }
+    ensures after { AfterWalk S.history S.fault_count graph.old graph.new result }
+{
+    let marks = Flags::default();
+    let Some(number) = numbers::take(graph, alloc, id, marks)? else {
+        return Ok(Vec::new(alloc));
+    };
+    let parents = numbers::value(graph, number).parents().to_vec(alloc)?;
+    ancestors_beyond(alloc, &[], &parents, marks, graph)
+}
+
+/// The commit alone, where the source has it.
+fn alone<S: Find, A: Allocator + Copy>(
+    alloc: A,
+    id: ObjectId,
+    graph: &mut Graph<S, Commit<Flags, A>, A>,
+) -> Result<Vec<ObjectId, A>, graph::Error>
+    ensures meant { IfOk result (λ ids. Lists ids.items
+        (IsMeant (S.history graph.old.source) (ExcludeParents id))) }
+    ensures after { AfterWalk S.history S.fault_count graph.old graph.new result }
+{
+    let Some(_) = numbers::take(graph, alloc, id, Flags::default())? else {
+        return Ok(Vec::new(alloc));
+    };
+    let mut ids = Vec::new(alloc);
+    ids.push(id)?;
+    Ok(ids)
+}
+
+/// The commits that a spec means, each once.
+pub(crate) fn members<S: Find, A: Allocator + Copy>(
+    alloc: A,
+    spec: Spec,
+    graph: &mut Graph<S, Commit<Flags, A>, A>,
+) -> Result<Vec<ObjectId, A>, graph::Error>
+    ensures meant { IfOk result (λ ids. Lists ids.items
+        (IsMeant (S.history graph.old.source) spec)) }
+    ensures after { AfterWalk S.history S.fault_count graph.old graph.new result }
+{
+    let marks = Flags::default();
+    match spec {
+        Spec::Include(id) => ancestors_beyond(alloc, &[], &[id], marks, graph),
+        Spec::Exclude(_) => Ok(Vec::new(alloc)),
+        Spec::Range { from, to } => ancestors_beyond(alloc, &[from], &[to], marks, graph),
+        Spec::Merge { theirs, ours } => ancestors_of_just_one(alloc, theirs, ours, graph),
+        Spec::IncludeOnlyParents(id) => ancestors_of_parents(alloc, id, graph),
+        Spec::ExcludeParents(id) => alone(alloc, id, graph),
+    }
+}

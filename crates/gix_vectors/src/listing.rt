@@ -1,0 +1,333 @@
+//! Lists of the commits that specs mean, and pages of them, over small histories; the same with failing
+//! look-ups and with memory refused in turn.
+//!
+//! ```text
+//!   2---4      2       3   6
+//!  / \ /      / \     / \ /
+//! 1   X      1   1   8   8
+//!  \ / \
+//!   3---5
+//! ```
+
+use crate::histories::{CRISS_CROSS, Row, agrees, are, id, source_of};
+use crate::sources::{Failing, Turn};
+use gix_resolve::{ListError, commits, page};
+use gix_revision::graph::{Commit, Find, FindFault, Graph};
+use gix_revision::hash::ObjectId;
+use gix_revision::merge_base::Flags;
+use gix_revision::spec::Spec;
+use refusing::Refusing;
+use std::alloc::{AllocError, Allocator, Global};
+use std::test::Fail;
+
+/// A spec, by the digits of its ids.
+#[derive(Clone, Copy)]
+enum Of {
+    Include(u8),
+    Exclude(u8),
+    Range(u8, u8),
+    Merge(u8, u8),
+    IncludeOnlyParents(u8),
+    ExcludeParents(u8),
+}
+
+/// What of the list is asked for.
+#[derive(Clone, Copy)]
+enum Part {
+    Whole,
+    /// The first so many behind the id of a digit, or of all.
+    Page(Option<u8>, usize),
+}
+
+/// A call: the spec, the history, what is asked for, and the ids of the answer in their order.
+#[derive(Clone, Copy)]
+struct Listing(Of, &'static [Row<'static>], Part, &'static [u8]);
+
+/// Two commits that are each other's parents, and one above them.
+const CYCLE: [Row<'static>; 3] = [
+    Row(1, 1, None, &[2]),
+    Row(2, 1, None, &[1]),
+    Row(3, 1, None, &[2]),
+];
+
+/// A parent is listed twice, and another is not in the source.
+const UNEVEN: [Row<'static>; 4] = [
+    Row(1, 1, None, &[]),
+    Row(2, 9, Some(1), &[1, 1]),
+    Row(3, 1, Some(7), &[8, 2]),
+    Row(6, 1, None, &[8]),
+];
+
+static WORKED: [Listing; 25] = [
+    Listing(Of::Include(5), &CRISS_CROSS, Part::Whole, &[1, 2, 3, 5]),
+    Listing(Of::Range(4, 5), &CRISS_CROSS, Part::Whole, &[5]),
+    Listing(Of::Merge(4, 5), &CRISS_CROSS, Part::Whole, &[4, 5]),
+    Listing(
+        Of::IncludeOnlyParents(5),
+        &CRISS_CROSS,
+        Part::Whole,
+        &[1, 2, 3],
+    ),
+    Listing(Of::ExcludeParents(5), &CRISS_CROSS, Part::Whole, &[5]),
+    Listing(Of::Exclude(5), &CRISS_CROSS, Part::Whole, &[]),
+    Listing(Of::Range(3, 5), &CRISS_CROSS, Part::Whole, &[2, 5]),
+    Listing(Of::Range(5, 4), &CRISS_CROSS, Part::Whole, &[4]),
+    Listing(Of::Range(5, 2), &CRISS_CROSS, Part::Whole, &[]),
+    Listing(Of::Merge(5, 5), &CRISS_CROSS, Part::Whole, &[]),
+    // The source has no such commit.
+    Listing(Of::Include(9), &CRISS_CROSS, Part::Whole, &[]),
+    Listing(Of::Range(9, 2), &CRISS_CROSS, Part::Whole, &[1, 2]),
+    Listing(Of::Range(2, 9), &CRISS_CROSS, Part::Whole, &[]),
+    Listing(Of::Merge(2, 9), &CRISS_CROSS, Part::Whole, &[1, 2]),
+    Listing(Of::IncludeOnlyParents(9), &CRISS_CROSS, Part::Whole, &[]),
+    Listing(Of::ExcludeParents(9), &CRISS_CROSS, Part::Whole, &[]),
+    // Cycles, parents that are listed twice, and parents that the source lacks.
+    Listing(Of::Include(1), &CYCLE, Part::Whole, &[1, 2]),
+    Listing(Of::Range(1, 3), &CYCLE, Part::Whole, &[3]),
+    Listing(Of::IncludeOnlyParents(2), &CYCLE, Part::Whole, &[1, 2]),
+    Listing(Of::Include(3), &UNEVEN, Part::Whole, &[1, 2, 3]),
+    Listing(Of::IncludeOnlyParents(6), &UNEVEN, Part::Whole, &[]),
+    // Pages.
+    Listing(
+        Of::Include(5),
+        &CRISS_CROSS,
+        Part::Page(Some(1), 2),
+        &[2, 3],
+    ),
+    Listing(Of::Include(5), &CRISS_CROSS, Part::Page(None, 0), &[]),
+    Listing(Of::Include(5), &CRISS_CROSS, Part::Page(Some(5), 9), &[]),
+    Listing(
+        Of::Include(5),
+        &CRISS_CROSS,
+        Part::Page(Some(4), usize::MAX),
+        &[5],
+    ),
+];
+
+fn spec_of(of: Of) -> Spec {
+    match of {
+        Of::Include(a) => Spec::Include(id(a)),
+        Of::Exclude(a) => Spec::Exclude(id(a)),
+        Of::Range(a, b) => Spec::Range {
+            from: id(a),
+            to: id(b),
+        },
+        Of::Merge(a, b) => Spec::Merge {
+            theirs: id(a),
+            ours: id(b),
+        },
+        Of::IncludeOnlyParents(a) => Spec::IncludeOnlyParents(id(a)),
+        Of::ExcludeParents(a) => Spec::ExcludeParents(id(a)),
+    }
+}
+
+fn listed<S: Find, A: Allocator + Copy>(
+    alloc: A,
+    graph: &mut Graph<S, Commit<Flags, A>, A>,
+    of: Of,
+    part: Part,
+) -> Result<Vec<ObjectId, A>, ListError> {
+    match part {
+        Part::Whole => commits(alloc, &spec_of(of), graph),
+        Part::Page(after, limit) => page(
+            alloc,
+            &spec_of(of),
+            graph,
+            after.map(|digit| id(digit)),
+            limit,
+        ),
+    }
+}
+
+/// What came of a call: the answer, the faults counted then, and whether what is held is the source's.
+#[derive(Clone, Copy, Debug, PartialEq)]
+struct Came {
+    answer: Result<bool, ListError>,
+    faults: u64,
+    agrees: bool,
+}
+
+fn asked<S: Find, A: Allocator + Copy>(
+    alloc: A,
+    graph: &mut Graph<S, Commit<Flags, A>, A>,
+    call: &Listing,
+) -> Came {
+    let answer = match listed(alloc, graph, call.0, call.2) {
+        Ok(ids) => Ok(are(&ids, call.3)),
+        Err(error) => Err(error),
+    };
+    Came {
+        answer,
+        faults: graph.source().faults(),
+        agrees: agrees(graph, call.1),
+    }
+}
+
+/// The answer of the call, over a source that never failed.
+const WELL: Came = Came {
+    answer: Ok(true),
+    faults: 0,
+    agrees: true,
+};
+
+/// The number of the first call that is not answered so twice on one graph.
+fn first_wrong(alloc: Global, calls: &[Listing]) -> Result<Option<usize>, AllocError> {
+    for (i, call) in calls.iter().enumerate() {
+        let mut graph = Graph::new(alloc, source_of(alloc, call.1)?);
+        let first = asked(alloc, &mut graph, call);
+        if first != WELL || asked(alloc, &mut graph, call) != WELL {
+            return Ok(Some(i));
+        }
+    }
+    Ok(None)
+}
+
+/// Whether the pages of so many, each begun behind the last id of the one before, make up the list.
+fn pages_join(alloc: Global, call: &Listing, limit: usize) -> Result<bool, ListError> {
+    let Ok(source) = source_of(alloc, call.1) else {
+        return Err(ListError::OutOfMemory);
+    };
+    let mut graph = Graph::new(alloc, source);
+    let whole = commits(alloc, &spec_of(call.0), &mut graph)?;
+    let mut rest: &[ObjectId] = &whole;
+    let mut after: Option<ObjectId> = None;
+    for _ in 0..9usize {
+        let ids = page(alloc, &spec_of(call.0), &mut graph, after, limit)?;
+        if !rest.starts_with(&ids) {
+            return Ok(false);
+        }
+        rest = rest.get(ids.len()..).unwrap_or(&[]);
+        match ids.last() {
+            Some(last) => after = Some(*last),
+            None => return Ok(rest.is_empty()),
+        }
+    }
+    Ok(false)
+}
+
+/// The number of the first call whose pages of one to four do not make up its list.
+fn first_unjoined(alloc: Global, calls: &[Listing]) -> Result<Option<usize>, ListError> {
+    for (i, call) in calls.iter().enumerate() {
+        for limit in 1..5usize {
+            if !pages_join(alloc, call, limit)? {
+                return Ok(Some(i));
+            }
+        }
+    }
+    Ok(None)
+}
+
+/// A fault, the faults counted before it, and after it, and the refusal that it makes.
+const FAULTS: [(FindFault, u64, u64, ListError); 3] = [
+    (FindFault::Failed, 0, 1, ListError::Source),
+    (FindFault::Failed, u64::MAX, u64::MAX, ListError::Source),
+    (FindFault::OutOfMemory, 5, 5, ListError::OutOfMemory),
+];
+
+/// Whether each look-up that is refused in turn refuses the call and is counted, with what is held the
+/// source's, and whether the same call on the same graph is answered then.
+fn survives_faults(
+    alloc: Global,
+    call: &Listing,
+    (fault, before, after, error): (FindFault, u64, u64, ListError),
+) -> Result<bool, AllocError> {
+    for turn in 0..50u64 {
+        let inner = source_of(alloc, call.1)?;
+        let source = Failing::new(inner, Turn::After(turn), fault, before);
+        let mut graph = Graph::new(alloc, source);
+        let first = asked(alloc, &mut graph, call);
+        let again = asked(alloc, &mut graph, call);
+        if first.answer == Ok(true) {
+            return Ok(turn > 0 && first.faults == before);
+        }
+        let refused = first.answer == Err(error) && first.faults == after && first.agrees;
+        if !refused
+            || again
+                != (Came {
+                    faults: after,
+                    ..WELL
+                })
+        {
+            return Ok(false);
+        }
+    }
+    Ok(false)
+}
+
+/// Whether each request for memory that is refused in turn refuses the call, with what is held the
+/// source's, or is not needed for its answer, and whether the same call on the same graph is answered
+/// then.
+fn survives_refusals(alloc: Global, call: &Listing) -> Result<bool, AllocError> {
+    let refused = Came {
+        answer: Err(ListError::OutOfMemory),
+        ..WELL
+    };
+    for before in 0..1000u64 {
+        let refusing = Refusing::new(alloc, before);
+        let mut graph = Graph::new(&refusing, source_of(alloc, call.1)?);
+        let first = asked(&refusing, &mut graph, call);
+        let has_refused = refusing.has_refused();
+        let again = asked(&refusing, &mut graph, call);
+        if !has_refused {
+            return Ok(before > 2 && first == WELL);
+        }
+        // Room to remember the parents of a commit is not needed.
+        if (first != refused && first != WELL) || again != WELL {
+            return Ok(false);
+        }
+    }
+    Ok(false)
+}
+
+/// The number of the first call that does not survive each fault and each refused request.
+fn first_lost(alloc: Global, calls: &[Listing]) -> Result<Option<usize>, AllocError> {
+    for (i, call) in calls.iter().enumerate() {
+        for fault in &FAULTS {
+            if !survives_faults(alloc, call, *fault)? {
+                return Ok(Some(i));
+            }
+        }
+        if !survives_refusals(alloc, call)? {
+            return Ok(Some(i));
+        }
+    }
+    Ok(None)
+}
+
+#[test]
+fn specs_list_their_commits_in_rising_order(rt: HostRuntime) -> Result<(), Fail> {
+    assert_eq!(rt; first_wrong(rt.alloc(), &WORKED)?, None);
+    Ok(())
+}
+
+#[test]
+fn pages_make_up_the_list(rt: HostRuntime) -> Result<(), Fail> {
+    assert_eq!(rt; first_unjoined(rt.alloc(), &WORKED), Ok(None));
+    Ok(())
+}
+
+/// One of each kind of spec that looks a commit up, and a page.
+static HOSTILE: [Listing; 6] = [
+    Listing(Of::Include(5), &CRISS_CROSS, Part::Whole, &[1, 2, 3, 5]),
+    Listing(Of::Range(3, 5), &CRISS_CROSS, Part::Whole, &[2, 5]),
+    Listing(Of::Merge(4, 5), &CRISS_CROSS, Part::Whole, &[4, 5]),
+    Listing(
+        Of::IncludeOnlyParents(5),
+        &CRISS_CROSS,
+        Part::Whole,
+        &[1, 2, 3],
+    ),
+    Listing(Of::ExcludeParents(5), &CRISS_CROSS, Part::Whole, &[5]),
+    Listing(
+        Of::Include(5),
+        &CRISS_CROSS,
+        Part::Page(Some(1), 2),
+        &[2, 3],
+    ),
+];
+
+#[test]
+fn refused_look_ups_and_memory_refuse_a_list(rt: HostRuntime) -> Result<(), Fail> {
+    assert_eq!(rt; first_lost(rt.alloc(), &HOSTILE)?, None);
+    Ok(())
+}

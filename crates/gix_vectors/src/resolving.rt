@@ -1,0 +1,382 @@
+//! Revision texts resolved over worked histories, where look-ups fail, and where memory is refused.
+
+use crate::histories::{CRISS_CROSS, Row, agrees, id, source_of, written_out};
+use crate::sources::{Failing, Turn};
+use gix_resolve::{Table, resolve};
+use gix_revision::date::Time;
+use gix_revision::error::Exn;
+use gix_revision::graph::{Commit, Find, FindFault, Graph};
+use gix_revision::hash::ObjectId;
+use gix_revision::merge_base::Flags;
+use gix_revision::spec::Spec;
+use gix_revision::spec::parse::Error;
+use refusing::Refusing;
+use std::alloc::{AllocError, Allocator, Global};
+use std::collections::{BTreeMap, BTreeSet};
+use std::test::Fail;
+
+const NOW: Time = Time {
+    seconds: 0,
+    offset: 0,
+};
+
+/// A history, names and the digits of their ids, ids of the table beside those of the history, and rows.
+/// A row is a text and what it is resolved to: a spec, or the number of a refusal, the part of the text
+/// that it names in round brackets, and what the resolver said.
+struct Case {
+    history: &'static [Row<'static>],
+    names: &'static [(&'static str, u8)],
+    more_ids: &'static [ObjectId],
+    rows: &'static str,
+}
+
+static CROSSED: Case = Case {
+    history: &CRISS_CROSS,
+    names: &[("HEAD", 4), ("main", 5), ("gone", 9)],
+    more_ids: &[],
+    rows: "\
+@ => [4]
+HEAD => [4]
+4444 => [4]
+v1-3-g4444 => [4]
+main~1 => [2]
+main^ => [2]
+main^2 => [3]
+main~0 => [5]
+main^0 => [5]
+HEAD^2~1 => [1]
+^main => ^[5]
+..main => [4]..[5]
+main.. => [5]..[4]
+HEAD...main => [4]...[5]
+main^-2 => [3]..[5]
+main~1^- => [1]..[5]
+main^@ => [5]^@
+main^! => [5]^!
+gone => [9]
+gone^@ => [9]^@
+main~3 => P24 (3) no such parent
+main~18446744073709551615 => P24 (18446744073709551615) no such parent
+main^3 => P24 (3) no such parent
+gone~0 => P24 (0) no such commit
+gone^1 => P24 (1) no such commit
+gone^0 => P25 (0) no such commit
+HEAD..main^! => P1 () kind or end given twice
+HEAD..main^- => P1 (-) kind or end given twice
+^main^@ => P1 () kind or end given twice
+ => P5 no revision
+^ => P5 no revision
+^^ => P24 () no revision
+^~1 => P21
+no => P12 (no) no such name
+head => P12 (head) no such name
+6666 => P12 (6666) no object with this prefix; no such name
+6666..main => P12 (6666..main) no object with this prefix; no such name
+:/fix => P10 (fix) not supported here
+:a.txt => P11 (a.txt) not supported here
+main:a.txt => P25 (a.txt) not supported here
+main^{commit} => [5]
+main^{tree} => P25 ({tree}) not supported here
+main^{} => P25 ({}) not supported here
+gone^{commit} => P25 ({commit}) no such commit
+main^{/fix} => P10 (fix) not supported here
+main@{1} => P20 (1) not supported here
+@{-1} => P20 (-1) not supported here
+main@{u} => P20 (u) not supported here
+",
+};
+
+/// A second id begins as the first does.
+static AMBIGUOUS: Case = Case {
+    history: &CRISS_CROSS,
+    names: &[("HEAD", 4), ("main", 5)],
+    more_ids: &[ObjectId([
+        0x44, 0x44, 0, 0, 0, 0, 0, 0, 0, 0, 0, 0, 0, 0, 0, 0, 0, 0, 0, 0,
+    ])],
+    rows: "\
+4444 => P12 (4444) prefix is ambiguous; no such name
+44444 => [4]
+44440 => 4444000000000000000000000000000000000000
+main..4444 => P12 (4444) prefix is ambiguous; no such name
+",
+};
+
+/// Rounds of one, two and three commits, and one commit before a round.
+static ROUNDS: Case = Case {
+    history: &[
+        Row(1, 1, None, &[1]),
+        Row(2, 1, None, &[3]),
+        Row(3, 1, None, &[2]),
+        Row(4, 1, None, &[5]),
+        Row(5, 1, None, &[6]),
+        Row(6, 1, None, &[4]),
+        Row(7, 1, None, &[4]),
+    ],
+    names: &[],
+    more_ids: &[],
+    rows: "\
+1111~18446744073709551615 => [1]
+2222~18446744073709551614 => [2]
+2222~18446744073709551615 => [3]
+4444~18446744073709551613 => [5]
+4444~18446744073709551614 => [6]
+4444~18446744073709551615 => [4]
+7777~18446744073709551615 => [6]
+",
+};
+
+fn table_of<A: Allocator + Copy>(alloc: A, case: &Case) -> Result<Table<A>, AllocError> {
+    let mut names = BTreeMap::new(alloc);
+    for (name, digit) in case.names {
+        names.insert(name.as_bytes().to_vec(alloc)?, id(*digit))?;
+    }
+    let mut ids = BTreeSet::new(alloc);
+    for row in case.history {
+        ids.insert(id(row.0))?;
+    }
+    for other in case.more_ids {
+        ids.insert(*other)?;
+    }
+    Ok(Table { names, ids })
+}
+
+// What the resolver said, where it refused.
+fn add_refusal(before: &str, refusal: &Option<Exn>, line: &mut Vec<u8>) -> Result<(), AllocError> {
+    if let Some(refusal) = refusal {
+        line.extend_from_slice(before.as_bytes())?;
+        line.extend_from_slice(refusal.message.as_str().as_bytes())?;
+    }
+    Ok(())
+}
+
+// What was answered, as rows have it.
+fn written(alloc: Global, answer: &Result<Spec, Error<'_>>) -> Result<Vec<u8>, AllocError> {
+    let mut line = Vec::new(alloc);
+    match answer {
+        Ok(spec) => line.extend_from_slice(format!(in alloc; "{spec}")?.as_bytes())?,
+        Err(Error::OutOfMemory) => line.extend_from_slice(b"P0")?,
+        Err(
+            Error::Refused {
+                fault,
+                input,
+                first,
+                second,
+            },
+        ) => {
+            let number = fault.number();
+            line.extend_from_slice(format!(in alloc; "P{number}")?.as_bytes())?;
+            if let Some(input) = input {
+                line.extend_from_slice(b" (")?;
+                line.extend_from_slice(input)?;
+                line.extend_from_slice(b")")?;
+            }
+            add_refusal(" ", first, &mut line)?;
+            add_refusal("; ", second, &mut line)?;
+        }
+    }
+    Ok(line)
+}
+
+/// How a text was answered.
+#[derive(Clone, Copy, Debug, PartialEq)]
+enum Answered {
+    /// As its row says.
+    AsWritten,
+    /// At a call that asks the source, since that failed.
+    SourceFailed,
+    OutOfMemory,
+    Otherwise,
+}
+
+fn judged(
+    alloc: Global,
+    answer: &Result<Spec, Error<'_>>,
+    want: &[u8],
+) -> Result<Answered, AllocError> {
+    if written(alloc, answer)?.as_slice() == want {
+        return Ok(Answered::AsWritten);
+    }
+    Ok(match answer {
+        Err(Error::OutOfMemory) => Answered::OutOfMemory,
+        Err(
+            Error::Refused {
+                fault,
+                first: Some(first),
+                second: None,
+                ..
+            },
+        ) if first.message.as_str() == "the source failed" && [24, 25].contains(&fault.number()) =>
+            { Answered::SourceFailed }
+        _ => Answered::Otherwise,
+    })
+}
+
+/// What came of a text: the answer, the faults counted then, and whether what is held is the source's.
+#[derive(Clone, Copy, Debug, PartialEq)]
+struct Came {
+    answered: Answered,
+    faults: u64,
+    agrees: bool,
+}
+
+/// A text, and what is wanted of it.
+#[derive(Clone, Copy)]
+struct Wanted<'t> {
+    text: &'t [u8],
+    answer: &'t [u8],
+}
+
+// What comes of a text over a table and a graph.
+fn asked<S: Find, A: Allocator + Copy>(
+    to: Global,
+    alloc: A,
+    (case, wanted): (&Case, Wanted<'_>),
+    table: &Table<A>,
+    graph: &mut Graph<S, Commit<Flags, A>, A>,
+) -> Result<Came, AllocError> {
+    let answer = resolve(alloc, to, wanted.text, NOW, table, graph);
+    let answered = judged(to, &answer, wanted.answer)?;
+    Ok(Came {
+        answered,
+        faults: graph.source().faults(),
+        agrees: agrees(graph, case.history),
+    })
+}
+
+/// A text twice over a source that refuses the look-up after that many, and begins its count at `faults`.
+fn with_failure(
+    alloc: Global,
+    (case, wanted): (&Case, Wanted<'_>),
+    turn: Turn,
+    fault: FindFault,
+    faults: u64,
+) -> Result<(Came, Came), AllocError> {
+    let table = table_of(alloc, case)?;
+    let source = Failing::new(source_of(alloc, case.history)?, turn, fault, faults);
+    let mut graph = Graph::new(alloc, source);
+    let first = asked(alloc, alloc, (case, wanted), &table, &mut graph)?;
+    Ok((
+        first,
+        asked(alloc, alloc, (case, wanted), &table, &mut graph)?,
+    ))
+}
+
+/// The answer of the row, over a source that has failed that often.
+fn well(faults: u64) -> Came {
+    Came {
+        answered: Answered::AsWritten,
+        faults,
+        agrees: true,
+    }
+}
+
+/// A fault, the faults counted before it, and how a text is answered and what is counted after it.
+const FAULTS: [(FindFault, u64, Answered, u64); 3] = [
+    (FindFault::Failed, 0, Answered::SourceFailed, 1),
+    (
+        FindFault::Failed,
+        u64::MAX,
+        Answered::SourceFailed,
+        u64::MAX,
+    ),
+    (FindFault::OutOfMemory, 5, Answered::OutOfMemory, 5),
+];
+
+/// Whether each look-up that is refused in turn refuses the text and is counted, with what is held the
+/// source's, and whether the same text on the same graph is answered then.
+fn survives_faults(
+    alloc: Global,
+    (case, wanted): (&Case, Wanted<'_>),
+    (fault, before, answered, after): (FindFault, u64, Answered, u64),
+) -> Result<bool, AllocError> {
+    let refused = Came {
+        answered,
+        faults: after,
+        agrees: true,
+    };
+    for turn in 0..20u64 {
+        let (first, again) = with_failure(alloc, (case, wanted), Turn::After(turn), fault, before)?;
+        if first == well(before) {
+            return Ok(true);
+        }
+        if first != refused || again != well(after) {
+            return Ok(false);
+        }
+    }
+    Ok(false)
+}
+
+/// What comes of a text with one request for memory refused, and again; none where the table could not be
+/// made. Whether there was such a request.
+fn with_refusal(
+    alloc: Global,
+    (case, wanted): (&Case, Wanted<'_>),
+    before: u64,
+) -> Result<(Option<(Came, Came)>, bool), AllocError> {
+    let refusing = Refusing::new(alloc, before);
+    let Ok(table) = table_of(&refusing, case) else {
+        return Ok((None, true));
+    };
+    let mut graph = Graph::new(&refusing, source_of(alloc, case.history)?);
+    let first = asked(alloc, &refusing, (case, wanted), &table, &mut graph)?;
+    let has_refused = refusing.has_refused();
+    let again = asked(alloc, &refusing, (case, wanted), &table, &mut graph)?;
+    Ok((Some((first, again)), has_refused))
+}
+
+/// Whether each request for memory that is refused in turn refuses the text, with what is held the
+/// source's, or is not needed for its answer, and whether the same text on the same graph is answered then.
+fn survives_refusals(alloc: Global, wanted: (&Case, Wanted<'_>)) -> Result<bool, AllocError> {
+    let refused = Came {
+        answered: Answered::OutOfMemory,
+        faults: 0,
+        agrees: true,
+    };
+    for before in 0..1000u64 {
+        match with_refusal(alloc, wanted, before)? {
+            (Some(came), false) => return Ok(came == (well(0), well(0))),
+            (Some((first, again)), true) => {
+                if (first != refused && first != well(0)) || again != well(0) {
+                    return Ok(false);
+                }
+            }
+            (None, _) => {}
+        }
+    }
+    Ok(false)
+}
+
+/// Whether a row is answered as it says, also after each fault and each refused request.
+fn is_resolved(alloc: Global, wanted: (&Case, Wanted<'_>)) -> Result<bool, AllocError> {
+    for fault in &FAULTS {
+        if !survives_faults(alloc, wanted, *fault)? {
+            return Ok(false);
+        }
+    }
+    survives_refusals(alloc, wanted)
+}
+
+/// The first row of a case that is not answered so.
+fn first_wrong(alloc: Global, case: &'static Case) -> Result<Option<&'static str>, AllocError> {
+    for row in case.rows.lines() {
+        let (text, answer) = row.split_once(" => ").unwrap_or((row, "no row"));
+        let text = written_out(alloc, text)?;
+        let answer = written_out(alloc, answer)?;
+        let wanted = Wanted {
+            text: &text,
+            answer: &answer,
+        };
+        if !is_resolved(alloc, (case, wanted))? {
+            return Ok(Some(row));
+        }
+    }
+    Ok(None)
+}
+
+#[test]
+fn texts_are_resolved(rt: HostRuntime) -> Result<(), Fail> {
+    assert_eq!(rt; first_wrong(rt.alloc(), &CROSSED)?, None);
+    assert_eq!(rt; first_wrong(rt.alloc(), &AMBIGUOUS)?, None);
+    assert_eq!(rt; first_wrong(rt.alloc(), &ROUNDS)?, None);
+    Ok(())
+}
