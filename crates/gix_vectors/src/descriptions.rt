@@ -627,26 +627,54 @@ fn is_list_answered_after_each_fault(alloc: Global) -> Result<bool, AllocError> 
     Ok(false)
 }
 
-/// Two calls of a case, where one look-up of the first fails, and the count of faults.
-fn with_one_failed(alloc: Global, case: &Case, before: u64) -> Result<(Met, Met, u64), AllocError> {
+/// Two calls of a case, where one look-up of the first is refused so, and the count of faults.
+fn with_one_failed(
+    alloc: Global,
+    case: &Case,
+    before: u64,
+    fault: FindFault,
+) -> Result<(Met, Met, u64), AllocError> {
     let history = source_of(alloc, case.0)?;
-    let source = Failing::new(history, Turn::After(before), FindFault::Failed, 0);
+    let source = Failing::new(history, Turn::After(before), fault, 0);
     let mut graph = Graph::new(alloc, source);
     let first = answered(alloc, &mut graph, case)?;
     let again = answered(alloc, &mut graph, case)?;
     Ok((first, again, graph.source().faults()))
 }
 
-/// Whether a case is refused where each of its look-ups fails in turn, and answered by the next call.
-fn is_answered_after_each_fault(alloc: Global, case: &Case) -> Result<bool, AllocError> {
+/// How a look-up is refused, what comes of the call then, and how many faults are counted.
+const FAULTS: [(FindFault, Met, u64); 2] = [
+    (FindFault::Failed, Met::RefusedForTheSource, 1),
+    (FindFault::OutOfMemory, Met::RefusedForMemory, 0),
+];
+
+/// Whether a case is refused where each of its look-ups is refused so in turn, and answered by the next
+/// call.
+fn is_answered_after_each_fault(
+    alloc: Global,
+    case: &Case,
+    (fault, met, faults): (FindFault, Met, u64),
+) -> Result<bool, AllocError> {
     for before in 0..50u64 {
-        match with_one_failed(alloc, case, before)? {
-            (Met::Right, _, _) => return Ok(true),
-            (Met::RefusedForTheSource, Met::Right, 1) => {}
-            _ => return Ok(false),
+        let came = with_one_failed(alloc, case, before, fault)?;
+        if came.0 == Met::Right {
+            return Ok(true);
+        }
+        if came != (met, Met::Right, faults) {
+            return Ok(false);
         }
     }
     Ok(false)
+}
+
+/// Whether a case is so for each fault.
+fn survives_faults(alloc: Global, case: &Case) -> Result<bool, AllocError> {
+    for fault in FAULTS {
+        if !is_answered_after_each_fault(alloc, case, fault)? {
+            return Ok(false);
+        }
+    }
+    Ok(true)
 }
 
 #[test]
@@ -654,7 +682,7 @@ fn each_look_up_of_a_description_fails(rt: HostRuntime) -> Result<(), Fail> {
     assert!(rt; is_list_answered_after_each_fault(rt.alloc())?);
     for (i, case) in CASES.iter().enumerate() {
         if case.3.fails_for == 0 {
-            assert!(rt; is_answered_after_each_fault(rt.alloc(), case)?, "case {i}");
+            assert!(rt; survives_faults(rt.alloc(), case)?, "case {i}");
         }
     }
     Ok(())
