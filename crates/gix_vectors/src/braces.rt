@@ -298,10 +298,11 @@ fn nests(alloc: Global, depth: usize) -> Result<bool, AllocError> {
     let closed = nested(alloc, depth, true)?;
     let open = nested(alloc, depth, false)?;
     let mut want = b"find_ref(main); find(".to_vec(alloc)?;
-    want.extend_from_slice(&closed[7.min(closed.len())..closed.len().saturating_sub(1)])?;
+    let inner = closed.get(7..closed.len().saturating_sub(1));
+    want.extend_from_slice(inner.unwrap_or(&[]))?;
     want.extend_from_slice(b"); done")?;
     let mut refused = b"find_ref(main); refused P14 [".to_vec(alloc)?;
-    refused.extend_from_slice(&open[5.min(open.len())..])?;
+    refused.extend_from_slice(open.get(5..).unwrap_or(&[]))?;
     refused.extend_from_slice(b"]")?;
     Ok(
         makes(alloc, Answers::Accepts, &closed, &want)?
