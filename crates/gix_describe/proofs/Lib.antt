@@ -17,6 +17,7 @@ pub mod Exact
 pub mod Settles
 pub mod Traces
 pub mod Handing
+pub mod Numbering
 pub mod Marking
 pub mod LookedUp
 pub mod WalkQueue

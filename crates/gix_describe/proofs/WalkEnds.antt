@@ -13,9 +13,11 @@ use Rattle.gix_describe.specs.Described.{Names, name_at, IsNamed, IsNamedAncesto
 use Rattle.gix_describe.specs.Trace.{is_edge, is_met, is_open, late_of, is_named, IsNext, IsWalk}
 use Rattle.gix_describe.specs.Handing.{IsLowest}
 use Rattle.gix_describe.specs.Choice.{rank_at, IsChosen, IsFound}
+use Rattle.std.specs.List.Sorted.{IsPermutation}
+use Rattle.gix_describe.proofs.Numbering.{numbered_popped}
 use Rattle.gix_describe.proofs.Choosing.{choice_least}
 use Rattle.std.specs.Bool.{MatchBool}
-use Rattle.gix_describe.specs.WalkState.{IsCounted, IsMarked, IsQueue, others, IsUncompleted, Rests, IsHeld, IsEnded, IsFull, Completes, CompletesTaken, IsComplete}
+use Rattle.gix_describe.specs.WalkState.{IsCounted, IsMarked, IsQueue, others, IsUncompleted, Rests, Takes, IsHeld, IsEnded, IsFull, Completes, CompletesTaken, IsComplete}
 use Rattle.gix_describe.specs.declared.describe.walk.Walk.{Walk}
 use Rattle.gix_describe.specs.declared.describe.key.Key.{Key}
 use Rattle.gix_describe.specs.Trace.IsWalk.{begins, goes}
@@ -152,20 +154,49 @@ pub each_counted : {S A : Type 0} (h : History) (s : ObjectId) (names : Names) (
 each_counted h s names cap w g true f = f.counted.each
 each_counted h s names cap w g false e = e.counted.each
 
--- ---- one candidate's count, as the next commit leaves the queue
-pub taken_of : {S A : Type 0} {k : Key} (h : History) (s : ObjectId) (place count : ℕ) (x : Met A) (cut : ℕ) (w0 w1 : Walk A) (g : Graphed S ℕ) → (e : Completes h s place count cut w0 g)
+-- ---- the next commit leaves the queue
+pub takes_of : {S A : Type 0} (h : History) (s : ObjectId) (names : Names) (cap : ℕ) (k : Key) (x : Met A) (w0 w1 : Walk A) (g : Graphed S ℕ) → (e : Rests h s names cap w0 g)
     → (IsWalk h s e.popped → IsQueue h s w0.queue (is_open h s e.popped) → IsNext h s e.popped x.id × IsEntry h s (k, x) × IsQueue h s w1.queue (others h s e.popped x.id))
-    → w1.candidates.items ≡ w0.candidates.items → w1.seen ≡ w0.seen → CompletesTaken h s place count x cut w1 g
-taken_of h s place count x cut w0 w1 g e next same seen =
+    → IsPermutation w0.queue ((k, x) ∷ w1.queue) → w1.candidates.items ≡ w0.candidates.items → w1.counts.items ≡ w0.counts.items → w1.seen ≡ w0.seen → Takes h s names cap (k, x) w1 g
+takes_of h s names cap k x w0 w1 g e next perm same counts seen =
     let r = next e.at.walk e.at.queue in
+    let n = numbered_popped g k x w0.queue w1.queue perm e.at.numbered in
     record {
       popped = e.popped;
       next = r.0;
-      parents = r.1.1;
+      entry = r.1;
+      number = n.0;
       at = record {
         walk = e.at.walk;
         has = e.at.has;
         queue = r.2;
+        numbered = n.1;
+        marked = subst (λ l. IsMarked h s e.popped l (held_at g)) (sym same) e.at.marked;
+        seen = seen ∙ e.at.seen;
+      };
+      counted = rw (same, counts) e.counted;
+      named = same ∙ e.named;
+      few = rw same e.few;
+      going = e.going;
+    }
+
+-- ---- one candidate's count, as the next commit leaves the queue
+pub taken_of : {S A : Type 0} {k : Key} (h : History) (s : ObjectId) (place count : ℕ) (x : Met A) (cut : ℕ) (w0 w1 : Walk A) (g : Graphed S ℕ) → (e : Completes h s place count cut w0 g)
+    → (IsWalk h s e.popped → IsQueue h s w0.queue (is_open h s e.popped) → IsNext h s e.popped x.id × IsEntry h s (k, x) × IsQueue h s w1.queue (others h s e.popped x.id))
+    → IsPermutation w0.queue ((k, x) ∷ w1.queue) → w1.candidates.items ≡ w0.candidates.items → w1.seen ≡ w0.seen → CompletesTaken h s place count x cut w1 g
+taken_of {S} {A} {k} h s place count x cut w0 w1 g e next perm same seen =
+    let r = next e.at.walk e.at.queue in
+    let n = numbered_popped g k x w0.queue w1.queue perm e.at.numbered in
+    record {
+      popped = e.popped;
+      next = r.0;
+      parents = r.1.1;
+      number = n.0;
+      at = record {
+        walk = e.at.walk;
+        has = e.at.has;
+        queue = r.2;
+        numbered = n.1;
         marked = subst (λ l. IsMarked h s e.popped l (held_at g)) (sym same) e.at.marked;
         seen = seen ∙ e.at.seen;
       };

@@ -13,5 +13,6 @@ pub mod Counted
 pub mod Asks
 pub mod Trace
 pub mod Handing
+pub mod Numbered
 pub mod WalkState
 pub mod Choice

@@ -8,6 +8,7 @@ use Rattle.gix_revwalk.specs.History.{History, entry_at, parents_in, same_id, is
 use Rattle.gix_describe.specs.Described.{Names, IsNamed}
 use Rattle.gix_describe.specs.Trace.{is_met, is_open, has_mark, late_of, is_named, IsNext, IsWalk}
 use Rattle.gix_describe.specs.Handing.{Queue, queued_ids, IsEntry, HasEntries, bits, bit, IsLowest}
+use Rattle.gix_describe.specs.Numbered.{IsNumbered, AreNumbered}
 use Rattle.gix_describe.specs.declared.describe.walk.Walk.{Walk}
 use Rattle.gix_describe.specs.declared.describe.key.Key.{Key}
 use Rattle.gix_describe.specs.declared.describe.met.Met.{Met}
@@ -34,6 +35,7 @@ pub record IsAt {S A : Type 0} (h : History) (s : ObjectId) (popped : List Objec
   pub walk : IsWalk h s popped
   pub has : Has h s
   pub queue : IsQueue h s w.queue picks
+  pub numbered : AreNumbered g w.queue
   pub marked : IsMarked h s popped w.candidates.items (held_at g)
   pub seen : w.seen ≡ length popped
 
@@ -94,6 +96,7 @@ pub record Takes {S A : Type 0} (h : History) (s : ObjectId) (names : Names) (ca
   pub popped : List ObjectId
   pub next : IsNext h s popped p.1.id
   pub entry : IsEntry h s p
+  pub number : IsNumbered g p.1
   pub at : IsAt h s popped (others h s popped p.1.id) w g
   pub counted : IsCounted h s popped w.candidates.items w.counts.items
   pub named : HasCandidates names popped w
@@ -105,6 +108,7 @@ pub record Admits {S A : Type 0} (h : History) (s : ObjectId) (names : Names) (c
   pub popped : List ObjectId
   pub next : IsNext h s popped x.id
   pub parents : x.parents.items ≡ parents_in (entry_at h x.id)
+  pub number : IsNumbered g x
   pub at : IsAt h s popped (others h s popped x.id) w g
   pub counted : IsCounted h s popped w.candidates.items w.counts.items
   pub named : HasCandidates names (popped ++ x.id ∷ []) w
@@ -178,6 +182,7 @@ pub record CompletesTaken {S A : Type 0} (h : History) (s : ObjectId) (place cou
   pub popped : List ObjectId
   pub next : IsNext h s popped x.id
   pub parents : x.parents.items ≡ parents_in (entry_at h x.id)
+  pub number : IsNumbered g x
   pub at : IsAt h s popped (others h s popped x.id) w g
   pub has : Has h s
   pub inside : place < length w.candidates.items

@@ -1,50 +1,44 @@
 //! Marks of candidates, handed from a popped commit to its parents.
 
-ghost use Rattle.std.specs.Prelude.{◌≡◌, ◌≤◌, ◌<◌, ◌↔◌, ℕ, OnOk, cond, bit_or, is_some, length, slice_index, IsTrue};
+ghost use Rattle.std.specs.Prelude.{◌≡◌, ◌≤◌, ◌<◌, ◌↔◌, ℕ, OnOk, Some, cond, bit_or, is_some, length, slice_index, IsTrue};
 ghost use Rattle.std.specs.Option.{option_map};
 ghost use Rattle.gix_base.specs.declared.hash.ObjectId.{ObjectId};
 ghost use Rattle.gix_revwalk.specs.Followed.{followed};
-ghost use Rattle.gix_revwalk.specs.Graph.{held_at};
+ghost use Rattle.gix_revwalk.specs.Graph.{held_at, held_len};
+ghost use Rattle.gix_revwalk.specs.Number.{place_in};
+ghost use Rattle.gix_revwalk.specs.Numbers.{number_at};
 ghost use Rattle.gix_revwalk.specs.History.{same_id, Has, entry_at, parents_in};
 ghost use Rattle.gix_describe.specs.Asks.{Asks, IsHandRefused};
 ghost use Rattle.gix_describe.specs.DescribeRefusals.{refusal};
+ghost use Rattle.gix_describe.specs.Numbered.{IsNumbered, AreNumbered, KeepsNumbers};
 ghost use Rattle.gix_describe.specs.Handing.{bits, counted, IsLowest, AreSettled, Meets, HandsOn};
 
 use crate::describe::key::Key;
-use crate::describe::met::{Met, Queue, look_up};
+use crate::describe::met::{Met, Queue, take_in};
 use gix_base::error::Message;
 use gix_base::hash::ObjectId;
 use gix_revwalk::graph::{Find, Graph};
+use gix_revwalk::numbers::{self, Number};
 use std::alloc::Allocator;
 
-/// The marks of a commit; none where it is not held.
-pub(crate) fn marks_of<S: Find, A: Allocator + Copy>(id: ObjectId, graph: &Graph<S, u32, A>) -> u32
-    ensures { result ≡ bits (held_at graph.now id) }
+/// The marks of a commit that was met.
+pub(crate) fn marks_of<S: Find, A: Allocator>(met: &Met<A>, graph: &Graph<S, u32, A>) -> u32
+    requires numbered { IsNumbered graph.now met.now }
+    ensures { result ≡ bits (held_at graph.now met.now.id) }
 {
-    match graph.get(&id) {
-        Some(marks) => *marks,
-        None => 0,
-    }
+    *numbers::value(graph, met.number)
 }
 
-/// Adds marks to a held commit. Whether it is held.
-pub(crate) fn mark<S: Find, A: Allocator + Copy>(
-    id: ObjectId,
-    marks: u32,
-    graph: &mut Graph<S, u32, A>,
-) -> bool
-    ensures held { result ≡ is_some (held_at graph.old id) }
+/// Adds marks to those of a held commit.
+pub(crate) fn mark<S: Find, A: Allocator>(number: Number, marks: u32, graph: &mut Graph<S, u32, A>)
+    requires held { place_in number < held_len graph.old }
     ensures source { graph.new.source ≡ graph.old.source }
-    ensures marks { (q : ObjectId) → held_at graph.new q
+    ensures numbers { KeepsNumbers graph.old graph.new }
+    ensures marks { (id : ObjectId) → Some (place_in number) ≡ number_at graph.old id → (q : ObjectId) → held_at graph.new q
         ≡ cond (same_id id q) (option_map (λ k. bit_or k marks) (held_at graph.old q)) (held_at graph.old q) }
 {
-    match graph.get_mut(&id) {
-        Some(held) => {
-            *held |= marks;
-            true
-        }
-        None => false,
-    }
+    let held = *numbers::value(graph, number);
+    let _ = numbers::put(graph, number, held | marks);
 }
 
 /// Hands marks to a parent of `child`. One that is not held is looked up, and queued where the source
@@ -62,18 +56,21 @@ fn meet<S: Find, A: Allocator + Copy>(
         → Has (followed first_parent (S.history graph.old.source)) q }
     ensures met { OnOk result (Meets (followed first_parent (S.history graph.old.source)) parent marks
         (held_at graph.old) (held_at graph.new) queue.old queue.new) }
+    ensures numbered { OnOk result
+        (AreNumbered graph.old queue.old → AreNumbered graph.new queue.new) }
     ensures asked { Asks S.history S.fault_count
         (IsHandRefused (followed first_parent (S.history graph.old.source)) child)
         graph.old.source graph.new.source (refusal result) }
 {
-    if mark(parent, marks, graph) {
+    if let Some(number) = numbers::number_of(graph, &parent) {
+        mark(number, marks, graph);
         return Ok(());
     }
-    let Some((time, met)) = look_up(alloc, parent, child, first_parent, graph)? else {
+    let Some((time, met)) = take_in(alloc, parent, child, marks, first_parent, graph)? else {
         return Ok(());
     };
     let key = Key { time, id: parent };
-    if graph.insert(parent, marks).is_err() || queue.insert(key, met).is_err() {
+    if queue.insert(key, met).is_err() {
         return Err(Message::OutOfMemory);
     }
     Ok(())
@@ -95,6 +92,8 @@ pub(crate) fn hand_on<S: Find, A: Allocator + Copy>(
         → Has (followed first_parent (S.history graph.old.source)) q }
     ensures handed { OnOk result (HandsOn (followed first_parent (S.history graph.old.source))
         met.now.id marks (held_at graph.old) (held_at graph.new) queue.old queue.new) }
+    ensures numbered { OnOk result
+        (AreNumbered graph.old queue.old → AreNumbered graph.new queue.new) }
     ensures asked { Asks S.history S.fault_count
         (IsHandRefused (followed first_parent (S.history graph.old.source)) met.now.id)
         graph.old.source graph.new.source (refusal result) }

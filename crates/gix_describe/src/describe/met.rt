@@ -1,26 +1,32 @@
 //! Commits that a walk meets, as the source has them.
 
-ghost use Rattle.std.specs.Prelude.{◌≡◌, IfOk, IfSome, is_some, cond, take};
+ghost use Rattle.std.specs.Prelude.{◌≡◌, ◌&&◌, IfOk, IfSome, OnOk, Some, None, is_some, cond, take};
 ghost use Rattle.gix_revwalk.specs.Followed.{followed};
 ghost use Rattle.gix_revwalk.specs.Held.{entry_of};
-ghost use Rattle.gix_revwalk.specs.History.{History, entry_at};
+ghost use Rattle.gix_revwalk.specs.History.{History, entry_at, same_id};
+ghost use Rattle.gix_revwalk.specs.Graph.{held_at};
+ghost use Rattle.gix_revwalk.specs.Numbers.{number_at};
 ghost use Rattle.std.specs.Option.{option_map};
+ghost use Rattle.gix_base.specs.declared.hash.ObjectId.{ObjectId};
 ghost use Rattle.gix_describe.specs.Asks.{Asks, IsHandRefused};
 ghost use Rattle.gix_describe.specs.DescribeRefusals.{refusal};
 ghost use Rattle.gix_describe.specs.Handing.{IsMet};
+ghost use Rattle.gix_describe.specs.Numbered.{IsNumbered, KeepsNumbers};
 
 use crate::describe::key::Key;
 use gix_base::error::Message;
 use gix_base::hash::ObjectId;
 use gix_revwalk::graph::{self, Find, Graph, SourceCommit};
-use gix_revwalk::numbers;
+use gix_revwalk::numbers::{self, Number};
 use gix_revwalk::queue::PriorityQueue;
 use std::alloc::Allocator;
 
-/// A commit that is met: its id, and its followed parents, also those that the source lacks.
+/// A commit that is met: its id, its number in the graph, and its followed parents, also those that
+/// the source lacks.
 #[derive(Drop)]
 pub(crate) struct Met<A: Allocator> {
     pub(crate) id: ObjectId,
+    pub(crate) number: Number,
     pub(crate) parents: Vec<ObjectId, A>,
 }
 
@@ -58,25 +64,30 @@ fn asked_for<S: Find, A: Allocator + Copy>(
     }
 }
 
-/// A commit and its time, as the source has it; `None` where the source lacks it. It is looked up for
-/// a child, or for itself as the start.
+/// A commit that is not held, and its time, as the source has it: it is held from then on, with these
+/// marks. `None` where the source lacks it. It is looked up for a child, or for itself as the start.
 ///
 /// # Errors
 ///
 /// [`Message::ParentsOf`] the child only where the source failed; [`Message::OutOfMemory`] where there
 /// was no memory.
-pub(crate) fn look_up<S: Find, A: Allocator + Copy>(
+pub(crate) fn take_in<S: Find, A: Allocator + Copy>(
     alloc: A,
     id: ObjectId,
     child: ObjectId,
+    marks: u32,
     first_parent: bool,
     graph: &mut Graph<S, u32, A>,
 ) -> Result<Option<(i64, Met<A>)>, Message>
+    requires new { number_at graph.old id ≡ None }
     ensures has { IfOk result (λ found. is_some found
         ≡ is_some (entry_at (followed first_parent (S.history graph.old.source)) id)) }
     ensures found { IfOk result (λ found. IfSome found
         (IsMet (followed first_parent (S.history graph.old.source)) id)) }
-    ensures held { graph.new.held ≡ graph.old.held }
+    ensures held { IfOk result (λ found. (q : ObjectId) → held_at graph.new q
+        ≡ cond (is_some found && same_id id q) (Some marks) (held_at graph.old q)) }
+    ensures number { IfOk result (λ found. IfSome found (λ m. IsNumbered graph.new m.1)) }
+    ensures numbers { OnOk result (KeepsNumbers graph.old graph.new) }
     ensures asked { Asks S.history S.fault_count
         (IsHandRefused (followed first_parent (S.history graph.old.source)) child)
         graph.old.source graph.new.source (refusal result) }
@@ -84,7 +95,17 @@ pub(crate) fn look_up<S: Find, A: Allocator + Copy>(
     let Some(found) = asked_for(alloc, id, child, graph)? else {
         return Ok(None);
     };
+    let Ok(number) = numbers::add(graph, id, marks) else {
+        return Err(Message::OutOfMemory);
+    };
     let time = found.time;
     let parents = followed_of(found.parents, first_parent);
-    Ok(Some((time, Met { id, parents })))
+    Ok(Some((
+        time,
+        Met {
+            id,
+            number,
+            parents,
+        },
+    )))
 }

@@ -3,6 +3,7 @@
 ghost use Rattle.std.specs.Prelude.{◌≡◌, ◌≤◌, ◌<◌, ◌↔◌, ◌+◌, ◌^◌, ◌++◌, ◌∷◌, [], ℕ, IfOk, IfErr, IfSome, IsNone, OnOk, Some, None, List, cond, bit_or, length, slice_index, get_or, IsTrue, MatchBool, MatchOption, false};
 ghost use Rattle.std.specs.Option.{option_map};
 ghost use Rattle.std.specs.Int.{bit_at};
+ghost use Rattle.std.specs.List.Sorted.{IsPermutation};
 ghost use Rattle.gix_base.specs.declared.hash.ObjectId.{ObjectId};
 ghost use Rattle.gix_revwalk.specs.Followed.{followed};
 ghost use Rattle.gix_revwalk.specs.Graph.{Graphed, held_at};
@@ -13,12 +14,13 @@ ghost use Rattle.gix_describe.specs.DescribeRefusals.{refusal};
 ghost use Rattle.gix_describe.specs.Choice.{rank_order, rank_at, name_of, IsChosen, IsFound};
 ghost use Rattle.gix_describe.specs.Described.{name_at};
 ghost use Rattle.gix_describe.specs.Handing.{bits, queued_ids};
+ghost use Rattle.gix_describe.specs.Numbered.{IsNumbered, AreNumbered, KeepsNumbers};
 ghost use Rattle.gix_describe.specs.Order.{HoldsFirst, IsTied};
 ghost use Rattle.gix_describe.specs.Outcomes.{names_of};
 
 use crate::describe::handing::{count_late, hand_on, is_settled, mark, marks_of};
 use crate::describe::key::Key;
-use crate::describe::met::{Met, Queue, look_up};
+use crate::describe::met::{Met, Queue, take_in};
 use crate::describe::options::Names;
 use gix_base::error::Message;
 use gix_base::hash::ObjectId;
@@ -70,11 +72,12 @@ fn all_marked<S: Find, A: Allocator + Copy>(
     graph: &Graph<S, u32, A>,
 ) -> bool
     requires few { place < 32 }
+    requires numbered { AreNumbered graph.now queue.now }
     ensures { IsTrue result ↔ ((c : ObjectId) → IsTrue (is_one_of (queued_ids queue.now) c)
         → bit_at (bits (held_at graph.now c)) place ≡ 1) }
 {
     for met in queue.iter_unordered() {
-        if bit_of(marks_of(met.id, graph), place) == 0 {
+        if bit_of(marks_of(met, graph), place) == 0 {
             return false;
         }
     }
@@ -100,7 +103,7 @@ impl<A: Allocator + Copy> Walk<A> {
             graph.old.source graph.new.source (refusal result) }
     {
         let start = search.start;
-        let Some((_, met)) = look_up(alloc, start, start, search.first_parent, graph)? else {
+        let Some((_, met)) = take_in(alloc, start, start, 0, search.first_parent, graph)? else {
             return Err(Message::MissingStart(start));
         };
         let mut queue = PriorityQueue::new(alloc);
@@ -108,7 +111,7 @@ impl<A: Allocator + Copy> Walk<A> {
             time: i64::MAX,
             id: start,
         };
-        if queue.insert(key, met).is_err() || graph.insert(start, 0).is_err() {
+        if queue.insert(key, met).is_err() {
             return Err(Message::OutOfMemory);
         }
         Ok(Walk {
@@ -125,6 +128,7 @@ impl<A: Allocator + Copy> Walk<A> {
         ensures next { IfSome result (λ p. (h : History) (s : ObjectId) (popped : List ObjectId) → IsWalk h s popped
             → IsQueue h s self.old.queue (is_open h s popped)
             → IsNext h s popped p.1.id × IsEntry h s p × IsQueue h s self.new.queue (others h s popped p.1.id)) }
+        ensures taken { IfSome result (λ p. IsPermutation self.old.queue (p ∷ self.new.queue)) }
         ensures candidates { self.new.candidates ≡ self.old.candidates }
         ensures counts { self.new.counts ≡ self.old.counts }
         ensures seen { self.new.seen ≡ self.old.seen }
@@ -136,21 +140,23 @@ impl<A: Allocator + Copy> Walk<A> {
     /// it are late.
     fn take_up<S: Find>(
         &mut self,
-        id: ObjectId,
+        met: &Met<A>,
         graph: &mut Graph<S, u32, A>,
     ) -> Result<(), Message>
         requires room { length self.old.candidates.items < 32 }
-        ensures candidates { OnOk result (self.new.candidates.items ≡ self.old.candidates.items ++ id ∷ []) }
+        requires numbered { IsNumbered graph.old met.now }
+        ensures candidates { OnOk result (self.new.candidates.items ≡ self.old.candidates.items ++ met.now.id ∷ []) }
         ensures counts { OnOk result (self.new.counts.items ≡ self.old.counts.items ++ self.old.seen ∷ []) }
-        ensures marks { (q : ObjectId) → held_at graph.new q ≡ cond (same_id id q)
+        ensures numbers { KeepsNumbers graph.old graph.new }
+        ensures marks { (q : ObjectId) → held_at graph.new q ≡ cond (same_id met.now.id q)
             (option_map (λ k. bit_or k (2 ^ length self.old.candidates.items)) (held_at graph.old q)) (held_at graph.old q) }
         ensures queue { self.new.queue ≡ self.old.queue }
         ensures seen { self.new.seen ≡ self.old.seen }
         ensures source { graph.new.source ≡ graph.old.source }
         ensures refused { IfErr result (λ e. e ≡ Message.OutOfMemory) }
     {
-        let _ = mark(id, 1 << self.candidates.len(), graph);
-        if self.candidates.push(id).is_err() || self.counts.push(self.seen).is_err() {
+        mark(met.number, 1 << self.candidates.len(), graph);
+        if self.candidates.push(met.id).is_err() || self.counts.push(self.seen).is_err() {
             return Err(Message::OutOfMemory);
         }
         Ok(())
@@ -183,7 +189,7 @@ impl<A: Allocator + Copy> Walk<A> {
             return Ok(Some(met));
         }
         if self.candidates.len() < search.cap {
-            self.take_up(met.id, graph)?;
+            self.take_up(&met, graph)?;
             return Ok(Some(met));
         }
         if self.queue.insert(key, met).is_err() {
@@ -220,7 +226,7 @@ impl<A: Allocator + Copy> Walk<A> {
             return Err(Message::CounterFull);
         }
         self.seen += 1;
-        let marks = marks_of(met.id, graph);
+        let marks = marks_of(met, graph);
         count_late(&mut self.counts, marks);
         if self.queue.is_empty() && !self.candidates.is_empty() && is_settled(&self.counts, marks) {
             return Ok(true);
@@ -359,7 +365,7 @@ impl<A: Allocator + Copy> Walk<A> {
             return Err(Message::CounterFull);
         }
         self.seen += 1;
-        let marks = marks_of(met.id, graph);
+        let marks = marks_of(met, graph);
         let late = 1 - bit_of(marks, place);
         if late == 0 && all_marked(&self.queue, place, graph) {
             return Ok((count, true));

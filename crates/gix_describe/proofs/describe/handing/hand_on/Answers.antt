@@ -15,6 +15,7 @@ loop-parent-init g c =
       hands = hands_nothing h c.args.marks (held_at c.args.graph.now);
       queues = queues_nothing h (held_at c.args.graph.now) c.args.queue.now;
       entries = λ s start has. has;
+      numbered = λ all. all;
       asked = asks_nothing _ _ _ _ _ refl;
     }
 
@@ -37,6 +38,7 @@ loop-parent-preserved g c =
       hands = hands_along _ _ c.args.marks (held_at c.args.graph.now) (held_at c.meet.new.graph) same (hands_next h p c.args.marks (there h (take i ps)) (held_at c.args.graph.now) (held_at c.loop-parent.graph) (held_at c.meet.new.graph) c.args.queue.now c.loop-parent.queue c.meet.new.queue c.loop-parent.invariant.hands meets);
       queues = queues_along _ _ (held_at c.args.graph.now) c.args.queue.now c.meet.new.queue same (queues_next h p c.args.marks (there h (take i ps)) (held_at c.args.graph.now) (held_at c.loop-parent.graph) (held_at c.meet.new.graph) c.args.queue.now c.loop-parent.queue c.meet.new.queue c.loop-parent.invariant.hands meets c.loop-parent.invariant.queues);
       entries = λ s start has. entries_next h p c.args.marks (there h (take i ps)) (held_at c.args.graph.now) (held_at c.loop-parent.graph) (held_at c.meet.new.graph) c.args.queue.now c.loop-parent.queue c.meet.new.queue c.loop-parent.invariant.hands meets s start (c.loop-parent.invariant.entries s start has);
+      numbered = λ all. c.in_ok-meet.ensures.numbered (c.loop-parent.invariant.numbered all);
       asked = asks_on _ _ _ _ _ _ _ None c.loop-parent.invariant.asked (rw c.loop-parent.invariant.asked.same_history at c.in_ok-meet.ensures.asked);
     }
 

@@ -4,6 +4,7 @@ use Rattle.gix_revwalk.specs.Followed.{followed}
 use Rattle.gix_revwalk.specs.Graph.{held_at}
 use Rattle.gix_describe.specs.Asks.{Asks, IsHandRefused}
 use Rattle.gix_describe.specs.Handing.{Hands, QueuesNew, HasEntries}
+use Rattle.gix_describe.specs.Numbered.{AreNumbered}
 use Rattle.gix_describe.proofs.Handing.{there}
 use Rattle.gix_describe.proofs.describe.handing.hand_on.Given as goal
 
@@ -12,5 +13,6 @@ invariant-loop-parent g l = record {
   hands : Hands (there (followed l.first_parent (g.S.Find.history l.fn.graph.source)) (take l.parent-index l.parents)) l.marks (held_at l.fn.graph) (held_at l.graph);
   queues : QueuesNew (there (followed l.first_parent (g.S.Find.history l.fn.graph.source)) (take l.parent-index l.parents)) (held_at l.fn.graph) l.fn.queue l.queue;
   entries : (s : ObjectId) → is_some (held_at l.fn.graph s) ≡ true → HasEntries (followed l.first_parent (g.S.Find.history l.fn.graph.source)) s l.fn.queue → HasEntries (followed l.first_parent (g.S.Find.history l.fn.graph.source)) s l.queue;
+  numbered : AreNumbered l.fn.graph l.fn.queue → AreNumbered l.graph l.queue;
   asked : Asks g.S.Find.history g.S.Find.fault_count (IsHandRefused (followed l.first_parent (g.S.Find.history l.fn.graph.source)) l.met.id) l.fn.graph.source l.graph.source None;
 }

@@ -1,4 +1,4 @@
-use Rattle.std.proofs.Common.{◌≡◌, ◌<◌, ◌∙◌, refl, true, false, ap, sym, subst, map, List, [], ◌∷◌, ◌++◌, Bor, append_assoc, arith, inl, inr}
+use Rattle.std.proofs.Common.{◌≡◌, ◌<◌, ◌∙◌, refl, true, false, ap, sym, subst, map, List, [], ◌∷◌, ◌++◌, Bor, append_assoc, suc, arith, inl, inr}
 use Rattle.std.specs.Int.{bit_at}
 use Rattle.std.proofs.lemmas.List.{map-append}
 use Rattle.std.proofs.lemmas.Nat.Bits.{bit_at-lt}
@@ -10,6 +10,7 @@ use Rattle.gix_revwalk.proofs.Members.{one_of-right, one_of-head, one_of-cases, 
 use Rattle.gix_describe.specs.declared.describe.key.Key.{Key}
 use Rattle.gix_describe.specs.declared.describe.met.Met.{Met}
 use Rattle.gix_describe.specs.Handing.{Queue, queued_ids, bits}
+use Rattle.gix_describe.proofs.Numbering.{numbered_values}
 use Rattle.gix_describe.proofs.describe.walk.all_marked.Goals as goal
 
 split_next : {X : Type 0} (f : X → ObjectId) (ys : List (Bor X)) (x : Bor X) (l k : List X) (q : List ObjectId) → map (λ b. f b.now) ys ++ map f l ≡ q → l ≡ x.now ∷ k → map (λ b. f b.now) (ys ++ x ∷ []) ++ map f k ≡ q
@@ -26,8 +27,12 @@ one_of_push {X} f ys x q m = ap (λ l. is_one_of l q) (sym (map-append (λ (b : 
 pub loop-met-init : goal.loop-met-init
 loop-met-init g c = record {
   split = ap (λ l. map (λ m. m.id) (values_left l)) c.into_iter-met-iterator.ensures.into_iter_gives ∙ ap (map (λ m. m.id)) c.iter_unordered-met-items.ensures ∙ ids_of c.args.queue.now;
+  numbered = rw (c.into_iter-met-iterator.ensures.into_iter_gives, c.iter_unordered-met-items.ensures) (numbered_values c.args.graph.now c.args.queue.now c.requires.numbered);
   marked = λ q m. absurd (let f : false ≡ true = m in cc);
 }
+
+pub marks_of-requires : goal.marks_of-requires
+marks_of-requires g c = record { numbered = (rw c.in-Some.ensures.steps at c.loop-met.invariant.numbered) 0 c.in-Some.met.now (omega arith) }
 
 pub loop-met-preserved : goal.loop-met-preserved
 loop-met-preserved g c =
@@ -37,6 +42,7 @@ loop-met-preserved g c =
     let one : bit_at (bits (held_at c.args.graph.now c.in-Some.met.now.id)) c.args.place ≡ 1 = omega arith in
     record {
       split = split_next (λ m. m.id) c.loop-met.yielded c.in-Some.met _ _ _ c.loop-met.invariant.split steps;
+      numbered = λ i d lt. (rw steps at c.loop-met.invariant.numbered) (suc i) d (omega arith);
       marked = λ q m. elim (one_of-cases (map (λ b. b.now.id) c.loop-met.yielded) (c.in-Some.met.now.id ∷ []) q (one_of_push (λ m. m.id) c.loop-met.yielded c.in-Some.met q m)) as (λ _. bit_at (bits (held_at c.args.graph.now q)) c.args.place ≡ 1) [
         | inl k ↦ c.loop-met.invariant.marked q k
         | inr k ↦ subst (λ z. bit_at (bits (held_at c.args.graph.now z)) c.args.place ≡ 1) (sym (one_of-single c.in-Some.met.now.id q k)) one

@@ -6,6 +6,7 @@ use Rattle.gix_describe.specs.Trace.{is_named}
 use Rattle.gix_describe.specs.Outcomes.{names_of}
 use Rattle.gix_describe.proofs.Traces.{open_met, open_out}
 use Rattle.gix_describe.proofs.WalkSteps.{names_is, named_of, filter_skips, filter_takes, marked_takes, counted_takes, queue_back, ok_when}
+use Rattle.gix_describe.proofs.Numbering.{numbered_kept, numbered_more}
 use Rattle.gix_describe.proofs.describe.walk.Walk.admit.Goals as goal
 
 pub returns-then-not-contains_key-clause-admitted : goal.returns-then-not-contains_key-clause-admitted
@@ -17,6 +18,7 @@ returns-then-not-contains_key-clause-admitted g c =
       popped = t.popped;
       next = t.next;
       parents = t.entry.1;
+      number = t.number;
       at = t.at;
       counted = t.counted;
       named = t.named ∙ sym (filter_skips (is_named names) t.popped c.args.next.1.id unnamed);
@@ -41,10 +43,12 @@ returns-then-len-search-clause-admitted g c =
       popped = t.popped;
       next = t.next;
       parents = t.entry.1;
+      number = c.take_up.ensures.numbers _ _ t.number;
       at = record {
         walk = t.at.walk;
         has = t.at.has;
         queue = rw c.take_up.ensures.queue t.at.queue;
+        numbered = rw c.take_up.ensures.queue (numbered_kept c.args.graph.now c.take_up.new.graph _ c.take_up.ensures.numbers t.at.numbered);
         marked = rw more (marked_takes h s t.popped old x (held_at c.args.graph.now) (held_at c.take_up.new.graph) t.at.marked (open_met h s t.popped x t.next.0) (open_out h s t.popped x t.next.0) c.take_up.ensures.marks);
         seen = c.take_up.ensures.seen ∙ t.at.seen;
       };
@@ -71,6 +75,7 @@ returns-clause-admitted g c =
         walk = t.at.walk;
         has = t.at.has;
         queue = queue_back h s t.popped c.args.next.0 c.args.next.1 c.args.self.now.queue c.insert.new.self t.at.queue t.next.0 t.entry queued;
+        numbered = numbered_more c.args.graph.now c.args.graph.now c.args.next.0 c.args.next.1 c.args.self.now.queue c.insert.new.self (λ q k e. e) t.number queued t.at.numbered;
         marked = t.at.marked;
         seen = t.at.seen;
       };

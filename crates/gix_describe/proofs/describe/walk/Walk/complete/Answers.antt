@@ -14,7 +14,7 @@ loop-met-smaller g c =
     let size = λ (x : History). length (followed c.args.search.first_parent x) in
     let h = followed c.args.search.first_parent (g.S.Find.history c.args.graph.now.source) in
     let passed = rw (c.loop-met.invariant.asked.same_history, c.if-complete.false) at c.in_ok-counted.ensures.passed in
-    let rests = passed c.args.self.now.seen (taken_of h c.args.search.start c.args.place c.loop-met.depth c.in-Some.met c.args.self.now.seen c.loop-met.self c.next.new.self c.loop-met.graph c.loop-met.invariant.completes (c.in-Some.ensures.next h c.args.search.start c.loop-met.invariant.completes.popped) (ap (λ v. v.items) c.next.ensures.candidates) c.next.ensures.seen) in
+    let rests = passed c.args.self.now.seen (taken_of h c.args.search.start c.args.place c.loop-met.depth c.in-Some.met c.args.self.now.seen c.loop-met.self c.next.new.self c.loop-met.graph c.loop-met.invariant.completes (c.in-Some.ensures.next h c.args.search.start c.loop-met.invariant.completes.popped) c.in-Some.ensures.taken (ap (λ v. v.items) c.next.ensures.candidates) c.next.ensures.seen) in
     let few = bounded _ _ rests.popped rests.at.walk rests.at.has in
     let seen : c.pass_for.new.self.seen ≡ length rests.popped = rests.at.seen in
     let more : c.pass_for.new.self.seen ≡ c.loop-met.self.seen + 1 = c.in_ok-counted.ensures.seen ∙ ap (λ n. n + 1) c.next.ensures.seen in
@@ -33,14 +33,14 @@ returns-then-complete-clause-asked g c =
 pub pass_for-requires-clause-taken : goal.pass_for-requires-clause-taken
 pass_for-requires-clause-taken g c =
     let h = followed c.args.search.first_parent (g.S.Find.history c.args.graph.now.source) in
-    (c.args.self.now.seen, rw c.loop-met.invariant.asked.same_history (taken_of h c.args.search.start c.args.place c.loop-met.depth c.in-Some.met c.args.self.now.seen c.loop-met.self c.next.new.self c.loop-met.graph c.loop-met.invariant.completes (c.in-Some.ensures.next h c.args.search.start c.loop-met.invariant.completes.popped) (ap (λ v. v.items) c.next.ensures.candidates) c.next.ensures.seen))
+    (c.args.self.now.seen, rw c.loop-met.invariant.asked.same_history (taken_of h c.args.search.start c.args.place c.loop-met.depth c.in-Some.met c.args.self.now.seen c.loop-met.self c.next.new.self c.loop-met.graph c.loop-met.invariant.completes (c.in-Some.ensures.next h c.args.search.start c.loop-met.invariant.completes.popped) c.in-Some.ensures.taken (ap (λ v. v.items) c.next.ensures.candidates) c.next.ensures.seen))
 
 pub loop-met-preserved : goal.loop-met-preserved
 loop-met-preserved g c =
     let h = followed c.args.search.first_parent (g.S.Find.history c.args.graph.now.source) in
     let passed = rw (c.loop-met.invariant.asked.same_history, c.if-complete.false) at c.in_ok-counted.ensures.passed in
     record {
-      completes = passed c.args.self.now.seen (taken_of h c.args.search.start c.args.place c.loop-met.depth c.in-Some.met c.args.self.now.seen c.loop-met.self c.next.new.self c.loop-met.graph c.loop-met.invariant.completes (c.in-Some.ensures.next h c.args.search.start c.loop-met.invariant.completes.popped) (ap (λ v. v.items) c.next.ensures.candidates) c.next.ensures.seen);
+      completes = passed c.args.self.now.seen (taken_of h c.args.search.start c.args.place c.loop-met.depth c.in-Some.met c.args.self.now.seen c.loop-met.self c.next.new.self c.loop-met.graph c.loop-met.invariant.completes (c.in-Some.ensures.next h c.args.search.start c.loop-met.invariant.completes.popped) c.in-Some.ensures.taken (ap (λ v. v.items) c.next.ensures.candidates) c.next.ensures.seen);
       candidates = c.pass_for.ensures.candidates ∙ c.next.ensures.candidates ∙ c.loop-met.invariant.candidates;
       asked = asks_on _ _ _ _ _ _ _ None c.loop-met.invariant.asked (rw c.loop-met.invariant.asked.same_history at c.in_ok-counted.ensures.asked);
     }
@@ -49,7 +49,7 @@ pub returns-then-complete-clause-complete : goal.returns-then-complete-clause-co
 returns-then-complete-clause-complete g c =
     let h = followed c.args.search.first_parent (g.S.Find.history c.args.graph.now.source) in
     let passed = rw (c.loop-met.invariant.asked.same_history, c.if-complete.true) at c.in_ok-counted.ensures.passed in
-    let done = passed c.args.self.now.seen (taken_of h c.args.search.start c.args.place c.loop-met.depth c.in-Some.met c.args.self.now.seen c.loop-met.self c.next.new.self c.loop-met.graph c.loop-met.invariant.completes (c.in-Some.ensures.next h c.args.search.start c.loop-met.invariant.completes.popped) (ap (λ v. v.items) c.next.ensures.candidates) c.next.ensures.seen) in
+    let done = passed c.args.self.now.seen (taken_of h c.args.search.start c.args.place c.loop-met.depth c.in-Some.met c.args.self.now.seen c.loop-met.self c.next.new.self c.loop-met.graph c.loop-met.invariant.completes (c.in-Some.ensures.next h c.args.search.start c.loop-met.invariant.completes.popped) c.in-Some.ensures.taken (ap (λ v. v.items) c.next.ensures.candidates) c.next.ensures.seen) in
     rw (← c.loop-met.invariant.candidates, ← c.next.ensures.candidates) done
 
 pub returns-clause-complete : goal.returns-clause-complete

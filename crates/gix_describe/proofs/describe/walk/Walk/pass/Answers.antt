@@ -116,6 +116,7 @@ returns-clause-passed g c =
         walk = goes_more h s a.popped c.args.met.now.id a.at.walk a.next;
         has = a.at.has;
         queue = queue_more h s a.popped w.candidates.items c.args.met.now.id (held_at c.args.graph.now) (held_at c.hand_on.new.graph) w.queue c.hand_on.new.queue a.at.walk a.next a.at.marked a.at.queue on;
+        numbered = c.in_ok-hand_on.ensures.numbered a.at.numbered;
         marked = marked_more_by h s a.popped w.candidates.items c.args.met.now.id (held_at c.args.graph.now) (held_at c.hand_on.new.graph) w.queue c.hand_on.new.queue a.at.walk a.next a.at.marked a.at.queue on;
         seen = let seen : w.seen ≡ length a.popped = a.at.seen in omega arith;
       };

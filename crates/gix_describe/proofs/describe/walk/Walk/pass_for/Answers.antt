@@ -83,6 +83,7 @@ returns-clause-passed g c = λ cut a.
         walk = goes_more h s a.popped x a.at.walk a.next;
         has = a.has;
         queue = queue_more h s a.popped w.candidates.items x (held_at c.args.graph.now) (held_at c.hand_on.new.graph) w.queue c.hand_on.new.queue a.at.walk a.next a.at.marked a.at.queue on;
+        numbered = c.in_ok-hand_on.ensures.numbered a.at.numbered;
         marked = marked_more_by h s a.popped w.candidates.items x (held_at c.args.graph.now) (held_at c.hand_on.new.graph) w.queue c.hand_on.new.queue a.at.walk a.next a.at.marked a.at.queue on;
         seen = let seen : w.seen ≡ length a.popped = a.at.seen in omega arith;
       };

@@ -4,7 +4,7 @@ use Rattle.gix_revwalk.specs.Followed.{followed}
 use Rattle.gix_describe.specs.Outcomes.{names_of}
 use Rattle.gix_describe.proofs.WalkSteps.{bounded}
 use Rattle.gix_describe.proofs.Asked.{asks_on, refusal_came}
-use Rattle.gix_describe.proofs.WalkEnds.{rests_ended}
+use Rattle.gix_describe.proofs.WalkEnds.{rests_ended, takes_of}
 use Rattle.gix_describe.proofs.describe.walk.Walk.run.Goals as goal
 
 fewer : (n h k i j : ℕ) → h ≡ n → k ≡ n → j ≡ i + 1 → j ≤ n → k - j < h - i
@@ -19,6 +19,13 @@ loop-next-smaller g c =
     let seen : c.pass.new.self.seen ≡ length rests.popped = rests.at.seen in
     let more : c.pass.new.self.seen ≡ c.loop-next.self.seen + 1 = c.in_ok-settled.ensures.seen ∙ ap (λ n. n + 1) (c.admit.ensures.seen ∙ c.next.ensures.seen) in
     fewer _ _ _ _ _ (ap size c.loop-next.invariant.asked.same_history) (ap size (c.pass.ensures.asked.same_history ∙ hist)) more (omega (arith, few))
+
+pub admit-requires-clause-taken : goal.admit-requires-clause-taken
+admit-requires-clause-taken g c =
+    let h = followed c.args.search.first_parent (g.S.Find.history c.args.graph.now.source) in
+    let rests = c.loop-next.invariant.rests in
+    rw c.loop-next.invariant.asked.same_history (takes_of h c.args.search.start (names_of c.args.names.now.entries) c.args.search.cap c.in-Some.next.0 c.in-Some.next.1 c.loop-next.self c.next.new.self c.loop-next.graph rests
+    (c.in-Some.ensures.next h c.args.search.start rests.popped) c.in-Some.ensures.taken (ap (λ v. v.items) c.next.ensures.candidates) (ap (λ v. v.items) c.next.ensures.counts) c.next.ensures.seen)
 
 pub loop-next-preserved : goal.loop-next-preserved
 loop-next-preserved g c =
