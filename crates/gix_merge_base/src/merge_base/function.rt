@@ -1,10 +1,13 @@
 //! The merge bases of a commit and others.
 
-ghost use Rattle.std.specs.Prelude.{◌≡◌, [], ◌∷◌, IsOk, IfOk, IfErr, IsTrue, false};
+ghost use Rattle.std.specs.Prelude.{◌≡◌, [], ◌∷◌, ◌⊎◌, IsOk, IfOk, IfErr, IsTrue, false};
 ghost use Rattle.std.specs.List.{IsDistinct};
 ghost use Rattle.gix_revwalk.specs.History.{same_id, IsAcyclic, GenerationsNeverRise};
-ghost use Rattle.gix_merge_base.specs.Bases.{AreBases, CoverBases, ids_of, is_trivial};
-ghost use Rattle.gix_merge_base.specs.Keys.{IsInOrder};
+ghost use Rattle.gix_base.specs.declared.hash.ObjectId.{ObjectId};
+ghost use Rattle.gix_merge_base.specs.Bases.{IsBase, AreBases, CoverBases, ids_of, is_trivial};
+ghost use Rattle.gix_merge_base.specs.Keys.{KeysFall, IsInOrder};
+ghost use Rattle.gix_merge_base.specs.Painting.{MayBeTaken};
+ghost use Rattle.gix_merge_base.specs.PaintQueue.{IsHeld};
 ghost use Rattle.gix_merge_base.specs.Refusals.{HasInsertText, is_source_fault};
 ghost use Rattle.gix_revwalk.specs.Faults.{count_after};
 ghost use Rattle.gix_revwalk.specs.Walks.{KeepsHeld};
@@ -60,6 +63,13 @@ pub fn merge_base<S: Find, A: Allocator + Copy>(
     ensures trivial { IsTrue (is_trivial first others.now) → IsOk result × (graph.new ≡ graph.old) }
     ensures trivial_answer { IsTrue (is_trivial first others.now)
         → IfOk result (λ found. ids_of found ≡ first ∷ []) }
+
+    // Where keys fall along every edge and there is at most one base, little is taken in.
+    ensures taken { IsAcyclic (S.history graph.old.source) → KeysFall (S.history graph.old.source)
+        → ((a b : ObjectId) → IsBase (S.history graph.old.source) first others.now a
+        → IsBase (S.history graph.old.source) first others.now b → a ≡ b)
+        → (q : ObjectId) → IsHeld graph.new q
+        → IsHeld graph.old q ⊎ MayBeTaken (S.history graph.old.source) first others.now q }
 
     ensures history { S.history graph.new.source ≡ S.history graph.old.source }
     ensures cause { IfErr result HasInsertText }
