@@ -40,6 +40,9 @@ impl<A: Allocator> From<InsertError<A>> for LineFault {
     }
 }
 
+/// How many digits an id has.
+const ID_DIGITS: usize = 40;
+
 /// The fields that are left of a line: none once the last was taken, which no space follows.
 #[derive(Clone, Copy)]
 pub(crate) struct Fields<'t> {
@@ -78,9 +81,17 @@ impl<'t> Fields<'t> {
         read_id(self.take_field()?)
     }
 
-    /// All fields that are left as ids; perhaps none.
+    /// How many ids the fields that are left are, where each is one.
+    fn id_count(&self) -> usize {
+        match self.left {
+            None => 0,
+            Some(left) => (left.len() / (ID_DIGITS + 1)).saturating_add(1),
+        }
+    }
+
+    /// All fields that are left as ids; perhaps none. They take no more room than they need.
     pub(crate) fn take_ids<A: Allocator>(self, alloc: A) -> Result<Vec<ObjectId, A>, LineFault> {
-        let mut ids = Vec::new(alloc);
+        let mut ids = Vec::with_capacity(alloc, self.id_count())?;
         for field in self {
             ids.push(read_id(field)?)?;
         }

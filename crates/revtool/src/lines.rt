@@ -35,6 +35,13 @@ pub(crate) enum Command<'t, A: Allocator> {
     List(&'t [u8]),
 }
 
+impl<'t, A: Allocator> Command<'t, A> {
+    /// Whether a revision text is resolved for it.
+    pub(crate) fn is_resolved(&self) -> bool {
+        matches!(self, Command::Spec(_) | Command::List(_))
+    }
+}
+
 /// A commit, and zero or more others.
 #[derive(Drop)]
 pub(crate) struct Heads<A: Allocator> {
@@ -65,6 +72,15 @@ pub(crate) fn read_line<'t, A: Allocator + Copy>(
         b"spec" => Ok(Line::Command(Command::Spec(fields.rest().unwrap_or(&[])))),
         b"list" => Ok(Line::Command(Command::List(fields.rest().unwrap_or(&[])))),
         _ => Err(LineFault::Unreadable),
+    }
+}
+
+/// The id of the commit that a line is; `None` for another line.
+pub(crate) fn commit_id(line: &[u8]) -> Option<ObjectId> {
+    let mut fields = Fields::of(line);
+    match fields.take_field() {
+        Ok(b"commit") => fields.take_id().ok(),
+        _ => None,
     }
 }
 

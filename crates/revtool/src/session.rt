@@ -2,13 +2,13 @@
 //! references, and the commands in order.
 
 use crate::fields::LineFault;
-use crate::lines::{Command, Line, read_line};
+use crate::lines::{Command, Line, commit_id, read_line};
 use crate::stop::Stop;
 use gix_resolve::Table;
 use gix_revision::describe::Options;
-use gix_revision::graph::{MemorySource, SourceCommit};
+use gix_revision::graph::MemorySource;
 use gix_revision::hash::ObjectId;
-use std::alloc::Allocator;
+use std::alloc::{AllocError, Allocator};
 use std::borrow::CowSlice;
 use std::collections::{BTreeMap, BTreeSet};
 
@@ -18,7 +18,8 @@ pub(crate) struct Session<'t, A: Allocator> {
     pub(crate) source: MemorySource<A>,
     /// What each `describe` line is answered by: all names of the text.
     pub(crate) options: Options<'t, A>,
-    /// What `spec` and `list` lines are answered by: all references of the text, and the ids of its commits.
+    /// What `spec` and `list` lines are answered by: all references of the text, and where there is such a line the
+    /// ids of its commits.
     pub(crate) table: Table<A>,
     pub(crate) commands: Vec<Command<'t, A>, A>,
 }
@@ -50,7 +51,21 @@ pub(crate) fn read_lines<'t, A: Allocator + Copy>(
             Err(LineFault::OutOfMemory) => return Err(Stop::OutOfMemory),
         }
     }
+    // No other command asks which ids there are, and a set of them is large.
+    if session.commands.iter().any(|command| command.is_resolved()) {
+        add_ids(text, &mut session.table)?;
+    }
     Ok(session)
+}
+
+// The ids of all commits of a text. Each line of it was read before.
+fn add_ids<A: Allocator + Copy>(text: &[u8], table: &mut Table<A>) -> Result<(), AllocError> {
+    for line in text.split(|byte| *byte == b'\n') {
+        if let Some(id) = commit_id(line) {
+            table.ids.insert(id)?;
+        }
+    }
+    Ok(())
 }
 
 // One more line. A commit, or a name, whose id was there before is refused, and so is a reference
@@ -61,22 +76,11 @@ fn add_line<'t, A: Allocator + Copy>(
     session: &mut Session<'t, A>,
 ) -> Result<(), LineFault> {
     match read_line(alloc, line)? {
-        Line::Commit(id, commit) => add_commit(id, commit, session)?,
+        Line::Commit(id, commit) => session.source.insert(id, commit)?,
         Line::Name(id, name) => add_name(id, name, &mut session.options)?,
         Line::Ref(id, name) => add_ref(alloc, id, name, &mut session.table)?,
         Line::Command(command) => session.commands.push(command)?,
     }
-    Ok(())
-}
-
-// One more commit.
-fn add_commit<A: Allocator + Copy>(
-    id: ObjectId,
-    commit: SourceCommit<A>,
-    session: &mut Session<'_, A>,
-) -> Result<(), LineFault> {
-    session.source.insert(id, commit)?;
-    session.table.ids.insert(id)?;
     Ok(())
 }
 
