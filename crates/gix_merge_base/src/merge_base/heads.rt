@@ -4,7 +4,8 @@ ghost use Rattle.std.specs.Prelude.{◌≡◌, Some, IfOk, OnOk, Ok, IfErr, IsTr
 ghost use Rattle.std.specs.List.{list_all};
 ghost use Rattle.gix_revwalk.specs.History.{same_id, IsAcyclic, GenerationsNeverRise};
 ghost use Rattle.gix_revwalk.specs.Faults.{count_after};
-ghost use Rattle.gix_revwalk.specs.Walks.{KeepsHeld};
+ghost use Rattle.gix_revwalk.specs.Walks.{KeepsHeld, all_added};
+ghost use Rattle.gix_merge_base.specs.Bases.{ids_of};
 ghost use Rattle.gix_merge_base.specs.Octopus.{IsOctopusBase, IsCommonToAll};
 ghost use Rattle.gix_merge_base.specs.OctopusSteps.{AddsBases, CoversEach, IsStep};
 ghost use Rattle.gix_merge_base.specs.OctopusSteps.{AreOctopusBases, IsBestOf};
@@ -16,10 +17,11 @@ use crate::merge_base::flags::Flags;
 use crate::merge_base::function::merge_base;
 use crate::merge_base::order::{Candidate, candidate_of};
 use crate::merge_base::reduction::reduce;
+use gix_base::error::NonEmpty;
 use gix_base::hash::ObjectId;
 use gix_revwalk::graph::{Commit, Find, Graph};
 use gix_revwalk::seen::Seen;
-use std::alloc::Allocator;
+use std::alloc::{AllocError, Allocator};
 use std::cmp::Reverse;
 
 /// Whether each of `ids` is `id`.
@@ -27,6 +29,20 @@ fn all_are(ids: &[ObjectId], id: ObjectId) -> bool
     ensures { result ≡ list_all (same_id id) ids.now }
 {
     ids.iter().all(|other| id == *other)
+}
+
+/// Adds the ids that a call of [`merge_base`] found.
+fn add_found<A: Allocator + Copy>(
+    found: &Option<NonEmpty<ObjectId, A>>,
+    all: &mut Seen<A>,
+) -> Result<(), AllocError>
+    ensures { OnOk result (all.new ≡ all_added all.old (ids_of found.now)) }
+{
+    if let Some(ids) = found {
+        all.add(ids.head)?;
+        all.add_all(&ids.tail)?;
+    }
+    Ok(())
 }
 
 /// Adds the bases of `base` and `other` to `all`.
@@ -41,11 +57,8 @@ fn add_bases<S: Find, A: Allocator + Copy>(
         → OnOk result (AddsBases (S.history graph.old.source) base other all.old all.new) }
     ensures after { AfterCall S.history S.fault_count graph.old graph.new result }
 {
-    let Some(found) = merge_base(alloc, base, &[other], graph)? else {
-        return Ok(());
-    };
-    all.add(found.head)?;
-    all.add_all(&found.tail)?;
+    let found = merge_base(alloc, base, &[other], graph)?;
+    add_found(&found, all)?;
     Ok(())
 }
 
