@@ -21,6 +21,7 @@ pub mod Numbering
 pub mod Marking
 pub mod LookedUp
 pub mod WalkQueue
+pub mod Lacking
 pub mod WalkSteps
 pub mod Choosing
 pub mod PopsCounted

@@ -1,5 +1,6 @@
 -- Numbers of commits that are met, over one more and over another value of one.
-use Rattle.std.proofs.Common.{◌≡◌, ◌<◌, ◌∙◌, ℕ, suc, true, false, cond, refl, ap, sym, subst, [], ◌∷◌, ◌++◌, map, length, Option, Some, None, is_some, arith}
+use Rattle.std.proofs.Common.{◌≡◌, ◌<◌, ◌∙◌, ℕ, suc, true, false, cond, refl, ap, sym, subst, List, [], ◌∷◌, ◌++◌, map, length, Option, Some, None, is_some, arith}
+use Rattle.std.specs.Option.{unwrap_or}
 use Rattle.std.specs.Prelude.{All}
 use Rattle.std.specs.List.Sorted.{IsPermutation}
 use Rattle.std.specs.Map.{lookup}
@@ -8,9 +9,10 @@ use Rattle.std.proofs.lemmas.List.Sorted.{All-permutation}
 use Rattle.gix_base.specs.declared.hash.ObjectId.{ObjectId}
 use Rattle.gix_revwalk.specs.History.{same_id}
 use Rattle.gix_revwalk.specs.Graph.{Graphed, held_at, held_len}
+use Rattle.gix_revwalk.specs.Noted.{noted_at}
 use Rattle.gix_revwalk.specs.Numbers.{place_of, number_at, named, value_at, Puts}
 use Rattle.gix_revwalk.proofs.Ids.{same_id-itself}
-use Rattle.gix_revwalk.proofs.Places.{place-item, place-push, lookup-has, lookup-push, lookup-at, number-within}
+use Rattle.gix_revwalk.proofs.Places.{place-item, place-push, lookup-has, lookup-push, lookup-at, lookup-none, number-within}
 use Rattle.gix_revwalk.proofs.Growth.{place-grown}
 use Rattle.gix_describe.specs.declared.describe.key.Key.{Key}
 use Rattle.gix_describe.specs.declared.describe.met.Met.{Met}
@@ -18,12 +20,18 @@ use Rattle.gix_describe.specs.Handing.{Queue}
 use Rattle.gix_describe.specs.Numbered.{IsNumbered, AreNumbered, KeepsNumbers}
 use Rattle.gix_describe.proofs.Handing.{all_cons}
 
+abbrev no_count : Option ℕ
+no_count = None
+
 -- what has a number is held, and what has none is not
 pub number_held : {S : Type 0} (g : Graphed S ℕ) (q : ObjectId) (k : ℕ) → Some k ≡ number_at g q → is_some (held_at g q) ≡ true
 number_held g q k e = lookup-has g.held q ∙ ap is_some (sym e)
 
 pub unnumbered : {S : Type 0} (g : Graphed S ℕ) (q : ObjectId) → None ≡ number_at g q → is_some (held_at g q) ≡ false
 unnumbered g q e = lookup-has g.held q ∙ ap is_some (sym e)
+
+pub absent_at : {S : Type 0} (g : Graphed S ℕ) (q : ObjectId) → None ≡ number_at g q → held_at g q ≡ None
+absent_at g q e = lookup-none g.held q e
 
 pub not_held : {S : Type 0} (g : Graphed S ℕ) (q : ObjectId) → held_at g q ≡ None → number_at g q ≡ None
 not_held g q e = by (number_at g q) (sym (lookup-has g.held q) ∙ ap is_some e)
@@ -89,3 +97,14 @@ same_number m n q e = ap (λ l. place_of (map (λ e. e.0) l) q) e
 
 pub same_held : {S : Type 0} (m n : Graphed S ℕ) (q : ObjectId) → n.held ≡ m.held → held_at n q ≡ held_at m q
 same_held m n q e = ap (lookup (same_id q)) e
+
+-- what is noted stays
+pub same_noted : {S : Type 0} (m n : Graphed S ℕ) (q : ObjectId) → n.marked ≡ m.marked → noted_at n q ≡ noted_at m q
+same_noted m n q e = ap (λ l. is_some (unwrap_or (lookup (same_id q) l) None)) e
+
+pub add_noted : {S : Type 0} (m n : Graphed S ℕ) (id q : ObjectId) → n.marked ≡ m.marked ++ (id, None) ∷ [] → noted_at n q ≡ noted_at m q
+add_noted m n id q e = ap (λ l. is_some (unwrap_or (lookup (same_id q) l) None)) e ∙ ap is_some (by m.marked)
+  where
+    by : (xs : List (ObjectId × Option ℕ)) → unwrap_or (lookup (same_id q) (xs ++ (id, None) ∷ [])) None ≡ unwrap_or (lookup (same_id q) xs) None
+    by [] = elim (same_id q id) as (λ b. unwrap_or (cond b (Some no_count) None) no_count ≡ no_count) [ true ↦ refl | false ↦ refl ]
+    by (x ∷ xs) = elim (same_id q x.0) as (λ b. unwrap_or (cond b (Some x.1) (lookup (same_id q) (xs ++ (id, None) ∷ []))) None ≡ unwrap_or (cond b (Some x.1) (lookup (same_id q) xs)) None) [ true ↦ refl | false ↦ by xs ]

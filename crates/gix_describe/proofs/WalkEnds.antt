@@ -171,6 +171,7 @@ takes_of h s names cap k x w0 w1 g e next perm same counts seen =
         has = e.at.has;
         queue = r.2;
         numbered = n.1;
+        noted = e.at.noted;
         marked = subst (λ l. IsMarked h s e.popped l (held_at g)) (sym same) e.at.marked;
         seen = seen ∙ e.at.seen;
       };
@@ -197,6 +198,7 @@ taken_of {S} {A} {k} h s place count x cut w0 w1 g e next perm same seen =
         has = e.at.has;
         queue = r.2;
         numbered = n.1;
+        noted = e.at.noted;
         marked = subst (λ l. IsMarked h s e.popped l (held_at g)) (sym same) e.at.marked;
         seen = seen ∙ e.at.seen;
       };

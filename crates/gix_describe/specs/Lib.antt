@@ -14,5 +14,6 @@ pub mod Asks
 pub mod Trace
 pub mod Handing
 pub mod Numbered
+pub mod Lacking
 pub mod WalkState
 pub mod Choice

@@ -4,6 +4,7 @@ use Rattle.std.specs.Int.{bit_at}
 use Rattle.std.specs.List.{IsDistinct, filter}
 use Rattle.gix_base.specs.declared.hash.ObjectId.{ObjectId}
 use Rattle.gix_revwalk.specs.Graph.{Graphed, held_at}
+use Rattle.gix_revwalk.specs.Noted.{noted_at}
 use Rattle.gix_revwalk.specs.History.{History, entry_at, parents_in, same_id, is_one_of, Has}
 use Rattle.gix_describe.specs.Described.{Names, IsNamed}
 use Rattle.gix_describe.specs.Trace.{is_met, is_open, has_mark, late_of, is_named, IsNext, IsWalk}
@@ -30,12 +31,13 @@ pub record IsCounted (h : History) (s : ObjectId) (popped : List ObjectId) (cand
   pub each : length counts ≡ length candidates
   pub late : (j : ℕ) → j < length candidates → slice_index counts j ≡ length (late_of h (get_or candidates j s) popped)
 
--- these were popped, and the queue has what `picks` picks
+-- these were popped, which the graph has noted, and the queue has what `picks` picks
 pub record IsAt {S A : Type 0} (h : History) (s : ObjectId) (popped : List ObjectId) (picks : ObjectId → Bool) (w : Walk A) (g : Graphed S ℕ) : Type 0 where
   pub walk : IsWalk h s popped
   pub has : Has h s
   pub queue : IsQueue h s w.queue picks
   pub numbered : AreNumbered g w.queue
+  pub noted : (c : ObjectId) → noted_at g c ≡ is_one_of popped c
   pub marked : IsMarked h s popped w.candidates.items (held_at g)
   pub seen : w.seen ≡ length popped
 

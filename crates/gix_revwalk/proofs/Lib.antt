@@ -5,6 +5,7 @@ pub mod NodeSteps
 pub mod Taken
 pub mod Given
 pub mod Growth
+pub mod Noted
 pub mod Kept
 pub mod Sources
 pub mod Queues

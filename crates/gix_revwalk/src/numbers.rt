@@ -3,7 +3,7 @@
 //!
 //! A number stands for one held id of one graph, until that graph is cleared.
 
-ghost use Rattle.std.specs.Prelude.{◌≡◌, ◌<◌, List, [], ◌∷◌, ◌++◌, length, Some, None, IsTrue, IsOk, is_some, IfSome, IfOk, OnOk, OnErr, map};
+ghost use Rattle.std.specs.Prelude.{◌≡◌, ◌<◌, ◌||◌, List, [], ◌∷◌, ◌++◌, length, Some, None, IsTrue, IsOk, is_some, IfSome, IfOk, OnOk, OnErr, false, map};
 ghost use Rattle.std.specs.Option.{option_map};
 ghost use Rattle.gix_base.specs.declared.hash.ObjectId.{ObjectId};
 ghost use Rattle.gix_revwalk.specs.Faults.{count_after, is_source_fault};
@@ -14,6 +14,8 @@ ghost use Rattle.gix_revwalk.specs.Held.{entry_of};
 ghost use Rattle.gix_revwalk.specs.Number.{place_in};
 ghost use Rattle.gix_revwalk.specs.Numbers.{number_at, named, value_at, held_ids, item_at, Grows, HoldsMore, Puts};
 ghost use Rattle.gix_revwalk.specs.Nodes.{unturned};
+ghost use Rattle.gix_revwalk.specs.Noted.{noted_at};
+ghost use Rattle.gix_revwalk.specs.History.{same_id};
 ghost use Rattle.gix_revwalk.specs.Rows.{AreNumbers};
 
 use crate::graph::{Commit, Error, Find, Graph, Held, Node, Row, SourceCommit};
@@ -62,6 +64,7 @@ pub fn ask<S: Find, T: Held, A: Allocator + Copy>(
     id: ObjectId,
 ) -> Result<Option<SourceCommit<A>>, Error>
     ensures held { graph.new.held ≡ graph.old.held }
+    ensures marked { graph.new.marked ≡ graph.old.marked }
     ensures history { S.history graph.new.source ≡ S.history graph.old.source }
     ensures found { IfOk result
         (λ found. option_map entry_of found ≡ entry_at (S.history graph.old.source) id) }
@@ -117,6 +120,8 @@ pub fn add<S: Find, T: Held, A: Allocator + Copy>(
     ensures number { IfOk result (λ n. place_in n ≡ held_len graph.old) }
     ensures held { OnOk result (graph.new.held ≡ graph.old.held ++ (id, value) ∷ []) }
     ensures marked { OnOk result (graph.new.marked ≡ graph.old.marked ++ (id, None) ∷ []) }
+    ensures unnoted { OnOk result
+        ((q : ObjectId) → held_at graph.old q ≡ None → noted_at graph.old q ≡ false) }
     ensures refused { OnErr result (graph.new ≡ graph.old) }
 {
     let number = Number::at(graph.nodes.len())?;
@@ -145,6 +150,29 @@ pub fn put<S: Find, A: Allocator>(graph: &mut Graph<S, u32, A>, number: Number, 
     let old = node.value;
     node.value = value;
     old
+}
+
+/// Notes a held id in the walk that is going on. Its value stays.
+pub fn note<S: Find, T: Held, A: Allocator>(graph: &mut Graph<S, T, A>, number: Number)
+    requires { place_in number < held_len graph.old }
+    ensures source { graph.new.source ≡ graph.old.source }
+    ensures held { graph.new.held ≡ graph.old.held }
+    ensures noted { (id : ObjectId) → named graph.old (place_in number) ≡ Some id
+        → (q : ObjectId) → noted_at graph.new q ≡ (same_id id q || noted_at graph.old q) }
+{
+    let turn = graph.turn;
+    let node = &mut graph.nodes[number.place()];
+    node.queued = 0;
+    node.turn = turn;
+}
+
+/// Whether the walk that is going on has noted a held id.
+pub fn is_noted<S: Find, T: Held, A: Allocator>(graph: &Graph<S, T, A>, number: Number) -> bool
+    requires { place_in number < held_len graph.now }
+    ensures { (id : ObjectId) → named graph.now (place_in number) ≡ Some id
+        → result ≡ noted_at graph.now id }
+{
+    graph.nodes[number.place()].turn == graph.turn
 }
 
 /// Takes the turn of each node from it.

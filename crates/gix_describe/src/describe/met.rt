@@ -1,10 +1,11 @@
 //! Commits that a walk meets, as the source has them.
 
-ghost use Rattle.std.specs.Prelude.{◌≡◌, ◌&&◌, IfOk, IfSome, OnOk, Some, None, is_some, cond, take};
+ghost use Rattle.std.specs.Prelude.{◌≡◌, ◌&&◌, IfOk, IfSome, OnOk, Some, None, is_some, cond, false, take};
 ghost use Rattle.gix_revwalk.specs.Followed.{followed};
 ghost use Rattle.gix_revwalk.specs.Held.{entry_of};
 ghost use Rattle.gix_revwalk.specs.History.{History, entry_at, same_id};
 ghost use Rattle.gix_revwalk.specs.Graph.{held_at};
+ghost use Rattle.gix_revwalk.specs.Noted.{noted_at};
 ghost use Rattle.gix_revwalk.specs.Numbers.{number_at};
 ghost use Rattle.std.specs.Option.{option_map};
 ghost use Rattle.gix_base.specs.declared.hash.ObjectId.{ObjectId};
@@ -54,6 +55,7 @@ fn asked_for<S: Find, A: Allocator + Copy>(
     ensures found { IfOk result
         (λ found. option_map entry_of found ≡ entry_at (S.history graph.old.source) id) }
     ensures held { graph.new.held ≡ graph.old.held }
+    ensures marked { graph.new.marked ≡ graph.old.marked }
     ensures asked { (h : History) → Asks S.history S.fault_count (IsHandRefused h child)
         graph.old.source graph.new.source (refusal result) }
 {
@@ -88,6 +90,9 @@ pub(crate) fn take_in<S: Find, A: Allocator + Copy>(
         ≡ cond (is_some found && same_id id q) (Some marks) (held_at graph.old q)) }
     ensures number { IfOk result (λ found. IfSome found (λ m. IsNumbered graph.new m.1)) }
     ensures numbers { OnOk result (KeepsNumbers graph.old graph.new) }
+    ensures noted { OnOk result ((q : ObjectId) → noted_at graph.new q ≡ noted_at graph.old q) }
+    ensures unnoted { IfOk result (λ found. IfSome found
+        (λ _. (q : ObjectId) → held_at graph.old q ≡ None → noted_at graph.new q ≡ false)) }
     ensures asked { Asks S.history S.fault_count
         (IsHandRefused (followed first_parent (S.history graph.old.source)) child)
         graph.old.source graph.new.source (refusal result) }

@@ -7,18 +7,20 @@ ghost use Rattle.std.specs.List.Sorted.{IsPermutation};
 ghost use Rattle.gix_base.specs.declared.hash.ObjectId.{ObjectId};
 ghost use Rattle.gix_revwalk.specs.Followed.{followed};
 ghost use Rattle.gix_revwalk.specs.Graph.{Graphed, held_at};
+ghost use Rattle.gix_revwalk.specs.Noted.{noted_at};
 ghost use Rattle.gix_revwalk.specs.History.{History, is_one_of, same_id};
 ghost use Rattle.std.specs.Ordering.{is_lt, is_gt};
 ghost use Rattle.gix_describe.specs.Asks.{Asks, IsHandRefused, IsWalkRefused};
 ghost use Rattle.gix_describe.specs.DescribeRefusals.{refusal};
 ghost use Rattle.gix_describe.specs.Choice.{rank_order, rank_at, name_of, IsChosen, IsFound};
 ghost use Rattle.gix_describe.specs.Described.{name_at};
-ghost use Rattle.gix_describe.specs.Handing.{bits, queued_ids};
+ghost use Rattle.gix_describe.specs.Handing.{bits};
+ghost use Rattle.gix_describe.specs.Lacking.{lacks, lacking_in};
 ghost use Rattle.gix_describe.specs.Numbered.{IsNumbered, AreNumbered, KeepsNumbers};
 ghost use Rattle.gix_describe.specs.Order.{HoldsFirst, IsTied};
 ghost use Rattle.gix_describe.specs.Outcomes.{names_of};
 
-use crate::describe::handing::{count_late, hand_on, is_settled, mark, marks_of};
+use crate::describe::handing::{Hand, bit_of, count_late, hand_on, is_settled, mark, marks_of};
 use crate::describe::key::Key;
 use crate::describe::met::{Met, Queue, take_in};
 use crate::describe::options::Names;
@@ -57,31 +59,21 @@ fn name_bytes<'a, 'name, A: Allocator + Copy>(names: &'a Names<'name, A>, id: &O
     }
 }
 
-/// The bit of a place.
-fn bit_of(marks: u32, place: usize) -> u32
-    requires few { place < 32 }
-    ensures { result ≡ bit_at marks place }
-{
-    (marks >> place) & 1
-}
-
-/// Whether each queued commit has the mark of a place.
-fn all_marked<S: Find, A: Allocator + Copy>(
+/// How many of the queued commits lack the mark of a place.
+fn lacking_of<S: Find, A: Allocator + Copy>(
     queue: &Queue<A>,
     place: usize,
     graph: &Graph<S, u32, A>,
-) -> bool
+) -> usize
     requires few { place < 32 }
     requires numbered { AreNumbered graph.now queue.now }
-    ensures { IsTrue result ↔ ((c : ObjectId) → IsTrue (is_one_of (queued_ids queue.now) c)
-        → bit_at (bits (held_at graph.now c)) place ≡ 1) }
+    ensures { result ≡ lacking_in (Some place) (held_at graph.now) queue.now }
 {
+    let mut lacking = queue.len();
     for met in queue.iter_unordered() {
-        if bit_of(marks_of(met, graph), place) == 0 {
-            return false;
-        }
+        lacking -= bit_of(marks_of(met, graph), place) as usize;
     }
-    true
+    lacking
 }
 
 impl<A: Allocator + Copy> Walk<A> {
@@ -148,6 +140,7 @@ impl<A: Allocator + Copy> Walk<A> {
         ensures candidates { OnOk result (self.new.candidates.items ≡ self.old.candidates.items ++ met.now.id ∷ []) }
         ensures counts { OnOk result (self.new.counts.items ≡ self.old.counts.items ++ self.old.seen ∷ []) }
         ensures numbers { KeepsNumbers graph.old graph.new }
+        ensures noted { (q : ObjectId) → noted_at graph.new q ≡ noted_at graph.old q }
         ensures marks { (q : ObjectId) → held_at graph.new q ≡ cond (same_id met.now.id q)
             (option_map (λ k. bit_or k (2 ^ length self.old.candidates.items)) (held_at graph.old q)) (held_at graph.old q) }
         ensures queue { self.new.queue ≡ self.old.queue }
@@ -155,7 +148,7 @@ impl<A: Allocator + Copy> Walk<A> {
         ensures source { graph.new.source ≡ graph.old.source }
         ensures refused { IfErr result (λ e. e ≡ Message.OutOfMemory) }
     {
-        mark(met.number, 1 << self.candidates.len(), graph);
+        let _ = mark(met.number, 1 << self.candidates.len(), graph);
         if self.candidates.push(met.id).is_err() || self.counts.push(self.seen).is_err() {
             return Err(Message::OutOfMemory);
         }
@@ -231,14 +224,13 @@ impl<A: Allocator + Copy> Walk<A> {
         if self.queue.is_empty() && !self.candidates.is_empty() && is_settled(&self.counts, marks) {
             return Ok(true);
         }
-        hand_on(
-            alloc,
-            met,
+        let hand = Hand {
             marks,
-            search.first_parent,
-            &mut self.queue,
-            graph,
-        )?;
+            first_parent: search.first_parent,
+            place: None,
+        };
+        let mut uncounted = 0;
+        hand_on(alloc, met, hand, &mut uncounted, &mut self.queue, graph)?;
         Ok(false)
     }
 
@@ -332,18 +324,21 @@ impl<A: Allocator + Copy> Walk<A> {
         Some(best)
     }
 
-    /// A popped commit is counted for one candidate, and its parents are met. Where it and all that is
-    /// queued have the candidate's mark, the count is complete: `true`.
+    /// A popped commit is counted for one candidate, and its parents are met. Of it and all that is
+    /// queued some lack the candidate's mark; where none does, the count is complete: `true`.
     fn pass_for<S: Find>(
         &mut self,
         alloc: A,
         met: &Met<A>,
         place: usize,
         count: u32,
+        lacking: &mut usize,
         search: Search,
         graph: &mut Graph<S, u32, A>,
     ) -> Result<(u32, bool), Message>
         requires few { place < 32 }
+        requires lacking { lacking.old ≡ lacks (Some place) (bits (held_at graph.old met.now.id))
+            + lacking_in (Some place) (held_at graph.old) self.old.queue }
         requires taken { (cut : ℕ) × CompletesTaken (followed search.first_parent (S.history graph.old.source))
             search.start place count met.now cut self.old graph.old }
         ensures passed { IfOk result (λ r. (cut : ℕ)
@@ -355,6 +350,8 @@ impl<A: Allocator + Copy> Walk<A> {
             (held_at graph.new))
             (Completes (followed search.first_parent (S.history graph.old.source)) search.start
             place r.0 cut self.new graph.new)) }
+        ensures lacking { IfOk result (λ r. r.1 ≡ false
+            → lacking.new ≡ lacking_in (Some place) (held_at graph.new) self.new.queue) }
         ensures seen { OnOk result (self.new.seen ≡ self.old.seen + 1) }
         ensures candidates { self.new.candidates ≡ self.old.candidates }
         ensures asked { Asks S.history S.fault_count
@@ -365,19 +362,18 @@ impl<A: Allocator + Copy> Walk<A> {
             return Err(Message::CounterFull);
         }
         self.seen += 1;
-        let marks = marks_of(met, graph);
-        let late = 1 - bit_of(marks, place);
-        if late == 0 && all_marked(&self.queue, place, graph) {
+        if *lacking == 0 {
             return Ok((count, true));
         }
-        hand_on(
-            alloc,
-            met,
+        let marks = marks_of(met, graph);
+        let late = 1 - bit_of(marks, place);
+        *lacking = lacking.saturating_sub(late as usize);
+        let hand = Hand {
             marks,
-            search.first_parent,
-            &mut self.queue,
-            graph,
-        )?;
+            first_parent: search.first_parent,
+            place: Some(place),
+        };
+        hand_on(alloc, met, hand, lacking, &mut self.queue, graph)?;
         Ok((count + late, false))
     }
 
@@ -402,8 +398,17 @@ impl<A: Allocator + Copy> Walk<A> {
             graph.old.source graph.new.source (refusal result) }
     {
         let mut depth = count;
+        let mut lacking = lacking_of(&self.queue, place, graph);
         while let Some((_, met)) = self.next() {
-            let (counted, complete) = self.pass_for(alloc, &met, place, depth, search, graph)?;
+            let (counted, complete) = self.pass_for(
+                alloc,
+                &met,
+                place,
+                depth,
+                &mut lacking,
+                search,
+                graph,
+            )?;
             depth = counted;
             if complete {
                 return Ok(depth);

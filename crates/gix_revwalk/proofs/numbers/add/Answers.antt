@@ -5,6 +5,7 @@ use Rattle.gix_revwalk.specs.Nodes.{pair_of}
 use Rattle.gix_revwalk.specs.History.{same_id}
 use Rattle.gix_base.specs.declared.hash.ObjectId.{ObjectId}
 use Rattle.gix_revwalk.proofs.NodeSteps.{nodes-push, agree-push}
+use Rattle.gix_revwalk.proofs.Noted.{unheld-noted}
 use Rattle.gix_revwalk.proofs.numbers.add.Goals as goal
 
 pub invariant_of-graph-else-is_err : goal.invariant_of-graph-else-is_err
@@ -19,3 +20,6 @@ invariant_of-graph-else-is_err g c =
 
 pub returns-clause-number : goal.returns-clause-number
 returns-clause-number g c = rw (← c.graph.view_is) (c.in_ok-number.ensures ∙ c.len.ensures ∙ c.graph.inside.nodes.ok.0 ∙ sym (length-map c.graph.inside.nodes.items pair_of))
+
+pub returns-clause-unnoted : goal.returns-clause-unnoted
+returns-clause-unnoted g c q none = rw (← c.graph.view_is) (unheld-noted c.graph.inside.turn c.graph.inside.nodes.items q (rw (← c.graph.view_is) at none))

@@ -7,7 +7,7 @@ use Rattle.gix_revwalk.specs.Held.{entry_of}
 use Rattle.gix_revwalk.specs.History.{entry_at, same_id}
 use Rattle.gix_revwalk.specs.Numbers.{number_at}
 use Rattle.gix_describe.proofs.Asked.{asks_refused, refusal_came}
-use Rattle.gix_describe.proofs.Numbering.{add_held, add_keeps, add_number, same_held, same_number}
+use Rattle.gix_describe.proofs.Numbering.{add_held, add_keeps, add_noted, add_number, same_held, same_noted, same_number}
 use Rattle.gix_describe.proofs.LookedUp.{found_has, found_time, found_parents}
 use Rattle.gix_describe.proofs.describe.met.take_in.Goals as goal
 
@@ -56,3 +56,14 @@ returns-clause-numbers g c = λ q k e.
     let old = c.asked_for.new.graph in
     let new : number_at old c.args.id ≡ None = same_number c.args.graph.now old c.args.id c.asked_for.ensures.held ∙ c.requires.new in
     add_keeps old c.add.new.graph c.args.id c.args.marks new c.in-Ok.ensures.held q k (e ∙ sym (same_number c.args.graph.now old q c.asked_for.ensures.held))
+
+pub returns-in_default-clause-noted : goal.returns-in_default-clause-noted
+returns-in_default-clause-noted g c = λ q. same_noted c.args.graph.now c.asked_for.new.graph q c.asked_for.ensures.marked
+
+pub returns-clause-noted : goal.returns-clause-noted
+returns-clause-noted g c = λ q.
+    add_noted c.asked_for.new.graph c.add.new.graph c.args.id q c.in-Ok.ensures.marked ∙ same_noted c.args.graph.now c.asked_for.new.graph q c.asked_for.ensures.marked
+
+pub returns-clause-unnoted : goal.returns-clause-unnoted
+returns-clause-unnoted g c = λ q none.
+    add_noted c.asked_for.new.graph c.add.new.graph c.args.id q c.in-Ok.ensures.marked ∙ c.in-Ok.ensures.unnoted q (same_held c.args.graph.now c.asked_for.new.graph q c.asked_for.ensures.held ∙ none)

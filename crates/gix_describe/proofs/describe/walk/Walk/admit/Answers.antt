@@ -49,6 +49,7 @@ returns-then-len-search-clause-admitted g c =
         has = t.at.has;
         queue = rw c.take_up.ensures.queue t.at.queue;
         numbered = rw c.take_up.ensures.queue (numbered_kept c.args.graph.now c.take_up.new.graph _ c.take_up.ensures.numbers t.at.numbered);
+        noted = λ q. c.take_up.ensures.noted q ∙ t.at.noted q;
         marked = rw more (marked_takes h s t.popped old x (held_at c.args.graph.now) (held_at c.take_up.new.graph) t.at.marked (open_met h s t.popped x t.next.0) (open_out h s t.popped x t.next.0) c.take_up.ensures.marks);
         seen = c.take_up.ensures.seen ∙ t.at.seen;
       };
@@ -76,6 +77,7 @@ returns-clause-admitted g c =
         has = t.at.has;
         queue = queue_back h s t.popped c.args.next.0 c.args.next.1 c.args.self.now.queue c.insert.new.self t.at.queue t.next.0 t.entry queued;
         numbered = numbered_more c.args.graph.now c.args.graph.now c.args.next.0 c.args.next.1 c.args.self.now.queue c.insert.new.self (λ q k e. e) t.number queued t.at.numbered;
+        noted = t.at.noted;
         marked = t.at.marked;
         seen = t.at.seen;
       };

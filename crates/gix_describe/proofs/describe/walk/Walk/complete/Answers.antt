@@ -4,6 +4,8 @@ use Rattle.gix_revwalk.specs.Followed.{followed}
 use Rattle.gix_describe.proofs.WalkSteps.{bounded}
 use Rattle.gix_describe.proofs.Asked.{asks_on, refusal_came}
 use Rattle.gix_describe.proofs.WalkEnds.{taken_of, completes_ended}
+use Rattle.gix_revwalk.specs.Graph.{held_at}
+use Rattle.gix_describe.proofs.Lacking.{lacking_popped}
 use Rattle.gix_describe.proofs.describe.walk.Walk.complete.Goals as goal
 
 fewer : (n h k i j : ℕ) → h ≡ n → k ≡ n → j ≡ i + 1 → j ≤ n → k - j < h - i
@@ -35,12 +37,17 @@ pass_for-requires-clause-taken g c =
     let h = followed c.args.search.first_parent (g.S.Find.history c.args.graph.now.source) in
     (c.args.self.now.seen, rw c.loop-met.invariant.asked.same_history (taken_of h c.args.search.start c.args.place c.loop-met.depth c.in-Some.met c.args.self.now.seen c.loop-met.self c.next.new.self c.loop-met.graph c.loop-met.invariant.completes (c.in-Some.ensures.next h c.args.search.start c.loop-met.invariant.completes.popped) c.in-Some.ensures.taken (ap (λ v. v.items) c.next.ensures.candidates) c.next.ensures.seen))
 
+pub pass_for-requires-clause-lacking : goal.pass_for-requires-clause-lacking
+pass_for-requires-clause-lacking g c =
+    c.loop-met.invariant.lacking ∙ lacking_popped (Some c.args.place) (held_at c.loop-met.graph) _ c.in-Some.met c.loop-met.self.queue c.next.new.self.queue c.in-Some.ensures.taken
+
 pub loop-met-preserved : goal.loop-met-preserved
 loop-met-preserved g c =
     let h = followed c.args.search.first_parent (g.S.Find.history c.args.graph.now.source) in
     let passed = rw (c.loop-met.invariant.asked.same_history, c.if-complete.false) at c.in_ok-counted.ensures.passed in
     record {
       completes = passed c.args.self.now.seen (taken_of h c.args.search.start c.args.place c.loop-met.depth c.in-Some.met c.args.self.now.seen c.loop-met.self c.next.new.self c.loop-met.graph c.loop-met.invariant.completes (c.in-Some.ensures.next h c.args.search.start c.loop-met.invariant.completes.popped) c.in-Some.ensures.taken (ap (λ v. v.items) c.next.ensures.candidates) c.next.ensures.seen);
+      lacking = c.in_ok-counted.ensures.lacking c.if-complete.false;
       candidates = c.pass_for.ensures.candidates ∙ c.next.ensures.candidates ∙ c.loop-met.invariant.candidates;
       asked = asks_on _ _ _ _ _ _ _ None c.loop-met.invariant.asked (rw c.loop-met.invariant.asked.same_history at c.in_ok-counted.ensures.asked);
     }

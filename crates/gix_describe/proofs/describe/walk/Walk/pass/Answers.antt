@@ -12,6 +12,7 @@ use Rattle.gix_describe.specs.Handing.{bits, IsLowest}
 use Rattle.gix_describe.proofs.WalkSteps.{counted_more, marked_more_by, queue_more, goes_more, hand_refused, next_there, met_there, many, left_marked, late_le, queue_none, bit_true, no_length, some_length, split_push, settled_at, are_settled, zero_from, none_left, queue_some}
 use Rattle.gix_describe.proofs.describe.walk.Walk.pass.Goals.{else-is_empty-via-then-is_empty+then-not-is_empty+else-is_settled, else-is_empty-via-then-is_empty+else-not-is_empty, else-is_empty-via-else-is_empty}
 use Rattle.gix_describe.proofs.Asked.{asks_more, asks_answered, refusal_came}
+use Rattle.gix_describe.proofs.Lacking.{noted_more}
 use Rattle.gix_describe.proofs.describe.walk.Walk.pass.Goals as goal
 
 pub returns-then-self-clause-asked : goal.returns-then-self-clause-asked
@@ -117,6 +118,7 @@ returns-clause-passed g c =
         has = a.at.has;
         queue = queue_more h s a.popped w.candidates.items c.args.met.now.id (held_at c.args.graph.now) (held_at c.hand_on.new.graph) w.queue c.hand_on.new.queue a.at.walk a.next a.at.marked a.at.queue on;
         numbered = c.in_ok-hand_on.ensures.numbered a.at.numbered;
+        noted = λ q. c.in_ok-hand_on.ensures.noted q ∙ noted_more a.popped c.args.met.now.id q _ (a.at.noted q);
         marked = marked_more_by h s a.popped w.candidates.items c.args.met.now.id (held_at c.args.graph.now) (held_at c.hand_on.new.graph) w.queue c.hand_on.new.queue a.at.walk a.next a.at.marked a.at.queue on;
         seen = let seen : w.seen ≡ length a.popped = a.at.seen in omega arith;
       };

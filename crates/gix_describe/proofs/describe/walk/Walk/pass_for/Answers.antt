@@ -1,7 +1,6 @@
-use Rattle.std.proofs.Common.{Some, ◌≡◌, ◌<◌, ◌≤◌, ◌+◌, ◌-◌, ◌∙◌, sym, ap, subst, refl, true, false, [], ◌∷◌, ◌++◌, length, get_or, arith, inl, inr}
+use Rattle.std.proofs.Common.{Some, ◌≡◌, ◌≤◌, ◌+◌, ◌-◌, ◌∙◌, sym, ap, subst, refl, true, [], ◌∷◌, ◌++◌, length, get_or, arith, inl, inr}
 use Rattle.std.specs.Int.{bit_at}
 use Rattle.std.proofs.lemmas.List.{length_push}
-use Rattle.std.proofs.lemmas.Nat.Bits.{bit_at-lt}
 use Rattle.gix_base.specs.declared.hash.ObjectId.{ObjectId}
 use Rattle.gix_revwalk.specs.Followed.{followed}
 use Rattle.gix_revwalk.specs.Graph.{held_at}
@@ -10,7 +9,10 @@ use Rattle.gix_describe.specs.WalkState.{others, IsCompletedAt}
 use Rattle.gix_describe.specs.Handing.{bit}
 use Rattle.gix_revwalk.proofs.Members.{one_of-left}
 use Rattle.gix_describe.proofs.WalkSteps.{marked_more_by, queue_more, goes_more, hand_refused, next_there, met_there, many, left_marked, late_le, bit_true, late_next, split_push}
-use Rattle.gix_describe.proofs.describe.walk.Walk.pass_for.Goals.{else-late-eq0-via-then-late-eq0+else-all_marked, else-late-eq0-via-else-late-eq0}
+use Rattle.gix_describe.specs.Handing.{bits, queued_ids}
+use Rattle.gix_describe.specs.Lacking.{lacking_in}
+use Rattle.gix_describe.proofs.Lacking.{all_have, counts_taken, has_bit, none_lacks, noted_more}
+use Rattle.gix_revwalk.specs.Noted.{noted_at}
 use Rattle.gix_describe.proofs.Asked.{asks_more, asks_answered, refusal_came}
 use Rattle.gix_describe.proofs.describe.walk.Walk.pass_for.Goals as goal
 
@@ -21,19 +23,19 @@ returns-then-self-clause-asked g c =
     let len : length a.popped ≡ 4294967295 = sym a.at.seen ∙ c.if-self.true in
     record { same_history = refl; count = refl; cause = many h c.args.search.start a.popped c.args.met.now.id 4294967295 a.at.walk a.next a.at.has len }
 
-pub returns-then-all_marked-clause-passed : goal.returns-then-all_marked-clause-passed
-returns-then-all_marked-clause-passed g c = λ cut a.
+pub returns-then-lacking-eq0-clause-passed : goal.returns-then-lacking-eq0-clause-passed
+returns-then-lacking-eq0-clause-passed g c = λ cut a.
     let h = followed c.args.search.first_parent (g.S.Find.history c.args.graph.now.source) in
     let s = c.args.search.start in
     let x = c.args.met.now.id in
     let t = get_or c.args.self.now.candidates.items c.args.place s in
-    let low : bit_at c.marks_of-marks.result c.args.place < 2 = bit_at-lt c.marks_of-marks.result c.args.place in
-    let lacks : 1 - bit_at c.marks_of-marks.result c.args.place ≡ 0 = ap (λ b. 1 - b) (sym c.bit_of-late.ensures) ∙ c.if-late-eq0.true in
-    let one : bit_at c.marks_of-marks.result c.args.place ≡ 1 = omega arith in
-    let own : has_mark h t a.popped x ≡ true = bit_true _ (sym (a.at.marked.marks c.args.place a.inside x) ∙ ap (λ m. bit_at m c.args.place) (sym c.marks_of-marks.ensures) ∙ one) in
+    let none : c.args.lacking.now ≡ 0 = c.if-lacking-eq0.true in
+    let sums = c.requires.lacking in
+    let one : bit_at (bits (held_at c.args.graph.now x)) c.args.place ≡ 1 = has_bit _ _ (omega (arith, sums, none)) in
+    let own : has_mark h t a.popped x ≡ true = bit_true _ (sym (a.at.marked.marks c.args.place a.inside x) ∙ one) in
     let pushed : length (a.popped ++ x ∷ []) ≡ length a.popped + 1 = length_push a.popped x in
     let others_marked : (q : ObjectId) → others h s a.popped x q ≡ true → has_mark h t a.popped q ≡ true =
-    λ q k. bit_true _ (sym (a.at.marked.marks c.args.place a.inside q) ∙ c.all_marked.ensures.0 c.if-all_marked.true q (a.at.queue.ids q ∙ k)) in
+    λ q k. bit_true _ (sym (a.at.marked.marks c.args.place a.inside q) ∙ has_bit _ _ (none_lacks (λ z. 1 - bit_at (bits (held_at c.args.graph.now z)) c.args.place) (queued_ids c.args.self.now.queue) (omega (arith, sums, none)) q (a.at.queue.ids q ∙ k))) in
     record {
       popped = a.popped ++ x ∷ [];
       walk = goes_more h s a.popped x a.at.walk a.next;
@@ -71,12 +73,12 @@ returns-clause-passed g c = λ cut a.
     let on = rw c.marks_of-marks.ensures at c.in_ok-hand_on.ensures.handed in
     let pushed : length (a.popped ++ x ∷ []) ≡ length a.popped + 1 = length_push a.popped x in
     let mark : bit_at c.marks_of-marks.result c.args.place ≡ bit (has_mark h t a.popped x) = ap (λ m. bit_at m c.args.place) c.marks_of-marks.ensures ∙ a.at.marked.marks c.args.place a.inside x in
-    let refuted : IsCompletedAt h s t a.popped x → ⊥ = λ st. elim c.else-late-eq0.branch as (λ _. ⊥) [
-      | else-late-eq0-via-then-late-eq0+else-all_marked b ↦
-          let t = b.all_marked.ensures.1 (λ q k. a.at.marked.marks c.args.place a.inside q ∙ ap bit (st.left q (sym (a.at.queue.ids q) ∙ k))) in
-          let f : true ≡ false = sym t ∙ b.if-all_marked.false in cc
-      | else-late-eq0-via-else-late-eq0 b ↦ b.if-late-eq0.false (ap (λ b. 1 - b) (c.bit_of-late.ensures ∙ mark ∙ ap bit st.own))
-    ] in
+    let refuted : IsCompletedAt h s t a.popped x → ⊥ = λ st.
+    let own : bit_at (bits (held_at c.args.graph.now x)) c.args.place ≡ 1 = a.at.marked.marks c.args.place a.inside x ∙ ap bit st.own in
+    let rest = all_have (λ z. 1 - bit_at (bits (held_at c.args.graph.now z)) c.args.place) (queued_ids w.queue)
+    (λ q k. ap (λ b. 1 - b) (a.at.marked.marks c.args.place a.inside q ∙ ap bit (st.left q (sym (a.at.queue.ids q) ∙ k)))) in
+    let sums = c.requires.lacking in
+    c.if-lacking-eq0.false (omega (arith, own, rest, sums)) in
     record {
       popped = a.popped ++ x ∷ [];
       at = record {
@@ -84,6 +86,7 @@ returns-clause-passed g c = λ cut a.
         has = a.has;
         queue = queue_more h s a.popped w.candidates.items x (held_at c.args.graph.now) (held_at c.hand_on.new.graph) w.queue c.hand_on.new.queue a.at.walk a.next a.at.marked a.at.queue on;
         numbered = c.in_ok-hand_on.ensures.numbered a.at.numbered;
+        noted = λ q. c.in_ok-hand_on.ensures.noted q ∙ noted_more a.popped x q _ (a.at.noted q);
         marked = marked_more_by h s a.popped w.candidates.items x (held_at c.args.graph.now) (held_at c.hand_on.new.graph) w.queue c.hand_on.new.queue a.at.walk a.next a.at.marked a.at.queue on;
         seen = let seen : w.seen ≡ length a.popped = a.at.seen in omega arith;
       };
@@ -116,3 +119,16 @@ pub hand_on-requires-clause-known : goal.hand_on-requires-clause-known
 hand_on-requires-clause-known g c = λ q held.
     let a = c.requires.taken.1 in
     met_there (followed c.args.search.first_parent (g.S.Find.history c.args.graph.now.source)) c.args.search.start a.popped q a.at.has (sym (a.at.marked.met q) ∙ held)
+
+pub returns-clause-lacking : goal.returns-clause-lacking
+returns-clause-lacking g c = λ _.
+    let a = c.requires.taken.1 in
+    let h = followed c.args.search.first_parent (g.S.Find.history c.args.graph.now.source) in
+    let s = c.args.search.start in
+    let x = c.args.met.now.id in
+    let w = c.args.self.now in
+    let late : c.bit_of-late.result ≡ bit_at (bits (held_at c.args.graph.now x)) c.args.place = c.bit_of-late.ensures ∙ ap (λ m. bit_at m c.args.place) c.marks_of-marks.ensures in
+    let had : c.args.lacking.now ≡ (1 - bit_at (bits (held_at c.args.graph.now x)) c.args.place) + lacking_in (Some c.args.place) (held_at c.args.graph.now) w.queue = c.requires.lacking in
+    let less : c.saturating_sub.result ≡ c.args.lacking.now - (1 - c.bit_of-late.result) = c.saturating_sub.ensures in
+    let is : c.saturating_sub.result ≡ lacking_in (Some c.args.place) (held_at c.args.graph.now) w.queue = omega (arith, late, had, less) in
+    (c.in_ok-hand_on.ensures.counts (counts_taken h s a.popped w.candidates.items x (Some c.args.place) (held_at c.args.graph.now) (noted_at c.args.graph.now) w.queue c.saturating_sub.result a.at.queue a.at.marked a.at.noted is)).count
