@@ -1,6 +1,7 @@
 -- The steps of a text are its first step and the steps behind it.
 use Rattle.std.proofs.Common.{◌≡◌, ◌⊎◌, inl, inr, ℕ, zero, suc, ◌+◌, ◌==◌, ◌^◌, ◌≤◌, List, [], ◌∷◌, Bool, true, false, Option, Some, None, if◌then◌else◌, length, drop, length-drop, Ok, sym, ◌∙◌, ap, refl, arith}
 use Rattle.std.specs.Prelude.{nat_lt}
+use Rattle.gix_spec.specs.declared.spec.parse.Error.{Error}
 use Rattle.gix_spec.specs.declared.spec.parse.part.Way.TheVariants.{Onward, Closed}
 use Rattle.gix_spec.specs.declared.spec.parse.part.Behind.{Behind}
 use Rattle.gix_spec.specs.Call.{Call, Target}
@@ -181,8 +182,8 @@ closed_there : (text : List ℕ) → (step_at text).way ≡ closed → navigatio
 closed_there text h = navigation-step text ∙ closed_alone (step_at text).way (step_at text) _ h
 
 module _ {S : Type 0} (by : S → Call → Answer → S → Type 0) where
-  ends_way : (b : ℕ) (after : List ℕ) (w : FoundWay) {m n : Context} {s u : S} {x : Behind} → x.way ≡ w → Moves (length after) (step_at (b ∷ after)) →
-      Reads by (step_at (b ∷ after)) s m u n (Ok x) → (x.way ≡ Onward → length (b ∷ after) ≤ length x.rest.now) → Reads by (navigation (b ∷ after)) s m u n (Ok x)
+  ends_way : (b : ℕ) (after : List ℕ) (w : FoundWay) {m n : Context} {s u : S} {x : Behind} {error : Error} → x.way ≡ w → Moves (length after) (step_at (b ∷ after)) →
+      Reads by (step_at (b ∷ after)) s m u n (Ok x) error → (x.way ≡ Onward → length (b ∷ after) ≤ length x.rest.now) → Reads by (navigation (b ∷ after)) s m u n (Ok x) error
   ends_way b after Closed e moves f h = rw (closed_there (b ∷ after) (sym f.behind.1 ∙ ap way_of e)) f
   ends_way b after Onward {x} e moves f h =
       let less : length (step_at (b ∷ after)).rest ≤ length after = moves (sym f.behind.1 ∙ ap way_of e) in
@@ -190,12 +191,12 @@ module _ {S : Type 0} (by : S → Call → Answer → S → Type 0) where
       let same : length x.rest.now ≡ length (step_at (b ∷ after)).rest = ap length f.behind.0 in absurd (omega arith)
 
   -- a step that ends the steps: a closer, or one that takes no byte
-  ends_by : (b : ℕ) (after : List ℕ) {m n : Context} {s u : S} {x : Behind} → IsStep (b ∷ after) (length after) (step_at (b ∷ after)) →
-      Reads by (step_at (b ∷ after)) s m u n (Ok x) → (x.way ≡ Onward → length (b ∷ after) ≤ length x.rest.now) → Reads by (navigation (b ∷ after)) s m u n (Ok x)
+  ends_by : (b : ℕ) (after : List ℕ) {m n : Context} {s u : S} {x : Behind} {error : Error} → IsStep (b ∷ after) (length after) (step_at (b ∷ after)) →
+      Reads by (step_at (b ∷ after)) s m u n (Ok x) error → (x.way ≡ Onward → length (b ∷ after) ≤ length x.rest.now) → Reads by (navigation (b ∷ after)) s m u n (Ok x) error
   ends_by b after (inl none) f h = rw (navigation-none (b ∷ after) none, ← none) f
   ends_by b after {x} (inr moves) f h = ends_way b after x.way refl moves f h
 
-  pub navigation_ends : (text : List ℕ) {m n : Context} {s u : S} {x : Behind} →
-      Reads by (step_at text) s m u n (Ok x) → (x.way ≡ Onward → length text ≤ length x.rest.now) → Reads by (navigation text) s m u n (Ok x)
+  pub navigation_ends : (text : List ℕ) {m n : Context} {s u : S} {x : Behind} {error : Error} →
+      Reads by (step_at text) s m u n (Ok x) error → (x.way ≡ Onward → length text ≤ length x.rest.now) → Reads by (navigation text) s m u n (Ok x) error
   navigation_ends [] f h = rw (navigation-none [] step_at-nil, ← step_at-nil) f
   navigation_ends (b ∷ after) f h = ends_by b after (step_at-cases b after) f h

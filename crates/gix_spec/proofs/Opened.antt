@@ -1,9 +1,8 @@
 -- What was found in braces, and the part that it is.
 use Rattle.std.proofs.Common.{◌≡◌, ℕ, ◌+◌, ◌-◌, List, Bool, true, false, Option, Some, None, Result, Ok, Err, refl, sym, ◌∙◌, ap, subst, arith, length, take, drop, length-drop, IsErrAnd}
 use Rattle.std.proofs.lemmas.List.{length-take-le}
-use Rattle.std.specs.Borrow.{Bor}
-use Rattle.std.specs.declared.borrow.CowSlice.{CowSlice}
 use Rattle.gix_spec.specs.declared.spec.parse.Error.{Error}
+use Rattle.gix_spec.specs.declared.spec.parse.context.Stopped.{Stopped}
 use Rattle.gix_spec.specs.declared.spec.parse.Error.TheVariants.{OutOfMemory, Refused}
 use Rattle.gix_spec.specs.declared.spec.parse.part.Behind.{Behind}
 use Rattle.gix_spec.specs.declared.spec.parse.braces.Braced.{Braced as FoundBraced}
@@ -26,9 +25,8 @@ not_given A text (Some x) OutOfMemory same h k =
     let pair = pair_of text x same in (h, pair.0, subst (λ y. y.escapes ≡ true) (sym pair.1) k)
 not_given A text pair (Refused f i a b) same h k = (h, no_pair text (same ∙ k.0), k.1, k.2, k.3, k.4)
 
-pub parens_err : {A : Type 0} (text : List ℕ) (e : Error) (out : Result (Option (CowSlice ℕ A × Bor (List ℕ) × ℕ)) Error) → starts_with brace text ≡ true → NotOpened (braced_at text) text e → IsErrAnd out (λ y. y ≡ e) → ParensGives text out
-parens_err {A} text e (Ok x) h k q = absurd q
-parens_err {A} text e (Err y) h k q = rw q (not_given A text (braced_at text) e refl h k)
+pub parens_err : (A : Type 0) (text : List ℕ) (e : Error) → starts_with brace text ≡ true → NotOpened (braced_at text) text e → ParensGives {A = A} text (Err e)
+parens_err A text e h k = not_given A text (braced_at text) e refl h k
 
 -- one that was
 pub parens_ok : {A : Type 0} (text : List ℕ) (x : FoundBraced A) → starts_with brace text ≡ true → Opens text (Ok x) → IsPair text (x.meant, x.rest, length x.raw.now + 2)
@@ -50,33 +48,33 @@ parens_ok text x h k =
 
 module _ {S : Type 0} (by : S → Call → Answer → S → Type 0) where
   -- what is read behind braces, where escapes were taken out of them and where none were
-  room_reads : (escapes : Bool) (p : Part) {m n : Context} {s u : S} {out : Result Behind Error} → Reads by p s m u n out → Reads by (behind_escapes escapes p) s m u n out
+  room_reads : (escapes : Bool) (p : Part) {m n : Context} {s u : S} {out : Result Behind Stopped} {error : Error} → Reads by p s m u n out error → Reads by (behind_escapes escapes p) s m u n out error
   room_reads true p h = record { calls = performs_room by h.calls; behind = h.behind }
   room_reads false p h = h
 
-  read_by : (pair : Option Braced) (text : List ℕ) (reading : Braced → Part) (x : Braced) {m n : Context} {s u : S} {out : Result Behind Error} →
-      pair ≡ Some x → Reads by (reading x) s m u n out → Reads by (braced_by pair text reading) s m u n out
+  read_by : (pair : Option Braced) (text : List ℕ) (reading : Braced → Part) (x : Braced) {m n : Context} {s u : S} {out : Result Behind Stopped} {error : Error} →
+      pair ≡ Some x → Reads by (reading x) s m u n out error → Reads by (braced_by pair text reading) s m u n out error
   read_by pair text reading x e h = rw e (room_reads x.escapes (reading x) h)
 
-  pub braces_read : {A : Type 0} (text : List ℕ) (reading : Braced → Part) (x : FoundBraced A) {m n : Context} {s u : S} {out : Result Behind Error} →
-      Opens text (Ok x) → Reads by (reading (braced_of x)) s m u n out → Reads by (in_braces text reading) s m u n out
+  pub braces_read : {A : Type 0} (text : List ℕ) (reading : Braced → Part) (x : FoundBraced A) {m n : Context} {s u : S} {out : Result Behind Stopped} {error : Error} →
+      Opens text (Ok x) → Reads by (reading (braced_of x)) s m u n out error → Reads by (in_braces text reading) s m u n out error
   unfolding in_braces
   braces_read text reading x e h = read_by (braced_at text) text reading (braced_of x) e.0 h
 
-  stop_room : (escapes : Bool) (p : Part) {m n : Context} {s : S} → escapes ≡ true → Reads by (behind_escapes escapes p) s m s n (Err OutOfMemory)
+  stop_room : (escapes : Bool) (p : Part) {m n : Context} {s : S} {x : Stopped} → escapes ≡ true → Reads by (behind_escapes escapes p) s m s n (Err x) OutOfMemory
   stop_room true p h = record { calls = performs_short by; behind = tt }
   stop_room false p h = cc
 
-  stop_by : (pair : Option Braced) (text : List ℕ) (reading : Braced → Part) (e : Error) {m n : Context} {s : S} →
-      NotOpened pair text e → Reads by (braced_by pair text reading) s m s n (Err e)
+  stop_by : (pair : Option Braced) (text : List ℕ) (reading : Braced → Part) (e : Error) {m n : Context} {s : S} {x : Stopped} →
+      NotOpened pair text e → Reads by (braced_by pair text reading) s m s n (Err x) e
   stop_by None text reading OutOfMemory h = absurd h
   stop_by (Some x) text reading OutOfMemory h = stop_room x.escapes (reading x) h
   stop_by None text reading (Refused f i a b) h = rw (h.1, h.3, h.4) (record { calls = performs_fault by h.2; behind = tt })
   stop_by (Some x) text reading (Refused f i a b) h = cc h.0
 
   -- braces that were not opened end the run
-  pub braces_stop : (text : List ℕ) (reading : Braced → Part) (e : Error) (out : Result Behind Error) {m n : Context} {s : S} →
-      NotOpened (braced_at text) text e → IsErrAnd out (λ y. y ≡ e) → Reads by (in_braces text reading) s m s n out
+  pub braces_stop : (text : List ℕ) (reading : Braced → Part) (e : Error) {x : Stopped} (out : Result Behind Stopped) {m n : Context} {s : S} →
+      NotOpened (braced_at text) text e → IsErrAnd out (λ y. y ≡ x) → Reads by (in_braces text reading) s m s n out e
   unfolding in_braces
   braces_stop text reading e (Ok x) h q = absurd q
-  braces_stop text reading e (Err y) h q = rw q (stop_by (braced_at text) text reading e h)
+  braces_stop text reading e (Err y) h q = stop_by (braced_at text) text reading e h

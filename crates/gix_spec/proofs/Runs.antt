@@ -2,6 +2,7 @@
 use Rattle.std.proofs.Common.{inl, inr, option_map, Bor, ◌≡◌, ℕ, List, [], ◌∷◌, ◌++◌, Option, None, cond, Bool, true, false, Result, Ok, Err, append_assoc, append-nil, IsErrAnd}
 use Rattle.gix_base.specs.declared.error.Exn.{Exn, out-Exn}
 use Rattle.gix_spec.specs.declared.spec.parse.fault.Fault.{Fault}
+use Rattle.gix_spec.specs.declared.spec.parse.context.Stopped.{Stopped}
 use Rattle.gix_spec.specs.declared.spec.parse.Error.{Error}
 use Rattle.gix_spec.specs.declared.spec.parse.Error.TheVariants.{OutOfMemory, Refused}
 use Rattle.gix_spec.specs.Call.{Call}
@@ -12,7 +13,7 @@ use Rattle.gix_spec.specs.Context.{Context}
 use Rattle.gix_spec.specs.Pieces.{Piece, unescaped, finished, fault}
 use Rattle.gix_spec.specs.Trees.{tree_of, demand}
 use Rattle.gix_spec.specs.Parse.{Fails, Parses}
-use Rattle.gix_spec.specs.Performs.{Leads, GoesTo, Performs, Asks, DemandedBy, Demanded}
+use Rattle.gix_spec.specs.Performs.{told_by, Leads, GoesTo, Performs, Asks, DemandedBy, Demanded}
 
 module _ {S : Type 0} (by : S → Call → Answer → S → Type 0) where
   -- a run that a part ended, seen from further back
@@ -36,82 +37,82 @@ module _ {S : Type 0} (by : S → Call → Answer → S → Type 0) where
   demand_goes (Err e) (Ok b) c f i v s u h d = absurd d
 
   -- a piece that is one call
-  pub performs_demand : {p : Piece} {c : Call} {f : Fault} {i : Option (List ℕ)} {m n : Context} {s u : S} {r : Result (Unit {0}) Exn} {out : Result (Unit {0}) Error} →
-      ((more : List Piece) → tree_of (p ∷ more) m ≡ demand c f i (tree_of more n)) → by s c (answer_of r) u → Demanded r f i out → Performs by (p ∷ []) s m u n out
-  performs_demand {p} {c} {f} {i} {n} {s} {u} {r} {out} same h d = record { performs = λ more. rw (same more) (demand_goes r out c f i (tree_of more n) s u h d.demanded) }
+  pub performs_demand : {p : Piece} {c : Call} {f : Fault} {i : Option (List ℕ)} {m n : Context} {s u : S} {r : Result (Unit {0}) Exn} {out : Result (Unit {0}) Stopped} {error : Error} →
+      ((more : List Piece) → tree_of (p ∷ more) m ≡ demand c f i (tree_of more n)) → by s c (answer_of r) u → Demanded r f i out error → Performs by (p ∷ []) s m u n out error
+  performs_demand {p} {c} {f} {i} {n} {s} {u} {r} {out} {error} same h d = record { performs = λ more. rw (same more) (demand_goes r (told_by out error) c f i (tree_of more n) s u h d.demanded) }
 
   -- an error that a part gave is handed on
-  pub performs_err : {X Y : Type 0} {ps : List Piece} {m n k : Context} {s u : S} {e : Error} {out : Result Y Error} →
-      Performs {X = X} by ps s m u n (Err e) → IsErrAnd out (λ y. y ≡ e) → Performs by ps s m u k out
+  pub performs_err : {X Y : Type 0} {ps : List Piece} {m n k : Context} {s u : S} {e : Error} {x : Stopped} {out : Result Y Stopped} →
+      Performs {X = X} by ps s m u n (Err x) e → IsErrAnd out (λ y. y ≡ x) → Performs by ps s m u k out e
   performs_err {out = Ok y} h q = absurd q
-  performs_err {out = Err y} h q = record { performs = λ more. rw q (h.performs more) }
+  performs_err {out = Err y} h q = record { performs = λ more. h.performs more }
 
   goes_then : {X Y : Type 0} (s u w : S) (t v z : Tree) (x : X) (out : Result Y Error) → Leads by s t u v → GoesTo by u v w out z → GoesTo by s t w out z
   goes_then s u w t v z x (Ok y) f g = λ k o r. f k o (g k o r)
   goes_then s u w t v z x (Err e) f g = fails_after s u w t v e f g
 
   -- nothing is left to do
-  pub performs_none : {X : Type 0} {m : Context} {s : S} (x : X) → Performs by [] s m s m (Ok x)
+  pub performs_none : {X : Type 0} {m : Context} {s : S} {error : Error} (x : X) → Performs by [] s m s m (Ok x) error
   performs_none x = record { performs = λ more w o r. r }
 
   -- the end behind a closer makes no call
-  pub performs_finished : {X : Type 0} {m : Context} {s : S} (x : X) → Performs by (finished ∷ []) s m s m (Ok x)
+  pub performs_finished : {X : Type 0} {m : Context} {s : S} {error : Error} (x : X) → Performs by (finished ∷ []) s m s m (Ok x) error
   performs_finished x = record { performs = λ more w o r. r }
 
   -- a call that has to be accepted
-  pub asks_demand : {c : Call} {f : Fault} {i : Option (List ℕ)} {s u : S} {r : Result (Unit {0}) Exn} {out : Result (Unit {0}) Error} →
-      by s c (answer_of r) u → Demanded r f i out → Asks by (demand c f i) s u out
-  asks_demand {c} {f} {i} {s} {u} {r} {out} h d = record { asks = λ onward. demand_goes r out c f i onward s u h d.demanded }
+  pub asks_demand : {c : Call} {f : Fault} {i : Option (List ℕ)} {s u : S} {r : Result (Unit {0}) Exn} {out : Result (Unit {0}) Stopped} {error : Error} →
+      by s c (answer_of r) u → Demanded r f i out error → Asks by (demand c f i) s u out error
+  asks_demand {c} {f} {i} {s} {u} {r} {out} {error} h d = record { asks = λ onward. demand_goes r (told_by out error) c f i onward s u h d.demanded }
 
   -- some calls after others
-  pub asks_then : {X Y : Type 0} {a b : Tree → Tree} {s u w : S} {x : X} {out : Result Y Error} →
-      Asks by a s u (Ok x) → Asks by b u w out → Asks by (λ v. a (b v)) s w out
-  asks_then {a} {b} {s} {u} {w} {x} {out} f g = record { asks = λ onward. goes_then s u w (a (b onward)) (b onward) onward x out (f.asks (b onward)) (g.asks onward) }
+  pub asks_then : {X Y : Type 0} {a b : Tree → Tree} {s u w : S} {x : X} {e error : Error} {out : Result Y Stopped} →
+      Asks by a s u (Ok x) e → Asks by b u w out error → Asks by (λ v. a (b v)) s w out error
+  asks_then {a} {b} {s} {u} {w} {x} {error} {out} f g = record { asks = λ onward. goes_then s u w (a (b onward)) (b onward) onward x (told_by out error) (f.asks (b onward)) (g.asks onward) }
 
   -- calls that ended the run, whatever was to follow them
-  pub asks_stop : {X Y : Type 0} {a : Tree → Tree} (b : Tree → Tree) {s u : S} {e : Error} {out : Result Y Error} →
-      Asks {X = X} by a s u (Err e) → IsErrAnd out (λ y. y ≡ e) → Asks by (λ v. a (b v)) s u out
+  pub asks_stop : {X Y : Type 0} {a : Tree → Tree} (b : Tree → Tree) {s u : S} {e : Error} {x : Stopped} {out : Result Y Stopped} →
+      Asks {X = X} by a s u (Err x) e → IsErrAnd out (λ y. y ≡ x) → Asks by (λ v. a (b v)) s u out e
   asks_stop b {out = Ok y} h q = absurd q
-  asks_stop b {out = Err y} h q = record { asks = λ onward. rw q (h.asks (b onward)) }
+  asks_stop b {out = Err y} h q = record { asks = λ onward. h.asks (b onward) }
 
   -- a piece by its calls
-  pub performs_asks : {X : Type 0} {p : Piece} {a : Tree → Tree} {m n : Context} {s u : S} {out : Result X Error} →
-      ((more : List Piece) → tree_of (p ∷ more) m ≡ a (tree_of more n)) → Asks by a s u out → Performs by (p ∷ []) s m u n out
+  pub performs_asks : {X : Type 0} {p : Piece} {a : Tree → Tree} {m n : Context} {s u : S} {out : Result X Stopped} {error : Error} →
+      ((more : List Piece) → tree_of (p ∷ more) m ≡ a (tree_of more n)) → Asks by a s u out error → Performs by (p ∷ []) s m u n out error
   performs_asks {n} same h = record { performs = λ more. rw (same more) (h.asks (tree_of more n)) }
 
   -- one part after another
-  pub performs_then : {X Y : Type 0} {ps qs : List Piece} {m n k : Context} {s u w : S} {x : X} {out : Result Y Error} →
-      Performs by ps s m u n (Ok x) → Performs by qs u n w k out → Performs by (ps ++ qs) s m w k out
-  performs_then {ps} {qs} {m} {n} {k} {s} {u} {w} {x} {out} f g = record {
+  pub performs_then : {X Y : Type 0} {ps qs : List Piece} {m n k : Context} {s u w : S} {x : X} {e error : Error} {out : Result Y Stopped} →
+      Performs by ps s m u n (Ok x) e → Performs by qs u n w k out error → Performs by (ps ++ qs) s m w k out error
+  performs_then {ps} {qs} {m} {n} {k} {s} {u} {w} {x} {error} {out} f g = record {
     performs = λ more.
-        rw append_assoc (goes_then s u w (tree_of (ps ++ (qs ++ more)) m) (tree_of (qs ++ more) n) (tree_of more k) x out (f.performs (qs ++ more)) (g.performs more));
+        rw append_assoc (goes_then s u w (tree_of (ps ++ (qs ++ more)) m) (tree_of (qs ++ more) n) (tree_of more k) x (told_by out error) (f.performs (qs ++ more)) (g.performs more));
   }
 
   -- a part that ended the run, whatever was to follow it
-  pub performs_stop : {X Y : Type 0} {ps : List Piece} (qs : List Piece) {m n k : Context} {s u : S} {e : Error} {out : Result Y Error} →
-      Performs {X = X} by ps s m u n (Err e) → IsErrAnd out (λ y. y ≡ e) → Performs by (ps ++ qs) s m u k out
+  pub performs_stop : {X Y : Type 0} {ps : List Piece} (qs : List Piece) {m n k : Context} {s u : S} {e : Error} {x : Stopped} {out : Result Y Stopped} →
+      Performs {X = X} by ps s m u n (Err x) e → IsErrAnd out (λ y. y ≡ x) → Performs by (ps ++ qs) s m u k out e
   performs_stop qs {out = Ok y} h q = absurd q
-  performs_stop {ps} qs {m} {s} {u} {e} {out = Err y} h q = record { performs = λ more. rw (append_assoc, q) (h.performs (qs ++ more)) }
+  performs_stop {ps} qs {m} {s} {u} {e} {out = Err y} h q = record { performs = λ more. rw append_assoc (h.performs (qs ++ more)) }
 
   -- a fault of the text
-  pub performs_fault : {X : Type 0} {f : Fault} {i : Option (List ℕ)} {j : Option (Bor (List ℕ))} {m n : Context} {s : S} →
-      option_map (λ x. x.now) j ≡ i → Performs {X = X} by (fault f i ∷ []) s m s n (Err (Refused f j None None))
+  pub performs_fault : {X : Type 0} {f : Fault} {i : Option (List ℕ)} {j : Option (Bor (List ℕ))} {m n : Context} {s : S} {x : Stopped} →
+      option_map (λ y. y.now) j ≡ i → Performs {X = X} by (fault f i ∷ []) s m s n (Err x) (Refused f j None None)
   performs_fault h = record { performs = λ more. rw h at_leaf }
 
   -- an escape was taken out, and then some pieces were read
-  pub performs_room : {X : Type 0} {ps : List Piece} {m n : Context} {s u : S} {out : Result X Error} →
-      Performs by ps s m u n out → Performs by (unescaped ∷ ps) s m u n out
-  performs_room {ps} {m} {n} {s} {u} {out} h = record {
+  pub performs_room : {X : Type 0} {ps : List Piece} {m n : Context} {s u : S} {out : Result X Stopped} {error : Error} →
+      Performs by ps s m u n out error → Performs by (unescaped ∷ ps) s m u n out error
+  performs_room {ps} {m} {n} {s} {u} {out} {error} h = record {
     performs = λ more.
-        goes_then s s u (takes (tree_of (ps ++ more) m)) (tree_of (ps ++ more) m) (tree_of more n) (tt {0}) out (λ w o r. has_room r) (h.performs more);
+        goes_then s s u (takes (tree_of (ps ++ more) m)) (tree_of (ps ++ more) m) (tree_of more n) (tt {0}) (told_by out error) (λ w o r. has_room r) (h.performs more);
   }
 
   -- there was no memory for it
-  pub performs_short : {X : Type 0} {ps : List Piece} {m n : Context} {s : S} → Performs {X = X} by (unescaped ∷ ps) s m s n (Err OutOfMemory)
+  pub performs_short : {X : Type 0} {ps : List Piece} {m n : Context} {s : S} {x : Stopped} → Performs {X = X} by (unescaped ∷ ps) s m s n (Err x) OutOfMemory
   performs_short = record { performs = λ more. inr has_none }
 
   -- the run of a whole text
-  pub runs_whole : {ps : List Piece} {m n : Context} {s u : S} {out : Result (Unit {0}) Error} → Performs by ps s m u n out → Parses by s (tree_of ps m) u out
+  pub runs_whole : {ps : List Piece} {m n : Context} {s u : S} {out : Result (Unit {0}) Stopped} {error : Error} → Performs by ps s m u n out error → Parses by s (tree_of ps m) u (told_by out error)
   runs_whole {ps} {u} {out = Ok a} h = (rw append-nil at (h.performs [])) u (ended fine) at_leaf
   runs_whole {ps} {out = Err e} h = rw append-nil at (h.performs [])
 
@@ -124,8 +125,12 @@ module _ {S : Type 0} (by : S → Call → Answer → S → Type 0) where
   beginning_of_run (has_room r) = begins_room (beginning_of_run r)
   beginning_of_run has_none = stops
 
-  pub beginning_of_parse : {s u : S} (t : Tree) (out : Result (Unit {0}) Error) → Parses by s t u out → IsBeginning by s t u
+  beginning_of_parse : {s u : S} (t : Tree) (out : Result (Unit {0}) Error) → Parses by s t u out → IsBeginning by s t u
   beginning_of_parse t (Ok a) r = beginning_of_run r
   beginning_of_parse t (Err OutOfMemory) (inl r) = beginning_of_run r
   beginning_of_parse t (Err OutOfMemory) (inr r) = beginning_of_run r
   beginning_of_parse t (Err (Refused f i a b)) r = beginning_of_run r
+
+  -- what a whole text did is a beginning of a run
+  pub beginning_of_parts : {ps : List Piece} {m n : Context} {s u : S} {out : Result (Unit {0}) Stopped} {error : Error} → Performs by ps s m u n out error → IsBeginning by s (tree_of ps m) u
+  beginning_of_parts {ps} {m} {out} {error} h = beginning_of_parse (tree_of ps m) (told_by out error) (runs_whole h)

@@ -1,5 +1,5 @@
 -- Texts in braces: gitrevisions, "<rev>^{<type>}", "<rev>^{/<text>}" and "<refname>@{<date>}".
-use Rattle.std.specs.Prelude.{◌≡◌, ℕ, zero, suc, ◌+◌, ◌-◌, ◌<◌, ◌==◌, ◌&&◌, ◌||◌, not, cond, List, [], ◌∷◌, ◌++◌, Option, Some, None, Bool, true, false, length, nat_lt, take, drop, slice_index, if◌then◌else◌}
+use Rattle.std.specs.Prelude.{ℕ, zero, suc, ◌+◌, ◌-◌, ◌==◌, ◌&&◌, ◌||◌, not, cond, List, [], ◌∷◌, ◌++◌, Option, Some, None, Bool, true, false, length, nat_lt, take, drop, slice_index, if◌then◌else◌}
 use Rattle.gix_spec.specs.declared.spec.parse.fault.Fault.TheVariants.{UnclosedBrace}
 use Rattle.gix_spec.specs.Pieces.{unescaped}
 use Rattle.gix_spec.specs.Marks.{least_from}

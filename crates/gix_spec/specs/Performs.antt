@@ -4,6 +4,7 @@ use Rattle.gix_base.specs.declared.error.Exn.{Exn, out-Exn}
 use Rattle.gix_spec.specs.declared.spec.parse.fault.Fault.{Fault}
 use Rattle.gix_spec.specs.declared.spec.parse.Error.{Error}
 use Rattle.gix_spec.specs.declared.spec.parse.Error.TheVariants.{OutOfMemory, Refused}
+use Rattle.gix_spec.specs.declared.spec.parse.context.Stopped.{Stopped}
 use Rattle.gix_spec.specs.declared.spec.parse.part.Behind.{Behind}
 use Rattle.gix_spec.specs.Call.{Call}
 use Rattle.gix_spec.specs.Answer.{Answer}
@@ -16,6 +17,11 @@ use Rattle.gix_spec.specs.Part.{Part}
 use Rattle.gix_spec.specs.Found.{way_of}
 use Rattle.gix_spec.specs.Parse.{Fails}
 
+-- What a function of the parse answers, with the error that is kept where the parse has stopped.
+abbrev pub told_by : {X : Type 0} → Result X Stopped → Error → Result X Error
+told_by (Ok x) e = Ok x
+told_by (Err stopped) e = Err e
+
 -- From s with the tree t ahead, the calls led to u with the tree v ahead.
 abbrev pub Leads : {S : Type 0} → (step : S → Call → Answer → S → Type 0) → S → Tree → S → Tree → Type 0
 Leads {S} step s t u v = (w : S) (o : Outcome) → IsRun step u v w o → IsRun step s t w o
@@ -26,16 +32,16 @@ GoesTo step s t u (Ok x) v = Leads step s t u v
 GoesTo step s t u (Err e) v = Fails step s t u e
 
 -- The calls did what these pieces mean, whatever follows them, and what is known went from m to n.
-pub record Performs {S X : Type 0} (step : S → Call → Answer → S → Type 0) (ps : List Piece) (s : S) (m : Context) (u : S) (n : Context) (out : Result X Error) : Type 0 where
-  pub performs : (more : List Piece) → GoesTo step s (tree_of (ps ++ more) m) u out (tree_of more n)
+pub record Performs {S X : Type 0} (step : S → Call → Answer → S → Type 0) (ps : List Piece) (s : S) (m : Context) (u : S) (n : Context) (out : Result X Stopped) (error : Error) : Type 0 where
+  pub performs : (more : List Piece) → GoesTo step s (tree_of (ps ++ more) m) u (told_by out error) (tree_of more n)
 
 -- The calls that a tree begins with were made, whatever follows them.
-pub record Asks {S X : Type 0} (step : S → Call → Answer → S → Type 0) (begin : Tree → Tree) (s u : S) (out : Result X Error) : Type 0 where
-  pub asks : (onward : Tree) → GoesTo step s (begin onward) u out onward
+pub record Asks {S X : Type 0} (step : S → Call → Answer → S → Type 0) (begin : Tree → Tree) (s u : S) (out : Result X Stopped) (error : Error) : Type 0 where
+  pub asks : (onward : Tree) → GoesTo step s (begin onward) u (told_by out error) onward
 
 -- A part was read: the calls did what its pieces mean, and where they went well this is what is left of the text, and the way on.
-pub record Reads {S : Type 0} (step : S → Call → Answer → S → Type 0) (p : Part) (s : S) (m : Context) (u : S) (n : Context) (out : Result Behind Error) : Type 0 where
-  pub calls : Performs step p.pieces s m u n out
+pub record Reads {S : Type 0} (step : S → Call → Answer → S → Type 0) (p : Part) (s : S) (m : Context) (u : S) (n : Context) (out : Result Behind Stopped) (error : Error) : Type 0 where
+  pub calls : Performs step p.pieces s m u n out error
   pub behind : IfOk out (λ b. (b.rest.now ≡ p.rest) × (way_of b.way ≡ p.way))
 
 -- What became of a call that has to be accepted: an error tells of its refusal.
@@ -50,5 +56,5 @@ DemandedBy (Err e) f input (Err err) = TellsOf e f input err
 DemandedBy (Ok a) f input (Err err) = ⊥
 DemandedBy (Err e) f input (Ok b) = ⊥
 
-pub record Demanded (answer : Result (Unit {0}) Exn) (f : Fault) (input : Option (List ℕ)) (out : Result (Unit {0}) Error) : Type 0 where
-  pub demanded : DemandedBy answer f input out
+pub record Demanded (answer : Result (Unit {0}) Exn) (f : Fault) (input : Option (List ℕ)) (out : Result (Unit {0}) Stopped) (error : Error) : Type 0 where
+  pub demanded : DemandedBy answer f input (told_by out error)

@@ -13,10 +13,9 @@ ghost use Rattle.gix_spec.specs.Performs.{Performs, Reads};
 ghost use Rattle.gix_spec.specs.Pieces;
 ghost use Rattle.gix_date.specs.Date.{date_of};
 
-use super::Error;
 use super::braces::{Braced, opened};
 use super::calls::call_date;
-use super::context::Context;
+use super::context::{Context, Stopped};
 use super::delegate::{Delegate, ReflogLookup, SiblingBranch};
 use super::fault::Fault;
 use super::function::read;
@@ -84,16 +83,23 @@ fn look_up<'a, D: Delegate>(
     meant: &[u8],
     own: &'a [u8],
     raw: &'a [u8],
-    context: &Context<'a>,
+    context: &mut Context<'a>,
     delegate: &mut D,
-) -> Result<(), Error<'a>>
+) -> Result<(), Stopped>
     ensures { Performs D.step
         (Pieces.date (λ now. time_of (date_of meant.now now)) own.now raw.now ∷ [])
-        delegate.old (context_of context.entry.now)
-        delegate.new (context_of context.entry.now) result }
+        delegate.old (context_of context.old) delegate.new (context_of context.new)
+        result context.new.error }
 {
     let time = time_of(meant, context.now);
-    call_date(time, own, raw, context.own_prefix, delegate)
+    call_date(
+        time,
+        own,
+        raw,
+        context.own_prefix,
+        &mut context.error,
+        delegate,
+    )
 }
 
 // A text that is read as a date.
@@ -102,9 +108,10 @@ fn dated<'a, A: Allocator, D: Delegate>(
     braces: &Braced<'a, A>,
     context: &mut Context<'a>,
     delegate: &mut D,
-) -> Result<Behind<'a>, Error<'a>>
+) -> Result<Behind<'a>, Stopped>
     ensures { Reads D.step (word_at own.now None (braced_of braces.now))
-        delegate.old (context_of context.old) delegate.new (context_of context.new) result }
+        delegate.old (context_of context.old) delegate.new (context_of context.new)
+        result context.new.error }
 {
     look_up(braces.meant.as_ref(), own, braces.raw, context, delegate)?;
     Ok(Behind {
@@ -119,10 +126,11 @@ fn inside<'a, A: Allocator, D: Delegate>(
     braces: &Braced<'a, A>,
     context: &mut Context<'a>,
     delegate: &mut D,
-) -> Result<Behind<'a>, Error<'a>>
+) -> Result<Behind<'a>, Stopped>
     ensures { Reads D.step
         (inside_at own.now (signed_of (braced_of braces.now).meant) (braced_of braces.now))
-        delegate.old (context_of context.old) delegate.new (context_of context.new) result }
+        delegate.old (context_of context.old) delegate.new (context_of context.new)
+        result context.new.error }
 {
     if let Some(number) = signed_number(braces.meant.as_ref()) {
         return read(numbered(own, number, braces), context, delegate);
@@ -142,12 +150,13 @@ fn in_braces<'a, A: Allocator, D: Delegate>(
     text: &'a [u8],
     context: &mut Context<'a>,
     delegate: &mut D,
-) -> Result<Behind<'a>, Error<'a>>
+) -> Result<Behind<'a>, Stopped>
     requires { starts_with brace text.now ≡ true }
     ensures { Reads D.step (at_braces own.now text.now)
-        delegate.old (context_of context.old) delegate.new (context_of context.new) result }
+        delegate.old (context_of context.old) delegate.new (context_of context.new)
+        result context.new.error }
 {
-    let braces = opened(alloc, text)?;
+    let braces = opened(alloc, text, &mut context.error)?;
     inside(own, &braces, context, delegate)
 }
 
@@ -159,9 +168,10 @@ pub(crate) fn at_part<'a, A: Allocator, D: Delegate>(
     text: &'a [u8],
     context: &mut Context<'a>,
     delegate: &mut D,
-) -> Result<Behind<'a>, Error<'a>>
+) -> Result<Behind<'a>, Stopped>
     ensures { Reads D.step (at_part own.now text.now)
-        delegate.old (context_of context.old) delegate.new (context_of context.new) result }
+        delegate.old (context_of context.old) delegate.new (context_of context.new)
+        result context.new.error }
 {
     match text {
         [b'@', b'{', ..] => in_braces(alloc, own, &text[1..], context, delegate),
@@ -180,9 +190,10 @@ pub(crate) fn without_name<'a, A: Allocator, D: Delegate>(
     text: &'a [u8],
     context: &mut Context<'a>,
     delegate: &mut D,
-) -> Result<Behind<'a>, Error<'a>>
+) -> Result<Behind<'a>, Stopped>
     ensures { Reads D.step (without_name text.now)
-        delegate.old (context_of context.old) delegate.new (context_of context.new) result }
+        delegate.old (context_of context.old) delegate.new (context_of context.new)
+        result context.new.error }
 {
     match text {
         [b'@', b'{', ..] => in_braces(alloc, b"", &text[1..], context, delegate),

@@ -6,9 +6,11 @@ ghost use Rattle.gix_spec.specs.Marks.{brace, starts_with};
 ghost use Rattle.gix_spec.specs.Braces.{is_special, has_escape, meant_of};
 ghost use Rattle.gix_spec.specs.Opens.{IsLevel, IsClose, Opens};
 ghost use Rattle.gix_spec.specs.Parens.{ParensGives};
+ghost use Rattle.gix_spec.specs.Performs.{told_by};
 
 use super::Error;
 use super::calls::fault;
+use super::context::Stopped;
 use super::fault::Fault;
 use std::alloc::{AllocError, Allocator};
 use std::borrow::CowSlice;
@@ -135,12 +137,16 @@ pub(crate) struct Braced<'a, A: Allocator> {
 }
 
 /// The pair of braces that a text begins with. Its text is copied only where an escape is taken out.
-pub(crate) fn opened<'a, A: Allocator>(alloc: A, text: &'a [u8]) -> Result<Braced<'a, A>, Error<'a>>
+pub(crate) fn opened<'a, A: Allocator>(
+    alloc: A,
+    text: &'a [u8],
+    error: &mut Error<'a>,
+) -> Result<Braced<'a, A>, Stopped>
     requires { starts_with brace text.now ≡ true }
-    ensures { Opens text.now result }
+    ensures { Opens text.now (told_by result error.new) }
 {
     let Some(Close { place, escapes }) = find_close(text) else {
-        return Err(fault(Fault::UnclosedBrace, Some(text)));
+        return Err(fault(Fault::UnclosedBrace, Some(text), error));
     };
     let raw = &text[1..place];
     let rest = &text[place + 1..];
@@ -153,7 +159,8 @@ pub(crate) fn opened<'a, A: Allocator>(alloc: A, text: &'a [u8]) -> Result<Brace
         });
     }
     let Ok(copied) = without_escapes(alloc, text, place - 1) else {
-        return Err(Error::OutOfMemory);
+        *error = Error::OutOfMemory;
+        return Err(Stopped);
     };
     Ok(Braced {
         raw,
@@ -179,11 +186,17 @@ pub fn parens<'a, A: Allocator>(
     if !begins(text) {
         return Ok(None);
     }
-    let Braced {
-        raw,
-        meant,
-        rest,
-        ..
-    } = opened(alloc, text)?;
+    let mut error = Error::OutOfMemory;
+    let Ok(
+        Braced {
+            raw,
+            meant,
+            rest,
+            ..
+        },
+    ) = opened(alloc, text, &mut error)
+    else {
+        return Err(error);
+    };
     Ok(Some((meant, rest, raw.len() + 2)))
 }

@@ -3,6 +3,7 @@
 ghost use Rattle.std.specs.Prelude.{◌≡◌};
 ghost use Rattle.gix_spec.specs.Context.{context_of, start};
 
+use super::Error;
 use super::delegate::PrefixHint;
 use gix_base::date::Time;
 use gix_base::hash::Prefix;
@@ -15,13 +16,19 @@ pub(crate) enum Anchor<'a> {
     ByPrefix(Prefix, Option<PrefixHint<'a>>),
 }
 
-/// The moment that dates are read at, the anchor, and whether this revision's own name was accepted
-/// as a prefix.
+/// The parse has stopped. Its context says why, so that no function hands on what is as large as an
+/// `Error`.
 #[derive(Clone, Copy, Debug)]
+pub(crate) struct Stopped;
+
+/// The moment that dates are read at, the anchor, whether this revision's own name was accepted as a
+/// prefix, and why the parse has stopped, once it has.
+#[derive(Debug, Drop)]
 pub(crate) struct Context<'a> {
     pub(crate) now: Time,
     pub(crate) anchor: Option<Anchor<'a>>,
     pub(crate) own_prefix: bool,
+    pub(crate) error: Error<'a>,
 }
 
 impl<'a> Context<'a> {
@@ -33,6 +40,7 @@ impl<'a> Context<'a> {
             now,
             anchor: None,
             own_prefix: false,
+            error: Error::OutOfMemory,
         }
     }
 }

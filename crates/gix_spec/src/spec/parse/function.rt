@@ -17,7 +17,7 @@ use super::Error;
 use super::at_part::{at_part, without_name};
 use super::calls::{fault, perform};
 use super::colon_form::colon_form;
-use super::context::Context;
+use super::context::{Context, Stopped};
 use super::cut::cut;
 use super::delegate::Delegate;
 use super::fault::Fault;
@@ -29,17 +29,21 @@ use gix_base::date::Time;
 use std::alloc::Allocator;
 
 /// Makes the calls of what was found at the front of a text.
+#[inline(always)]
 pub(crate) fn read<'a, D: Delegate>(
     found: Found<'a>,
     context: &mut Context<'a>,
     delegate: &mut D,
-) -> Result<Behind<'a>, Error<'a>>
+) -> Result<Behind<'a>, Stopped>
     ensures { Reads D.step (part_of found.entry)
-        delegate.old (context_of context.old) delegate.new (context_of context.new) result }
+        delegate.old (context_of context.old) delegate.new (context_of context.new)
+        result context.new.error }
 {
     let part = match found {
         Ok(part) => part,
-        Err(refusal) => return Err(fault(refusal.fault, refusal.input)),
+        Err(refusal) => {
+            return Err(fault(refusal.fault, refusal.input, &mut context.error));
+        }
     };
     if let Some(piece) = part.piece {
         perform(piece, context, delegate)?;
@@ -51,15 +55,17 @@ pub(crate) fn read<'a, D: Delegate>(
 }
 
 /// Reads the name of a revision, and an `@` behind it.
+#[inline(always)]
 #[tactic(auto, unfolding(crate::specs::Names::anchor_at))]
 fn anchor<'a, A: Allocator, D: Delegate>(
     alloc: A,
     text: &'a [u8],
     context: &mut Context<'a>,
     delegate: &mut D,
-) -> Result<Behind<'a>, Error<'a>>
+) -> Result<Behind<'a>, Stopped>
     ensures { Reads D.step (anchor_at text.now)
-        delegate.old (context_of context.old) delegate.new (context_of context.new) result }
+        delegate.old (context_of context.old) delegate.new (context_of context.new)
+        result context.new.error }
 {
     let len = cut(text);
     if len == 0 {
@@ -70,14 +76,16 @@ fn anchor<'a, A: Allocator, D: Delegate>(
 }
 
 /// Reads steps until none follows, or a closer ends them.
+#[inline(always)]
 fn navigate<'a, A: Allocator + Copy, D: Delegate>(
     alloc: A,
     text: &'a [u8],
     context: &mut Context<'a>,
     delegate: &mut D,
-) -> Result<Behind<'a>, Error<'a>>
+) -> Result<Behind<'a>, Stopped>
     ensures { Reads D.step (navigation text.now)
-        delegate.old (context_of context.old) delegate.new (context_of context.new) result }
+        delegate.old (context_of context.old) delegate.new (context_of context.new)
+        result context.new.error }
 {
     let mut rest = text;
     'steps: loop {
@@ -93,14 +101,16 @@ fn navigate<'a, A: Allocator + Copy, D: Delegate>(
 }
 
 /// Reads a name and its steps.
+#[inline(always)]
 fn named_revision<'a, A: Allocator + Copy, D: Delegate>(
     alloc: A,
     text: &'a [u8],
     context: &mut Context<'a>,
     delegate: &mut D,
-) -> Result<Behind<'a>, Error<'a>>
+) -> Result<Behind<'a>, Stopped>
     ensures { Reads D.step (named_revision text.now)
-        delegate.old (context_of context.old) delegate.new (context_of context.new) result }
+        delegate.old (context_of context.old) delegate.new (context_of context.new)
+        result context.new.error }
 {
     let name = anchor(alloc, text, context, delegate)?;
     match name.way {
@@ -116,9 +126,10 @@ fn revision<'a, A: Allocator + Copy, D: Delegate>(
     text: &'a [u8],
     context: &mut Context<'a>,
     delegate: &mut D,
-) -> Result<Behind<'a>, Error<'a>>
+) -> Result<Behind<'a>, Stopped>
     ensures { Reads D.step (revision_at text.now)
-        delegate.old (context_of context.old) delegate.new (context_of context.new) result }
+        delegate.old (context_of context.old) delegate.new (context_of context.new)
+        result context.new.error }
 {
     match text {
         [b':', after @ ..] => read(colon_form(after, text), context, delegate),
@@ -147,9 +158,10 @@ fn imply_head<'a, D: Delegate>(
     rest: &'a [u8],
     context: &mut Context<'a>,
     delegate: &mut D,
-) -> Result<(), Error<'a>>
+) -> Result<(), Stopped>
     ensures { Performs D.step (implied_head text.now rest.now)
-        delegate.old (context_of context.old) delegate.new (context_of context.new) result }
+        delegate.old (context_of context.old) delegate.new (context_of context.new)
+        result context.new.error }
 {
     if rest.len() == text.len() {
         return perform(Piece::Head, context, delegate);
@@ -162,14 +174,15 @@ fn end<'a, D: Delegate>(
     rest: &'a [u8],
     context: &mut Context<'a>,
     delegate: &mut D,
-) -> Result<(), Error<'a>>
+) -> Result<(), Stopped>
     ensures { Performs D.step (end_at rest.now)
-        delegate.old (context_of context.old) delegate.new (context_of context.new) result }
+        delegate.old (context_of context.old) delegate.new (context_of context.new)
+        result context.new.error }
 {
     if rest.is_empty() {
         return perform(Piece::Finish, context, delegate);
     }
-    Err(fault(Fault::Unconsumed, Some(rest)))
+    Err(fault(Fault::Unconsumed, Some(rest), &mut context.error))
 }
 
 /// Reads what stands after a range mark.
@@ -179,9 +192,10 @@ fn second<'a, A: Allocator + Copy, D: Delegate>(
     text: &'a [u8],
     context: &mut Context<'a>,
     delegate: &mut D,
-) -> Result<(), Error<'a>>
+) -> Result<(), Stopped>
     ensures { Performs D.step (second_side text.now)
-        delegate.old (context_of context.old) delegate.new (context_of context.new) result }
+        delegate.old (context_of context.old) delegate.new (context_of context.new)
+        result context.new.error }
 {
     let side = revision(alloc, text, context, delegate)?;
     imply_head(text, side.rest, context, delegate)?;
@@ -206,14 +220,16 @@ fn range_side<'a, A: Allocator + Copy, D: Delegate>(
     after: &'a [u8],
     context: &mut Context<'a>,
     delegate: &mut D,
-) -> Result<(), Error<'a>>
+) -> Result<(), Stopped>
     ensures { Performs D.step
         (range_at first.entry.excluded first.entry.text.now first.entry.rest.now (kind, after.now))
-        delegate.old (context_of context.old) delegate.new (context_of context.new) result }
+        delegate.old (context_of context.old) delegate.new (context_of context.new)
+        result context.new.error }
 {
     if first.excluded {
         let was = Kind::ExcludeReachable;
-        return Err(fault(Fault::KindTwice { was, now: kind }, None));
+        let twice = Fault::KindTwice { was, now: kind };
+        return Err(fault(twice, None, &mut context.error));
     }
     imply_head(first.text, first.rest, context, delegate)?;
     perform(Piece::Range(kind), context, delegate)?;
@@ -226,11 +242,12 @@ fn after_side<'a, A: Allocator + Copy, D: Delegate>(
     first: First<'a>,
     context: &mut Context<'a>,
     delegate: &mut D,
-) -> Result<(), Error<'a>>
+) -> Result<(), Stopped>
     ensures { Performs D.step
         (ranged first.entry.excluded first.entry.text.now first.entry.rest.now
         (range_mark first.entry.rest.now))
-        delegate.old (context_of context.old) delegate.new (context_of context.new) result }
+        delegate.old (context_of context.old) delegate.new (context_of context.new)
+        result context.new.error }
 {
     match mark(first.rest) {
         Some((kind, after)) => range_side(alloc, first, kind, after, context, delegate),
@@ -246,9 +263,10 @@ fn sides<'a, A: Allocator + Copy, D: Delegate>(
     text: &'a [u8],
     context: &mut Context<'a>,
     delegate: &mut D,
-) -> Result<(), Error<'a>>
+) -> Result<(), Stopped>
     ensures { Performs D.step (sides_at excluded text.now)
-        delegate.old (context_of context.old) delegate.new (context_of context.new) result }
+        delegate.old (context_of context.old) delegate.new (context_of context.new)
+        result context.new.error }
 {
     let side = revision(alloc, text, context, delegate)?;
     let first = First {
@@ -259,7 +277,7 @@ fn sides<'a, A: Allocator + Copy, D: Delegate>(
     match side.way {
         Way::Onward => after_side(alloc, first, context, delegate),
         Way::Closed if side.rest.is_empty() => Ok(()),
-        Way::Closed => Err(fault(Fault::Unconsumed, Some(side.rest))),
+        Way::Closed => Err(fault(Fault::Unconsumed, Some(side.rest), &mut context.error)),
     }
 }
 
@@ -278,9 +296,10 @@ fn exclude<'a, D: Delegate>(
     excluded: bool,
     context: &mut Context<'a>,
     delegate: &mut D,
-) -> Result<(), Error<'a>>
+) -> Result<(), Stopped>
     ensures { Performs D.step (excluded_at excluded)
-        delegate.old (context_of context.old) delegate.new (context_of context.new) result }
+        delegate.old (context_of context.old) delegate.new (context_of context.new)
+        result context.new.error }
 {
     if excluded {
         return perform(Piece::Exclude, context, delegate);
@@ -295,9 +314,10 @@ fn whole<'a, A: Allocator + Copy, D: Delegate>(
     text: &'a [u8],
     context: &mut Context<'a>,
     delegate: &mut D,
-) -> Result<(), Error<'a>>
+) -> Result<(), Stopped>
     ensures { Performs D.step (pieces_of text.now)
-        delegate.old (context_of context.old) delegate.new (context_of context.new) result }
+        delegate.old (context_of context.old) delegate.new (context_of context.new)
+        result context.new.error }
 {
     let (excluded, sides_text) = strip_exclude(text);
     exclude(excluded, context, delegate)?;
@@ -325,5 +345,9 @@ pub fn parse<'a, A: Allocator + Copy, D: Delegate>(
         → IsErrOf result Error.OutOfMemory
         → IsRun D.step delegate.old (meaning_of input.now now) delegate.new without_memory }
 {
-    whole(alloc, input, &mut Context::new(now), delegate)
+    let mut context = Context::new(now);
+    match whole(alloc, input, &mut context, delegate) {
+        Ok(()) => Ok(()),
+        Err(Stopped) => Err(context.error),
+    }
 }

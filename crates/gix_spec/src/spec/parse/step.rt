@@ -13,8 +13,7 @@ ghost use Rattle.gix_spec.specs.Found.{part_of};
 ghost use Rattle.gix_spec.specs.Part.{piece, closing};
 ghost use Rattle.gix_spec.specs.Pieces;
 
-use super::Error;
-use super::context::Context;
+use super::context::{Context, Stopped};
 use super::delegate::{Delegate, PeelTo, Traversal};
 use super::fault::Fault;
 use super::function::read;
@@ -57,6 +56,7 @@ fn step<'a>(step: Traversal, after: &'a [u8], rest: &'a [u8]) -> Found<'a>
 }
 
 // `~` and `~n`.
+#[inline(always)]
 #[tactic(auto, unfolding(crate::specs::Steps::ancestor_at))]
 fn ancestor(after: &[u8]) -> Found<'_>
     ensures { part_of result ≡ ancestor_at after.now }
@@ -119,6 +119,7 @@ fn without<'a>(digits: &'a [u8], run: &'a [u8], rest: &'a [u8], after: &'a [u8])
 }
 
 // `^`, and what the run behind it says.
+#[inline(always)]
 #[tactic(auto, unfolding(crate::specs::Steps::run_at))]
 fn numbered<'a>(run: &'a [u8], rest: &'a [u8], after: &'a [u8]) -> Found<'a>
     ensures { part_of result ≡ run_at run.now rest.now after.now }
@@ -138,6 +139,7 @@ fn closer(kind: Kind, rest: &[u8]) -> Found<'_>
 }
 
 // What stands behind a `^`, where no brace does.
+#[inline(always)]
 #[tactic(auto, unfolding(crate::specs::Steps::parent_at))]
 fn behind_caret(after: &[u8]) -> Found<'_>
     requires { starts_with brace after.now ≡ false }
@@ -156,15 +158,17 @@ fn behind_caret(after: &[u8]) -> Found<'_>
 }
 
 // What stands behind a `^`.
+#[inline(always)]
 #[tactic(auto, unfolding(crate::specs::Steps::parent_at))]
 fn parent_step<'a, A: Allocator, D: Delegate>(
     alloc: A,
     after: &'a [u8],
     context: &mut Context<'a>,
     delegate: &mut D,
-) -> Result<Behind<'a>, Error<'a>>
+) -> Result<Behind<'a>, Stopped>
     ensures { Reads D.step (parent_at after.now)
-        delegate.old (context_of context.old) delegate.new (context_of context.new) result }
+        delegate.old (context_of context.old) delegate.new (context_of context.new)
+        result context.new.error }
 {
     match after {
         [b'{', ..] => target(alloc, after, context, delegate),
@@ -173,15 +177,17 @@ fn parent_step<'a, A: Allocator, D: Delegate>(
 }
 
 /// Reads the step at the front of a text, if one stands there.
+#[inline(always)]
 #[tactic(auto, unfolding(crate::specs::Steps::step_at))]
 pub(crate) fn next_step<'a, A: Allocator, D: Delegate>(
     alloc: A,
     text: &'a [u8],
     context: &mut Context<'a>,
     delegate: &mut D,
-) -> Result<Behind<'a>, Error<'a>>
+) -> Result<Behind<'a>, Stopped>
     ensures { Reads D.step (step_at text.now)
-        delegate.old (context_of context.old) delegate.new (context_of context.new) result }
+        delegate.old (context_of context.old) delegate.new (context_of context.new)
+        result context.new.error }
 {
     match text {
         [b'~', after @ ..] => read(ancestor(after), context, delegate),

@@ -10,10 +10,9 @@ ghost use Rattle.gix_spec.specs.Performs.{Reads};
 ghost use Rattle.gix_spec.specs.Targets.{target_named, banged_mark, regex_mark, marked_regex};
 ghost use Rattle.gix_spec.specs.Targets.{peeled_to, inside_target, target_braces};
 
-use super::Error;
 use super::braces::{Braced, opened};
 use super::calls::call_find;
-use super::context::Context;
+use super::context::{Context, Stopped};
 use super::delegate::{Delegate, PeelTo};
 use super::fault::Fault;
 use super::function::read;
@@ -81,9 +80,10 @@ fn regex<'a, D: Delegate>(
     rest: &'a [u8],
     context: &mut Context<'a>,
     delegate: &mut D,
-) -> Result<Behind<'a>, Error<'a>>
+) -> Result<Behind<'a>, Stopped>
     ensures { Reads D.step (marked_regex raw.now meant.now rest.now (regex_mark meant.now))
-        delegate.old (context_of context.old) delegate.new (context_of context.new) result }
+        delegate.old (context_of context.old) delegate.new (context_of context.new)
+        result context.new.error }
 {
     let Some((len, negated)) = mark(meant) else {
         let fault = Part::refusal(Fault::RegexPrefix, Some(raw));
@@ -118,10 +118,11 @@ fn inside<'a, A: Allocator, D: Delegate>(
     after: &'a [u8],
     context: &mut Context<'a>,
     delegate: &mut D,
-) -> Result<Behind<'a>, Error<'a>>
+) -> Result<Behind<'a>, Stopped>
     ensures { Reads D.step
         (inside_target (braced_of braces.now).meant (braced_of braces.now) after.now)
-        delegate.old (context_of context.old) delegate.new (context_of context.new) result }
+        delegate.old (context_of context.old) delegate.new (context_of context.new)
+        result context.new.error }
 {
     let meant = braces.meant.as_ref();
     if let [b'/', more @ ..] = meant {
@@ -136,11 +137,12 @@ pub(crate) fn target<'a, A: Allocator, D: Delegate>(
     after: &'a [u8],
     context: &mut Context<'a>,
     delegate: &mut D,
-) -> Result<Behind<'a>, Error<'a>>
+) -> Result<Behind<'a>, Stopped>
     requires { starts_with brace after.now ≡ true }
     ensures { Reads D.step (target_braces after.now)
-        delegate.old (context_of context.old) delegate.new (context_of context.new) result }
+        delegate.old (context_of context.old) delegate.new (context_of context.new)
+        result context.new.error }
 {
-    let braces = opened(alloc, after)?;
+    let braces = opened(alloc, after, &mut context.error)?;
     inside(&braces, after, context, delegate)
 }

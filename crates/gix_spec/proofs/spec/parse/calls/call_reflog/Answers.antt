@@ -6,4 +6,4 @@ pub returns-then-own_prefix : goal.returns-then-own_prefix
 returns-then-own_prefix g c = rw (c.if-own_prefix.true, c.fault.ensures) (record { asks = λ onward. at_leaf })
 
 pub returns : goal.returns
-returns g c = rw c.if-own_prefix.false (asks_demand g.D.Listener.step c.reflog.ensures c.demanded.ensures)
+returns g c = rw c.if-own_prefix.false (asks_demand g.D.Listener.step c.reflog-answer.ensures c.demanded.ensures)

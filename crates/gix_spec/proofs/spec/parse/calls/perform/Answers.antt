@@ -13,13 +13,13 @@ returns-in-Branch g c =
     rw c.in-Branch.is (performs_demand g.D.Listener.step (λ more. refl) c.nth_checked_out_branch-answer.ensures c.demanded-in-Branch.ensures)
 
 pub returns-in-Step : goal.returns-in-Step
-returns-in-Step g c = rw c.in-Step.is (performs_demand g.D.Listener.step (λ more. refl) c.traverse.ensures c.demanded-in-Step.ensures)
+returns-in-Step g c = rw c.in-Step.is (performs_demand g.D.Listener.step (λ more. refl) c.traverse-answer.ensures c.demanded-in-Step.ensures)
 
 pub returns-in-Peel : goal.returns-in-Peel
-returns-in-Peel g c = rw c.in-Peel.is (performs_demand g.D.Listener.step (λ more. refl) c.peel_until.ensures c.demanded-in-Peel.ensures)
+returns-in-Peel g c = rw c.in-Peel.is (performs_demand g.D.Listener.step (λ more. refl) c.peel_until-answer.ensures c.demanded-in-Peel.ensures)
 
 pub returns-in-Path : goal.returns-in-Path
-returns-in-Path g c = rw c.in-Path.is (performs_demand g.D.Listener.step (λ more. refl) c.peel_until-answer.ensures c.demanded-in-Path.ensures)
+returns-in-Path g c = rw c.in-Path.is (performs_demand g.D.Listener.step (λ more. refl) c.peel_until-answer-in-Path.ensures c.demanded-in-Path.ensures)
 
 pub returns-in-Finish : goal.returns-in-Finish
 returns-in-Finish g c = rw c.in-Finish.is (performs_demand g.D.Listener.step (λ more. refl) c.done.ensures c.demanded-in-Finish.ensures)

@@ -1,5 +1,6 @@
 use Rattle.std.proofs.Common.{Result, length}
 use Rattle.gix_spec.specs.declared.spec.parse.Error.{Error}
+use Rattle.gix_spec.specs.declared.spec.parse.context.Stopped.{Stopped}
 use Rattle.gix_spec.specs.declared.spec.parse.part.Behind.{Behind}
 use Rattle.gix_spec.specs.Context.{Context, context_of}
 use Rattle.gix_spec.specs.Steps.{navigation}
@@ -9,9 +10,9 @@ use Rattle.gix_spec.proofs.spec.parse.function.navigate.Given as goal
 -- who reads the steps of what is left from here, has read those of the whole
 abbrev pub invariant-steps : goal.invariant-steps
 invariant-steps g l = record {
-  onward : (w : g.row.D.Denot) (k : Context) (out : Result Behind Error) →
-      Reads g.D.Listener.step (navigation l.rest) l.delegate (context_of l.context) w k out →
-      Reads g.D.Listener.step (navigation l.fn.text) l.fn.delegate (context_of l.fn.context) w k out;
+  onward : (w : g.row.D.Denot) (k : Context) (out : Result Behind Stopped) (error : Error) →
+      Reads g.D.Listener.step (navigation l.rest) l.delegate (context_of l.context) w k out error →
+      Reads g.D.Listener.step (navigation l.fn.text) l.fn.delegate (context_of l.fn.context) w k out error;
 }
 
 abbrev pub decreases-steps : goal.decreases-steps

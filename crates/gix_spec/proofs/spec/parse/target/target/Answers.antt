@@ -4,7 +4,7 @@ use Rattle.gix_spec.proofs.spec.parse.target.target.Goals as goal
 
 pub returns-in_err-braces : goal.returns-in_err-braces
 unfolding target_braces
-returns-in_err-braces g c = braces_stop g.D.Listener.step c.args.after.now _ c.in_err-braces.field-0.0 c.from_residual.result c.in_err-braces.ensures c.from_residual.ensures.1
+returns-in_err-braces g c = braces_stop g.D.Listener.step c.args.after.now _ _ c.from_residual.result c.in_err-braces.ensures c.from_residual.ensures.1
 
 pub returns : goal.returns
 unfolding target_braces
