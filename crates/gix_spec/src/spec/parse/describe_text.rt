@@ -18,6 +18,9 @@ pub(crate) fn prefix_with<'a>(digits: &'a [u8], hint: Option<PrefixHint<'a>>) ->
     ensures { option_map attempt_found result
         ≡ prefix_with digits.now (option_map hint_of hint.entry) }
 {
+    if !are_hex_digits(digits) {
+        return None;
+    }
     match Prefix::from_hex(digits) {
         Ok(prefix) => Some(Attempt { prefix, hint }),
         Err(_) => None,
