@@ -1,13 +1,10 @@
 -- A walk that lists commits by their numbers, and marks just those that it has listed.
-use Rattle.std.specs.Prelude.{◌≡◌, ◌↔◌, ℕ, List, ◌++◌, IsTrue, is_some, Result}
+use Rattle.std.specs.Prelude.{◌≡◌, ◌↔◌, ℕ, List, ◌++◌, IsTrue, is_some}
 use Rattle.std.specs.List.{IsDistinct}
 use Rattle.gix_base.specs.declared.hash.ObjectId.{ObjectId}
 use Rattle.gix_revwalk.specs.History.{History, Has, IsEdge, IsAncestorOfOne, is_one_of, same_id}
 use Rattle.gix_revwalk.specs.Graph.{Graphed}
 use Rattle.gix_revwalk.specs.Data.{mark_at}
-use Rattle.gix_revwalk.specs.Faults.{count_after, is_source_fault}
-use Rattle.gix_revwalk.specs.Walks.{KeepsHeld}
-use Rattle.gix_revwalk.specs.declared.graph.Error.{Error}
 use Rattle.gix_revwalk.specs.declared.graph.commit.Commit.{Commit}
 use Rattle.gix_revwalk.specs.declared.numbers.Number.{Number}
 use Rattle.gix_merge_base.specs.PaintQueue.{ids_at, AreIn}
@@ -28,11 +25,3 @@ abbrev pub Adds : History → (starts xs ys : List ObjectId) → Type 0
 Adds h starts xs ys =
     (more : List ObjectId) × (ys ≡ xs ++ more)
     × ((c : ObjectId) → IsTrue (is_one_of more c) ↔ (IsAncestorOfOne h starts c × (¬ IsTrue (is_one_of xs c))))
-
-module _ {S D A T : Type 0} (history : S → History) (faults : S → ℕ) where
-  -- the graph after a call that answered r: over the same history, with the failure of the source
-  -- counted if that is why it was refused, and with all that was held
-  pub record AfterWalk (before after : Graphed S (Commit D A)) (r : Result T Error) : Type 0 where
-    pub same_history : history after.source ≡ history before.source
-    pub count : faults after.source ≡ count_after (is_source_fault r) (faults before.source)
-    pub held : KeepsHeld before after

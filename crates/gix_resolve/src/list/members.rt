@@ -1,12 +1,13 @@
 //! The members of the set that a spec means, in no order.
 
 ghost use Rattle.std.specs.Prelude.{IfOk, ◌∷◌, []};
+ghost use Rattle.gix_revwalk.specs.Faults.{is_source_fault};
+ghost use Rattle.gix_revwalk.specs.GraphAfter.{GraphAfter};
 ghost use Rattle.gix_revwalk.specs.History.{entry_at, parents_in, IsAncestorOfOne};
 ghost use Rattle.gix_revwalk.specs.Sizes.{Lists};
 ghost use Rattle.gix_spec.specs.declared.spec.Spec.TheVariants.{Merge};
 ghost use Rattle.gix_spec.specs.declared.spec.Spec.TheVariants.{IncludeOnlyParents, ExcludeParents};
 ghost use Rattle.gix_resolve.specs.ListMeaning.{IsMeant};
-ghost use Rattle.gix_resolve.specs.ListWalk.{AfterWalk};
 
 use crate::list::walk::ancestors_beyond;
 use gix_revision::graph::{self, Commit, Find, Graph};
@@ -25,7 +26,7 @@ fn ancestors_of_just_one<S: Find, A: Allocator + Copy>(
 ) -> Result<Vec<ObjectId, A>, graph::Error>
     ensures meant { IfOk result (λ ids. Lists ids.items
         (IsMeant (S.history graph.old.source) (Merge theirs ours))) }
-    ensures after { AfterWalk S.history S.fault_count graph.old graph.new result }
+    ensures after { GraphAfter S.history S.fault_count is_source_fault graph.old graph.new result }
 {
     let marks = Flags::default();
     let mut ids = ancestors_beyond(alloc, &[ours], &[theirs], marks, graph)?;
@@ -42,7 +43,7 @@ fn ancestors_of_parents<S: Find, A: Allocator + Copy>(
 ) -> Result<Vec<ObjectId, A>, graph::Error>
     ensures meant { IfOk result (λ ids. Lists ids.items
         (IsMeant (S.history graph.old.source) (IncludeOnlyParents id))) }
-    ensures after { AfterWalk S.history S.fault_count graph.old graph.new result }
+    ensures after { GraphAfter S.history S.fault_count is_source_fault graph.old graph.new result }
 {
     let marks = Flags::default();
     let Some(number) = numbers::take(graph, alloc, id, marks)? else {
@@ -60,7 +61,7 @@ fn alone<S: Find, A: Allocator + Copy>(
 ) -> Result<Vec<ObjectId, A>, graph::Error>
     ensures meant { IfOk result (λ ids. Lists ids.items
         (IsMeant (S.history graph.old.source) (ExcludeParents id))) }
-    ensures after { AfterWalk S.history S.fault_count graph.old graph.new result }
+    ensures after { GraphAfter S.history S.fault_count is_source_fault graph.old graph.new result }
 {
     let Some(_) = numbers::take(graph, alloc, id, Flags::default())? else {
         return Ok(Vec::new(alloc));
@@ -78,7 +79,7 @@ pub(crate) fn members<S: Find, A: Allocator + Copy>(
 ) -> Result<Vec<ObjectId, A>, graph::Error>
     ensures meant { IfOk result (λ ids. Lists ids.items
         (IsMeant (S.history graph.old.source) spec)) }
-    ensures after { AfterWalk S.history S.fault_count graph.old graph.new result }
+    ensures after { GraphAfter S.history S.fault_count is_source_fault graph.old graph.new result }
 {
     let marks = Flags::default();
     match spec {

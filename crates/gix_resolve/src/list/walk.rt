@@ -5,14 +5,16 @@
 //! only what was not reached before.
 
 ghost use Rattle.std.specs.Prelude.{◌≡◌, ◌<◌, ◌∷◌, [], OnOk, IfOk};
+ghost use Rattle.gix_revwalk.specs.Faults.{is_source_fault};
 ghost use Rattle.gix_revwalk.specs.Graph.{held_len};
+ghost use Rattle.gix_revwalk.specs.GraphAfter.{GraphAfter};
 ghost use Rattle.gix_revwalk.specs.History.{entry_at, parents_in, IsAncestorOfOne};
 ghost use Rattle.gix_revwalk.specs.Number.{place_in};
 ghost use Rattle.gix_revwalk.specs.Numbers.{held_ids};
 ghost use Rattle.gix_revwalk.specs.Sizes.{Lists};
 ghost use Rattle.gix_revwalk.specs.Walks.{added, all_added, visited, all_visited};
 ghost use Rattle.gix_merge_base.specs.PaintQueue.{id_at, ids_at, AreIn};
-ghost use Rattle.gix_resolve.specs.ListWalk.{AreMarked, AreClosed, Adds, AfterWalk};
+ghost use Rattle.gix_resolve.specs.ListWalk.{AreMarked, AreClosed, Adds};
 
 use gix_revision::graph::{Commit, Error, Find, Graph};
 use gix_revision::hash::ObjectId;
@@ -81,7 +83,7 @@ fn list_parents<S: Find, D: Drop + Copy, A: Allocator + Copy>(
     ensures visited { OnOk result (ids_at graph.new listed.new.items
         ≡ all_visited (S.history graph.old.source) (ids_at graph.old listed.old.items)
         (parents_in (entry_at (S.history graph.old.source) (id_at graph.old (place_in number))))) }
-    ensures after { AfterWalk S.history S.fault_count graph.old graph.new result }
+    ensures after { GraphAfter S.history S.fault_count is_source_fault graph.old graph.new result }
 {
     numbers::known_parents(graph, alloc, number, marks, into)?;
     match list_all(into, marks, listed, graph) {
@@ -102,7 +104,7 @@ fn list_id<S: Find, D: Drop + Copy, A: Allocator + Copy>(
     ensures marked { OnOk result (AreMarked graph.new listed.new.items) }
     ensures visited { OnOk result (ids_at graph.new listed.new.items
         ≡ visited (S.history graph.old.source) (ids_at graph.old listed.old.items) id) }
-    ensures after { AfterWalk S.history S.fault_count graph.old graph.new result }
+    ensures after { GraphAfter S.history S.fault_count is_source_fault graph.old graph.new result }
 {
     let Some(number) = numbers::take(graph, alloc, id, marks)? else {
         return Ok(());
@@ -129,7 +131,7 @@ fn list_ancestors<S: Find, D: Drop + Copy, A: Allocator + Copy>(
         (AreClosed (S.history graph.old.source) (ids_at graph.new listed.new.items)) }
     ensures adds { OnOk result (Adds (S.history graph.old.source) (id ∷ [])
         (ids_at graph.old listed.old.items) (ids_at graph.new listed.new.items)) }
-    ensures after { AfterWalk S.history S.fault_count graph.old graph.new result }
+    ensures after { GraphAfter S.history S.fault_count is_source_fault graph.old graph.new result }
 {
     let mut i = listed.len();
     list_id(alloc, id, marks, listed, graph)?;
@@ -158,7 +160,7 @@ fn list_all_ancestors<S: Find, D: Drop + Copy, A: Allocator + Copy>(
         (AreClosed (S.history graph.old.source) (ids_at graph.new listed.new.items)) }
     ensures adds { OnOk result (Adds (S.history graph.old.source) ids.now
         (ids_at graph.old listed.old.items) (ids_at graph.new listed.new.items)) }
-    ensures after { AfterWalk S.history S.fault_count graph.old graph.new result }
+    ensures after { GraphAfter S.history S.fault_count is_source_fault graph.old graph.new result }
 {
     for id in ids {
         list_ancestors(alloc, *id, marks, listed, graph)?;
@@ -193,7 +195,7 @@ pub(crate) fn ancestors_beyond<S: Find, D: Drop + Copy, A: Allocator + Copy>(
     ensures beyond { IfOk result (λ ids. Lists ids.items
         (λ c. IsAncestorOfOne (S.history graph.old.source) shown.now c
         × (¬ IsAncestorOfOne (S.history graph.old.source) hidden.now c))) }
-    ensures after { AfterWalk S.history S.fault_count graph.old graph.new result }
+    ensures after { GraphAfter S.history S.fault_count is_source_fault graph.old graph.new result }
 {
     numbers::begin_walk(graph);
     let mut listed = Vec::new(alloc);
