@@ -44,15 +44,16 @@ pub(crate) fn mark<S: Find, A: Allocator>(
     ensures source { graph.new.source ≡ graph.old.source }
     ensures numbers { KeepsNumbers graph.old graph.new }
     ensures noted { (q : ObjectId) → noted_at graph.new q ≡ noted_at graph.old q }
-    ensures marks { (id : ObjectId) → Some (place_in number) ≡ number_at graph.old id → (q : ObjectId) → held_at graph.new q
-        ≡ cond (same_id id q) (option_map (λ k. bit_or k marks) (held_at graph.old q)) (held_at graph.old q) }
+    ensures marks { (id : ObjectId) → Some (place_in number) ≡ number_at graph.old id → (q : ObjectId)
+        → held_at graph.new q ≡ cond (same_id id q) (option_map (λ k. bit_or k marks) (held_at graph.old q))
+        (held_at graph.old q) }
 {
     let held = *numbers::value(graph, number);
     numbers::put(graph, number, held | marks)
 }
 
-/// What is handed to parents: marks, along which edges. By the mark of the place the queued commits
-/// are counted that lack it; without a place none is.
+/// What is handed to parents: marks, along which edges. The queued commits that lack the mark of the
+/// place are counted; without a place none is.
 #[derive(Clone, Copy)]
 pub(crate) struct Hand {
     pub(crate) marks: u32,

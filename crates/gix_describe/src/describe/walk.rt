@@ -324,8 +324,8 @@ impl<A: Allocator + Copy> Walk<A> {
         Some(best)
     }
 
-    /// A popped commit is counted for one candidate, and its parents are met. Of it and all that is
-    /// queued some lack the candidate's mark; where none does, the count is complete: `true`.
+    /// A popped commit is counted for one candidate, and its parents are met. Where it and all that is
+    /// queued have the candidate's mark, which `lacking` counts, the count is complete: `true`.
     fn pass_for<S: Find>(
         &mut self,
         alloc: A,
