@@ -5,6 +5,8 @@
 #[cfg(test)]
 mod braces;
 #[cfg(test)]
+mod calls;
+#[cfg(test)]
 mod dates;
 #[cfg(test)]
 mod delegate;
