@@ -15,6 +15,8 @@ mod descriptions;
 #[cfg(test)]
 mod errors;
 #[cfg(test)]
+mod faults;
+#[cfg(test)]
 mod graphs;
 #[cfg(test)]
 mod histories;
