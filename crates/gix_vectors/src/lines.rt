@@ -321,12 +321,13 @@ fn nothing_is_written_after_a_write_that_failed(rt: HostRuntime) -> Result<(), F
     Ok(())
 }
 
-/// All commands after the criss-cross, and texts that take memory of their own, as the rows above.
+/// All commands after the criss-cross, and a text that takes memory of its own, as the rows above.
 const COMMANDS: &str =
-    "name [1] v|ref [4] HEAD|base [4] [5]|octopus [4] [5]|parse [1]..[2]|describe [2]|base [4]|parse|\
-octopus [5] [4]|parse a^{/\\{}^{/\\}}|base [4] [5]|spec HEAD~2|list HEAD^!|list HEAD^@|list ^HEAD| => 0 \
+    "name [1] v|ref [4] HEAD|base [4] [5]|octopus [4] [5]|parse [1]..[2]|describe [2]|base [4]|parse|octopus [5] [4]|\
+describe [2]|parse a^{/\\{}^{/\\}}|base [4] [5]|spec HEAD~2|list HEAD^!|list HEAD^@|list ^HEAD| => 0 \
 base [2] [3]|octopus [2]|parse prefix([1]); kind(RangeBetween); prefix([2]); done|describe v-1-g2222222|base [4]|\
-parse done|octopus [2]|parse find_ref(a); find({); find(}); done|base [2] [3]|spec [1]|list [4]|list [1] [2] [3]|list none|";
+parse done|octopus [2]|describe v-1-g2222222|parse find_ref(a); find({); find(}); done|base [2] [3]|spec [1]|list [4]|\
+list [1] [2] [3]|list none|";
 
 /// Whether a line is this row, or says in its place that memory was wanting: after the word alone, or of a
 /// text after some of its calls.
