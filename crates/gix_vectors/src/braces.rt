@@ -144,11 +144,10 @@ fn is_held(alloc: Global, (text, inner, left, borrows): (&[u8], &[u8], &[u8], bo
     for before in 0..100u64 {
         let refusing = Refusing::new(alloc, before);
         let refuses = matches!(parens(&refusing, text), Err(Error::OutOfMemory));
-        let held = holds(&refusing, text, (inner, left), borrows);
-        if !refuses {
-            return held && !refusing.has_refused() && (before == 0) == borrows;
+        if !refusing.has_refused() {
+            return (before == 0) == borrows && holds(alloc, text, (inner, left), borrows);
         }
-        if !held {
+        if !refuses || !holds(&refusing, text, (inner, left), borrows) {
             return false;
         }
     }
