@@ -1,5 +1,5 @@
-//! Texts with braces: dates, entries, siblings, targets and searches, with the calls that they make and the fault of each
-//! refused call; the braces alone; and want of memory where an escape is taken out.
+//! Texts with braces: dates, entries, siblings, targets and searches, with the calls that they make and the fault of
+//! each refused call; the braces alone; and want of memory where an escape is taken out.
 
 use crate::calls::{first_lost, first_wrong, makes};
 use gix_spec::spec::parse::{Error, Fault, parens};
@@ -127,8 +127,8 @@ fn holds<A: Allocator + Copy>(
     }
 }
 
-// A text that begins with braces, what they hold, what is left, and whether what they hold is borrowed: where no escape is
-// taken out.
+// A text that begins with braces, what they hold, what is left, and whether what they hold is borrowed: where no escape
+// is taken out.
 const BRACED: [(&[u8], &[u8], &[u8], bool); 6] = [
     (b"{}", b"", b"", true),
     (b"{a{b}c}d}", b"a{b}c", b"d}", true),
@@ -138,8 +138,8 @@ const BRACED: [(&[u8], &[u8], &[u8], bool); 6] = [
     (b"{\\{\\}{\\\\}}^", b"{}{\\}", b"^", false),
 ];
 
-// Whether each request for memory that is refused in turn refuses a braced text, which is then held; there is such a request
-// just where nothing is borrowed.
+// Whether each request for memory that is refused in turn refuses a braced text, which is then held; there is such a
+// request just where nothing is borrowed.
 fn is_held(alloc: Global, (text, inner, left, borrows): (&[u8], &[u8], &[u8], bool)) -> bool {
     for before in 0..100u64 {
         let refusing = Refusing::new(alloc, before);

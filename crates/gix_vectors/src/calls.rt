@@ -9,8 +9,8 @@
 //!
 //! Behind a fault stands the part of the text that it names, in round brackets; none where it names none. A last fault
 //! without a call is of the text itself. A call behind an exclamation mark is refused in this row, and one with `next`
-//! in place of a fault is refused in another row of the text, since something else is tried then. `[x]` stands for forty
-//! digits x, and a number sign for the byte 255.
+//! in place of a fault is refused in another row of the text, since something else is tried then. `[x]` stands for
+//! forty digits x, and a number sign for the byte 255.
 
 use crate::delegate::{Answers, Told};
 use crate::histories::written_out;
@@ -190,7 +190,7 @@ fn comes(alloc: Global, text: &[u8], calls: &str, turn: Turn) -> Result<bool, Al
     Ok(found == wanted(alloc, calls, turn)?)
 }
 
-// Whether this part of a row is as it should be, and what it wants comes where it is refused, and where it wants memory.
+// Whether what a part of a row wants comes where its call is refused, and where it wants memory.
 fn part_stands(
     alloc: Global,
     text: &[u8],
@@ -245,8 +245,8 @@ fn is_cut_short(line: &[u8], want: &[u8]) -> bool {
     }
 }
 
-// Whether a text is cut short where each request of the parse for memory is refused in turn, and answers its row then; and
-// whether it asks for memory just where it has an escape.
+// Whether a text is cut short where each request of the parse for memory is refused in turn, and answers its row then;
+// and whether it asks for memory just where it has an escape.
 fn survives_refusals(alloc: Global, text: &[u8], calls: &str) -> Result<bool, AllocError> {
     let answers = answers_of(calls, Turn::Never);
     let want = wanted(alloc, calls, Turn::Never)?;

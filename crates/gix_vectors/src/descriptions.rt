@@ -1,4 +1,5 @@
-//! Descriptions: rows of git-describe by subject, texts and copies, lists of calls, and calls where memory or the source fails.
+//! Descriptions: rows of git-describe by subject, texts and copies, lists of calls, and calls where memory or the
+//! source fails.
 
 mod cases;
 mod early_ends;

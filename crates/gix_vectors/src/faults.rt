@@ -114,9 +114,9 @@ fn with_failure<C: Asks>(
     Ok((first, asked(alloc, alloc, call, &mut graph)?))
 }
 
-// How many look-ups of a call can be refused. None where a refused one does not refuse the call, or is not counted as it
-// should be, where something else than the source's is held then, or where the same call on the same graph is not answered
-// then.
+// How many look-ups of a call can be refused. None where a refused one does not refuse the call, or is not counted as
+// it should be, where something else than the source's is held then, or where the same call on the same graph is not
+// answered then.
 fn refused_look_ups<C: Asks>(
     alloc: Global,
     call: &C,
@@ -134,8 +134,8 @@ fn refused_look_ups<C: Asks>(
     Ok(None)
 }
 
-// A call twice on one graph with one request for memory refused, and whether that was in the first one. None where it was in
-// the making of its arguments.
+// A call twice on one graph with one request for memory refused, and whether that was in the first one. None where it
+// was in the making of its arguments.
 fn with_refusal<C: Asks>(
     alloc: Global,
     call: &C,
@@ -153,9 +153,9 @@ fn with_refusal<C: Asks>(
     Ok(Some((first, again, has_refused)))
 }
 
-// How many requests of a call for memory refuse it. None where a refused one has something else come than want of memory or
-// the answer, where something else than the source's is held then, or where the same call on the same graph is not answered
-// then. Room to remember the parents of a commit is not needed.
+// How many requests of a call for memory refuse it. None where a refused one has something else come than want of
+// memory or the answer, where something else than the source's is held then, or where the same call on the same graph
+// is not answered then. Room to remember the parents of a commit is not needed.
 fn refused_requests<C: Asks>(alloc: Global, call: &C) -> Result<Option<u64>, AllocError> {
     let well = Came::of(Answered::AsWanted, 0);
     let lacking = Came::of(Answered::OutOfMemory, 0);
@@ -175,8 +175,8 @@ fn refused_requests<C: Asks>(alloc: Global, call: &C) -> Result<Option<u64>, All
     Ok(None)
 }
 
-/// How often a call is refused, where each of its look-ups fails in turn, and each of its requests for memory; none where it
-/// does not survive one.
+/// How often a call is refused, where each of its look-ups fails in turn, and each of its requests for memory; none
+/// where it does not survive one.
 pub fn refusals<C: Asks>(alloc: Global, call: &C) -> Result<Option<u64>, AllocError> {
     let Some(mut all) = refused_requests(alloc, call)? else {
         return Ok(None);
@@ -190,8 +190,8 @@ pub fn refusals<C: Asks>(alloc: Global, call: &C) -> Result<Option<u64>, AllocEr
     Ok(Some(all))
 }
 
-/// The number of the first call of a table that does not survive each fault and each refused request; how many calls there
-/// are, where too few were refused.
+/// The number of the first call of a table that does not survive each fault and each refused request; how many calls
+/// there are, where too few were refused.
 pub fn first_lost<C: Asks>(alloc: Global, calls: &[C]) -> Result<Option<usize>, AllocError> {
     let mut all: u64 = 0;
     for (i, call) in calls.iter().enumerate() {

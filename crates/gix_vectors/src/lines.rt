@@ -396,8 +396,8 @@ fn judged(ran: &Run, (status, written): (u8, &[u8])) -> Came {
     Came::Wrong
 }
 
-/// How often a run could not read its input, how often some lines lacked memory, and how often none did, where each request
-/// is refused in turn.
+/// How often a run could not read its input, how often some lines lacked memory, and how often none did, where each
+/// request is refused in turn.
 #[derive(Clone, Copy, Debug, PartialEq)]
 struct Tally {
     unread: u64,
@@ -458,8 +458,8 @@ fn tally_of(alloc: Global, before: &str, rows: &str) -> Result<Option<Tally>, Al
     Ok(Some(all))
 }
 
-// Whether lines lacked memory so often, and refusals were unseen at most so often: room in which answers are gathered, or to
-// remember the parents of a commit, is not needed.
+// Whether lines lacked memory so often, and refusals were unseen at most so often: room in which answers are gathered,
+// or to remember the parents of a commit, is not needed.
 fn lacks(tally: Option<Tally>, least: u64, most: u64) -> bool {
     tally.is_some_and(|tally| tally.lacking > least && tally.unread > 20 && tally.answered < most)
 }

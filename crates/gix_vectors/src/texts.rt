@@ -1,5 +1,5 @@
-//! Texts without braces: ranges, names, steps and colon forms, with the calls that they make and the fault of each refused
-//! call; very long ones; printed faults and specs.
+//! Texts without braces: ranges, names, steps and colon forms, with the calls that they make and the fault of each
+//! refused call; very long ones; printed faults and specs.
 
 use crate::calls::{count, first_wrong};
 use gix_base::hash::ObjectId;

@@ -1,5 +1,5 @@
-//! Rows of git-describe where the walk ends before the history does: at a name below which nothing is left, or where there is
-//! no room for one more candidate (`--candidates`, at most 32 here); and the depth that is completed then.
+//! Rows of git-describe where the walk ends before the history does: at a name below which nothing is left, or where
+//! there is no room for one more candidate (`--candidates`, at most 32 here); and the depth that is completed then.
 
 use super::cases::{Case, FORK, How, LINE, ONE_CANDIDATE, PLAIN, Want, first_wrong, says};
 use crate::histories::{Row, id};

@@ -1,6 +1,6 @@
-//! Rows of git-describe: the nearest name, along all parents or first parents; a start that has one; no name, and the id in
-//! its place (`--always`); no candidates (`--candidates=0`); a start or a parent that the source lacks; times at both ends;
-//! a cycle.
+//! Rows of git-describe: the nearest name, along all parents or first parents; a start that has one; no name, and the
+//! id in its place (`--always`); no candidates (`--candidates=0`); a start or a parent that the source lacks; times at
+//! both ends; a cycle.
 
 use super::cases::{
     ALWAYS, Case, FIRST_PARENT, FORK, LINE, NO_CANDIDATE, PLAIN, Want, first_wrong,
