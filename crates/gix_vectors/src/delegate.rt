@@ -12,20 +12,30 @@ use std::alloc::Global;
 
 /// Which calls are not accepted, by their numbers from 1 on.
 #[derive(Clone, Copy)]
-pub enum Answers {
-    /// None of them.
-    Accepts,
-    /// Those from one number to another are refused, none where these are 0.
-    Refuses { from: usize, to: usize },
-    /// This one wants memory.
-    WantsMemory(usize),
-    /// This one is refused, and the one behind it wants memory.
-    RefusesThenWantsMemory(usize),
+pub struct Answers {
+    /// The ones that are refused; each 0 stands for none.
+    refused: [usize; 3],
+    /// The one that wants memory, or 0.
+    pub wanting: usize,
+}
+
+impl Answers {
+    /// All calls are accepted.
+    pub const ACCEPTED: Answers = Answers {
+        refused: [0; 3],
+        wanting: 0,
+    };
+
+    /// The call of this number is refused, too. The last three are.
+    pub fn refuse(&mut self, number: usize) {
+        let [first, second, _] = self.refused;
+        self.refused = [number, first, second];
+    }
 }
 
 /// The messages of refusals, by the number of the call.
-pub const MESSAGES: [&str; 8] = [
-    "call 1", "call 2", "call 3", "call 4", "call 5", "call 6", "call 7", "call 8",
+const MESSAGES: [&str; 9] = [
+    "call 1", "call 2", "call 3", "call 4", "call 5", "call 6", "call 7", "call 8", "call 9",
 ];
 
 /// Writes down each call, as `revtool` prints it, and answers as it was told.
@@ -62,21 +72,13 @@ impl Told {
     fn answer(&mut self, heard: Result<(), Exn>) -> Result<(), Exn> {
         heard?;
         self.count = self.count.saturating_add(1);
-        match self.answers {
-            Answers::Refuses { from, to } if from <= self.count && self.count <= to => {
-                Err(Exn::new(self.alloc, message_of(self.count)))
-            }
-            Answers::RefusesThenWantsMemory(number) if number == self.count => {
-                Err(Exn::new(self.alloc, message_of(self.count)))
-            }
-            Answers::RefusesThenWantsMemory(number) if number.saturating_add(1) == self.count => {
-                Err(Exn::out_of_memory(self.alloc))
-            }
-            Answers::WantsMemory(number) if number == self.count => {
-                Err(Exn::out_of_memory(self.alloc))
-            }
-            _ => Ok(()),
+        if self.answers.refused.contains(&self.count) {
+            return Err(Exn::new(self.alloc, message_of(self.count)));
         }
+        if self.answers.wanting == self.count {
+            return Err(Exn::out_of_memory(self.alloc));
+        }
+        Ok(())
     }
 }
 

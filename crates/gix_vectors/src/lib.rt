@@ -5,6 +5,8 @@
 #[cfg(test)]
 mod braces;
 #[cfg(test)]
+mod calls;
+#[cfg(test)]
 mod dates;
 #[cfg(test)]
 mod delegate;
@@ -12,6 +14,8 @@ mod delegate;
 mod descriptions;
 #[cfg(test)]
 mod errors;
+#[cfg(test)]
+mod faults;
 #[cfg(test)]
 mod graphs;
 #[cfg(test)]

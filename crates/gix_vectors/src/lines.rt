@@ -144,19 +144,49 @@ fn ends(alloc: Global, text: &[u8], status: u8, written: &[u8]) -> bool {
         && run_over(alloc, alloc, &mut Trickle::new(text, Ending::End)).is(status, written)
 }
 
-/// Whether the lines of a row end as it says.
-fn ends_as_said(alloc: Global, before: &str, row: &str) -> Result<bool, AllocError> {
+/// A row: the input, the status, and what is written.
+#[derive(Drop)]
+struct Row {
+    text: Vec<u8>,
+    status: u8,
+    written: Vec<u8>,
+}
+
+/// A row of a table behind these lines.
+fn row_of(alloc: Global, before: &str, row: &str) -> Result<Row, AllocError> {
     let (lines, ended) = row.split_once(" => ").unwrap_or((row, ""));
     let (status, written) = ended.split_once(' ').unwrap_or((ended, ""));
-    let status = match status {
-        "0" => 0,
-        "1" => 1,
-        _ => 2,
-    };
-    let written = written_out(alloc, written)?;
     let mut text = written_out(alloc, before)?;
     text.extend_from_slice(&written_out(alloc, lines)?)?;
-    Ok(ends(alloc, &text, status, &written))
+    Ok(Row {
+        text,
+        status: match status {
+            "0" => 0,
+            "1" => 1,
+            _ => 2,
+        },
+        written: written_out(alloc, written)?,
+    })
+}
+
+/// Whether the lines of a row end as it says.
+fn ends_as_said(alloc: Global, before: &str, row: &str) -> Result<bool, AllocError> {
+    let row = row_of(alloc, before, row)?;
+    Ok(ends(alloc, &row.text, row.status, &row.written))
+}
+
+/// The first row of a table that does not end so.
+fn first_wrong(
+    alloc: Global,
+    before: &str,
+    rows: &'static str,
+) -> Result<Option<&'static str>, AllocError> {
+    for row in rows.split('\n') {
+        if !ends_as_said(alloc, before, row)? {
+            return Ok(Some(row));
+        }
+    }
+    Ok(None)
 }
 
 /// Whether a line is the first that can't be read, the fourth of its text.
@@ -167,17 +197,25 @@ fn is_unreadable(alloc: Global, line: &str) -> Result<bool, AllocError> {
     Ok(ends(alloc, &text, 2, b"line 4 is unreadable\n"))
 }
 
+/// The first line that can be read, or is not the first that can't.
+fn first_readable(alloc: Global) -> Result<Option<&'static str>, AllocError> {
+    for line in UNREADABLE.split('\n') {
+        if !is_unreadable(alloc, line)? {
+            return Ok(Some(line));
+        }
+    }
+    Ok(None)
+}
+
 #[test]
 fn lines_are_answered(rt: HostRuntime) -> Result<(), Fail> {
-    for row in AFTER_CRISS_CROSS.split('\n') {
-        assert!(rt; ends_as_said(rt.alloc(), CRISS_CROSS, row)?, "{row}");
-    }
-    for row in ALONE.split('\n') {
-        assert!(rt; ends_as_said(rt.alloc(), "", row)?, "{row}");
-    }
-    for line in UNREADABLE.split('\n') {
-        assert!(rt; is_unreadable(rt.alloc(), line)?, "{line}");
-    }
+    assert_eq!(rt;
+        first_wrong(rt.alloc(), CRISS_CROSS, AFTER_CRISS_CROSS)?,
+        None
+    );
+    assert_eq!(rt; first_wrong(rt.alloc(), CRISS_CROSS, COMMANDS)?, None);
+    assert_eq!(rt; first_wrong(rt.alloc(), "", ALONE)?, None);
+    assert_eq!(rt; first_readable(rt.alloc())?, None);
     Ok(())
 }
 
@@ -283,23 +321,24 @@ fn nothing_is_written_after_a_write_that_failed(rt: HostRuntime) -> Result<(), F
     Ok(())
 }
 
+/// All commands after the criss-cross, and a text that takes memory of its own, as the rows above.
 const COMMANDS: &str =
-    "name [1] v|ref [4] HEAD|base [4] [5]|octopus [4] [5]|parse [1]..[2]|describe [2]|base [4]|parse|\
-    octopus [5] [4]|describe [2]|base [4] [5]|spec HEAD~2|";
-
-const ANSWERS: &str =
-    "base [2] [3]|octopus [2]|parse prefix([1]); kind(RangeBetween); prefix([2]); done|\
-    describe v-1-g2222222|base [4]|parse done|octopus [2]|describe v-1-g2222222|base [2] [3]|\
-    spec [1]|";
+    "name [1] v|ref [4] HEAD|base [4] [5]|octopus [4] [5]|parse [1]..[2]|describe [2]|base [4]|parse|octopus [5] [4]|\
+describe [2]|parse a^{/\\{}^{/\\}}|base [4] [5]|spec HEAD~2|list HEAD^!|list HEAD^@|list ^HEAD| => 0 \
+base [2] [3]|octopus [2]|parse prefix([1]); kind(RangeBetween); prefix([2]); done|describe v-1-g2222222|base [4]|\
+parse done|octopus [2]|describe v-1-g2222222|parse find_ref(a); find({); find(}); done|base [2] [3]|spec [1]|list [4]|\
+list [1] [2] [3]|list none|";
 
 /// Whether a line is this row, or says in its place that memory was wanting: after the word alone, or of a
 /// text after some of its calls.
 fn is_row_or_refusal(line: &[u8], row: &[u8]) -> bool {
-    let words: [(&[u8], &[u8]); 4] = [
+    let words: [(&[u8], &[u8]); 6] = [
         (b"base ", b"refused M2"),
         (b"octopus ", b"refused M2"),
         (b"describe ", b"refused D4"),
         (b"spec ", b"refused P0"),
+        (b"list ", b"refused P0"),
+        (b"list ", b"refused E2"),
     ];
     for (word, refusal) in words {
         if row.starts_with(word) && line.strip_prefix(word) == Some(refusal) {
@@ -329,20 +368,20 @@ fn are_rows_or_refusals(lines: &[u8], rows: &[u8]) -> bool {
     wanted.next().is_none() && lines != rows
 }
 
-/// What came of the commands where one request for memory may be refused.
+/// What came of a run where one request for memory may be refused.
 #[derive(Clone, Copy, Debug, PartialEq)]
 enum Came {
-    /// All are answered.
+    /// It ended as it should.
     Answered,
-    /// They could not be read.
+    /// Its input could not be read.
     Unread,
     /// Some lines say that memory was wanting.
     Lacking,
     Wrong,
 }
 
-fn judged(ran: &Run, rows: &[u8]) -> Came {
-    if ran.is(0, rows) {
+fn judged(ran: &Run, (status, written): (u8, &[u8])) -> Came {
+    if ran.is(status, written) {
         return Came::Answered;
     }
     if ran.status != 1 {
@@ -351,50 +390,87 @@ fn judged(ran: &Run, rows: &[u8]) -> Came {
     if ran.output.is_empty() && ran.faults.as_slice() == b"out of memory\n".as_slice() {
         return Came::Unread;
     }
-    if ran.faults.is_empty() && are_rows_or_refusals(&ran.output, rows) {
+    if status != 2 && ran.faults.is_empty() && are_rows_or_refusals(&ran.output, written) {
         return Came::Lacking;
     }
     Came::Wrong
 }
 
-/// The commands with one request for memory refused, and whether there was such a request.
-fn with_refusal(alloc: Global, text: &[u8], rows: &[u8], before: u64) -> (Came, bool) {
-    let memory = Refusing::new(alloc, before);
-    let mut input = text;
-    let ran = run_over(alloc, &memory, &mut input);
-    (judged(&ran, rows), memory.has_refused())
+/// How often a run could not read its input, how often some lines lacked memory, and how often none did, where each
+/// request is refused in turn.
+#[derive(Clone, Copy, Debug, PartialEq)]
+struct Tally {
+    unread: u64,
+    lacking: u64,
+    answered: u64,
 }
 
-/// How often some lines lacked memory, and how often none did, where each request is refused in turn; none
-/// where something else came, or requests never end.
-fn with_refusals(alloc: Global, text: &[u8], rows: &[u8]) -> Option<(u64, u64)> {
-    let mut lacking: u64 = 0;
-    let mut answered: u64 = 0;
-    for before in 0..1000u64 {
-        match with_refusal(alloc, text, rows, before) {
-            (Came::Answered, false) => return Some((lacking, answered)),
-            (Came::Answered, true) => answered = answered.saturating_add(1),
-            (Came::Lacking, true) => lacking = lacking.saturating_add(1),
-            (Came::Unread, true) => {}
-            _ => return None,
+impl Tally {
+    const NONE: Tally = Tally {
+        unread: 0,
+        lacking: 0,
+        answered: 0,
+    };
+
+    // One more run; none where something else came of it.
+    fn with(self, came: Came) -> Option<Tally> {
+        let mut tally = self;
+        match came {
+            Came::Answered => tally.answered = tally.answered.saturating_add(1),
+            Came::Unread => tally.unread = tally.unread.saturating_add(1),
+            Came::Lacking => tally.lacking = tally.lacking.saturating_add(1),
+            Came::Wrong => return None,
         }
+        Some(tally)
+    }
+}
+
+/// The runs of a row with each request for memory refused in turn, added to a tally; none where something else came, or
+/// requests never end.
+fn with_refusals(alloc: Global, text: &[u8], ended: (u8, &[u8]), before: Tally) -> Option<Tally> {
+    let mut tally = before;
+    for number in 0..2000u64 {
+        let memory = Refusing::new(alloc, number);
+        let mut input = text;
+        let came = judged(&run_over(alloc, &memory, &mut input), ended);
+        if !memory.has_refused() {
+            return if came == Came::Answered {
+                Some(tally)
+            } else {
+                None
+            };
+        }
+        tally = tally.with(came)?;
     }
     None
 }
 
-/// The same, of the commands after the criss-cross.
-fn commands_with_refusals(alloc: Global) -> Result<Option<(u64, u64)>, AllocError> {
-    let mut text = written_out(alloc, CRISS_CROSS)?;
-    text.extend_from_slice(&written_out(alloc, COMMANDS)?)?;
-    let rows = written_out(alloc, ANSWERS)?;
-    Ok(with_refusals(alloc, &text, &rows))
+/// The same, of all rows of a table.
+fn tally_of(alloc: Global, before: &str, rows: &str) -> Result<Option<Tally>, AllocError> {
+    let mut all = Tally::NONE;
+    for row in rows.split('\n') {
+        let row = row_of(alloc, before, row)?;
+        match with_refusals(alloc, &row.text, (row.status, &row.written), all) {
+            Some(tally) => all = tally,
+            None => return Ok(None),
+        }
+    }
+    Ok(Some(all))
+}
+
+// Whether lines lacked memory so often, and refusals were unseen at most so often: room in which answers are gathered,
+// or to remember the parents of a commit, is not needed.
+fn lacks(tally: Option<Tally>, least: u64, most: u64) -> bool {
+    tally.is_some_and(|tally| tally.lacking > least && tally.unread > 20 && tally.answered < most)
 }
 
 #[test]
 fn each_request_for_memory_is_refused_in_turn(rt: HostRuntime) -> Result<(), Fail> {
-    let (lacking, answered) = commands_with_refusals(rt.alloc())?.unwrap_or((0, 0));
-    assert!(rt; lacking > 20, "{lacking} refusals inside commands");
-    // Room in which answers are gathered, or to remember the parents of a commit, is not needed.
-    assert!(rt; answered < 8, "{answered} refusals unseen");
+    let commands = tally_of(rt.alloc(), CRISS_CROSS, COMMANDS)?;
+    assert!(rt; lacks(commands, 60, 16), "{commands:?}");
+    let crossed = tally_of(rt.alloc(), CRISS_CROSS, AFTER_CRISS_CROSS)?;
+    assert!(rt; lacks(crossed, 100, 60), "{crossed:?}");
+    let alone = tally_of(rt.alloc(), "", ALONE)?;
+    assert!(rt; lacks(alone, 20, 20), "{alone:?}");
     Ok(())
 }

@@ -9,14 +9,13 @@
 //!   3---5
 //! ```
 
-use crate::histories::{CRISS_CROSS, Row, agrees, are, id, source_of};
-use crate::sources::{Failing, Turn};
+use crate::faults::{Answered, Asks, first_lost, first_wrong};
+use crate::histories::{CRISS_CROSS, Row, are, id, source_of};
 use gix_resolve::{ListError, commits, page};
-use gix_revision::graph::{Commit, Find, FindFault, Graph};
+use gix_revision::graph::{Commit, Find, Graph};
 use gix_revision::hash::ObjectId;
 use gix_revision::merge_base::Flags;
 use gix_revision::spec::Spec;
-use refusing::Refusing;
 use std::alloc::{AllocError, Allocator, Global};
 use std::test::Fail;
 
@@ -139,47 +138,24 @@ fn listed<S: Find, A: Allocator + Copy>(
     }
 }
 
-/// What came of a call: the answer, the faults counted then, and whether what is held is the source's.
-#[derive(Clone, Copy, Debug, PartialEq)]
-struct Came {
-    answer: Result<bool, ListError>,
-    faults: u64,
-    agrees: bool,
-}
-
-fn asked<S: Find, A: Allocator + Copy>(
-    alloc: A,
-    graph: &mut Graph<S, Commit<Flags, A>, A>,
-    call: &Listing,
-) -> Came {
-    let answer = match listed(alloc, graph, call.0, call.2) {
-        Ok(ids) => Ok(are(&ids, call.3)),
-        Err(error) => Err(error),
-    };
-    Came {
-        answer,
-        faults: graph.source().faults(),
-        agrees: agrees(graph, call.1),
+impl Asks for Listing {
+    fn history(&self) -> &'static [Row<'static>] {
+        self.1
     }
-}
 
-/// The answer of the call, over a source that never failed.
-const WELL: Came = Came {
-    answer: Ok(true),
-    faults: 0,
-    agrees: true,
-};
-
-/// The number of the first call that is not answered so twice on one graph.
-fn first_wrong(alloc: Global, calls: &[Listing]) -> Result<Option<usize>, AllocError> {
-    for (i, call) in calls.iter().enumerate() {
-        let mut graph = Graph::new(alloc, source_of(alloc, call.1)?);
-        let first = asked(alloc, &mut graph, call);
-        if first != WELL || asked(alloc, &mut graph, call) != WELL {
-            return Ok(Some(i));
-        }
+    fn ask<S: Find, A: Allocator + Copy>(
+        &self,
+        _to: Global,
+        alloc: A,
+        graph: &mut Graph<S, Commit<Flags, A>, A>,
+    ) -> Result<Answered, AllocError> {
+        Ok(match listed(alloc, graph, self.0, self.2) {
+            Ok(ids) if are(&ids, self.3) => Answered::AsWanted,
+            Ok(_) => Answered::Otherwise,
+            Err(ListError::Source) => Answered::SourceFailed,
+            Err(ListError::OutOfMemory) => Answered::OutOfMemory,
+        })
     }
-    Ok(None)
 }
 
 /// Whether the pages of so many, each begun behind the last id of the one before, make up the list.
@@ -217,86 +193,9 @@ fn first_unjoined(alloc: Global, calls: &[Listing]) -> Result<Option<usize>, Lis
     Ok(None)
 }
 
-/// A fault, the faults counted before it, and after it, and the refusal that it makes.
-const FAULTS: [(FindFault, u64, u64, ListError); 3] = [
-    (FindFault::Failed, 0, 1, ListError::Source),
-    (FindFault::Failed, u64::MAX, u64::MAX, ListError::Source),
-    (FindFault::OutOfMemory, 5, 5, ListError::OutOfMemory),
-];
-
-/// Whether each look-up that is refused in turn refuses the call and is counted, with what is held the
-/// source's, and whether the same call on the same graph is answered then.
-fn survives_faults(
-    alloc: Global,
-    call: &Listing,
-    (fault, before, after, error): (FindFault, u64, u64, ListError),
-) -> Result<bool, AllocError> {
-    for turn in 0..50u64 {
-        let inner = source_of(alloc, call.1)?;
-        let source = Failing::new(inner, Turn::After(turn), fault, before);
-        let mut graph = Graph::new(alloc, source);
-        let first = asked(alloc, &mut graph, call);
-        let again = asked(alloc, &mut graph, call);
-        if first.answer == Ok(true) {
-            return Ok(turn > 0 && first.faults == before);
-        }
-        let refused = first.answer == Err(error) && first.faults == after && first.agrees;
-        if !refused
-            || again
-                != (Came {
-                    faults: after,
-                    ..WELL
-                })
-        {
-            return Ok(false);
-        }
-    }
-    Ok(false)
-}
-
-/// Whether each request for memory that is refused in turn refuses the call, with what is held the
-/// source's, or is not needed for its answer, and whether the same call on the same graph is answered
-/// then.
-fn survives_refusals(alloc: Global, call: &Listing) -> Result<bool, AllocError> {
-    let refused = Came {
-        answer: Err(ListError::OutOfMemory),
-        ..WELL
-    };
-    for before in 0..1000u64 {
-        let refusing = Refusing::new(alloc, before);
-        let mut graph = Graph::new(&refusing, source_of(alloc, call.1)?);
-        let first = asked(&refusing, &mut graph, call);
-        let has_refused = refusing.has_refused();
-        let again = asked(&refusing, &mut graph, call);
-        if !has_refused {
-            return Ok(before > 2 && first == WELL);
-        }
-        // Room to remember the parents of a commit is not needed.
-        if (first != refused && first != WELL) || again != WELL {
-            return Ok(false);
-        }
-    }
-    Ok(false)
-}
-
-/// The number of the first call that does not survive each fault and each refused request.
-fn first_lost(alloc: Global, calls: &[Listing]) -> Result<Option<usize>, AllocError> {
-    for (i, call) in calls.iter().enumerate() {
-        for fault in &FAULTS {
-            if !survives_faults(alloc, call, *fault)? {
-                return Ok(Some(i));
-            }
-        }
-        if !survives_refusals(alloc, call)? {
-            return Ok(Some(i));
-        }
-    }
-    Ok(None)
-}
-
 #[test]
 fn specs_list_their_commits_in_rising_order(rt: HostRuntime) -> Result<(), Fail> {
-    assert_eq!(rt; first_wrong(rt.alloc(), &WORKED)?, None);
+    assert_eq!(rt; first_wrong(rt.alloc(), &WORKED, 20)?, None);
     Ok(())
 }
 
@@ -306,28 +205,8 @@ fn pages_make_up_the_list(rt: HostRuntime) -> Result<(), Fail> {
     Ok(())
 }
 
-/// One of each kind of spec that looks a commit up, and a page.
-static HOSTILE: [Listing; 6] = [
-    Listing(Of::Include(5), &CRISS_CROSS, Part::Whole, &[1, 2, 3, 5]),
-    Listing(Of::Range(3, 5), &CRISS_CROSS, Part::Whole, &[2, 5]),
-    Listing(Of::Merge(4, 5), &CRISS_CROSS, Part::Whole, &[4, 5]),
-    Listing(
-        Of::IncludeOnlyParents(5),
-        &CRISS_CROSS,
-        Part::Whole,
-        &[1, 2, 3],
-    ),
-    Listing(Of::ExcludeParents(5), &CRISS_CROSS, Part::Whole, &[5]),
-    Listing(
-        Of::Include(5),
-        &CRISS_CROSS,
-        Part::Page(Some(1), 2),
-        &[2, 3],
-    ),
-];
-
 #[test]
 fn refused_look_ups_and_memory_refuse_a_list(rt: HostRuntime) -> Result<(), Fail> {
-    assert_eq!(rt; first_lost(rt.alloc(), &HOSTILE)?, None);
+    assert_eq!(rt; first_lost(rt.alloc(), &WORKED)?, None);
     Ok(())
 }

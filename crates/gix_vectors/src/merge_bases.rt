@@ -1,17 +1,16 @@
 //! Merge bases of worked histories, failing look-ups, and memory refused at each request.
 
+use crate::faults::{first_lost, first_wrong};
 use crate::histories::{CRISS_CROSS, OLD_PATH, OLDER_CHILD, Row, id, source_of};
 use crate::printed::prints;
 use crate::questions::Call::Bases;
-use crate::questions::{Question, WELL, first_lost, first_wrong, with_failure};
+use crate::questions::Question;
+use crate::sources::{Failing, Turn};
 use bitflags::Flags as BitFlags;
 use gix_revision::graph::{FindFault, Graph};
 use gix_revision::merge_base::{Error, Flags, Simple, merge_base, octopus};
 use std::alloc::{AllocError, Global};
 use std::test::Fail;
-
-/// The criss-cross.
-const CROSSED: Question = Question(Bases, &CRISS_CROSS, 4, &[5], &[2, 3]);
 
 /// The same, where all times are equal.
 const EQUAL_TIMES: [Row<'static>; 5] = [
@@ -58,7 +57,7 @@ static TRIVIAL: [Question; 4] = [
 
 static WORKED: [Question; 12] = [
     // Both sides, several others, an ancestor, repeated others.
-    CROSSED,
+    Question(Bases, &CRISS_CROSS, 4, &[5], &[2, 3]),
     Question(Bases, &CRISS_CROSS, 5, &[4], &[2, 3]),
     Question(Bases, &CRISS_CROSS, 4, &[2], &[2]),
     Question(Bases, &CRISS_CROSS, 1, &[4], &[1]),
@@ -113,35 +112,35 @@ const TEXTS: [&str; 5] = [
     "could not insert parent commit into graph",
 ];
 
+/// The refusal of the criss-cross where the look-up after that many fails; none where it makes no more.
+fn refusal_of(alloc: Global, turn: u64) -> Result<Option<Error>, AllocError> {
+    let inner = source_of(alloc, &CRISS_CROSS)?;
+    let source = Failing::new(inner, Turn::After(turn), FindFault::Failed, 0);
+    let mut graph = Graph::new(alloc, source);
+    Ok(merge_base(alloc, id(4), &[id(5)], &mut graph).err())
+}
+
 /// The first look-up of the criss-cross that is not answered with its text where it fails. They are all.
 fn first_untold(alloc: Global) -> Result<Option<u64>, AllocError> {
     let mut turn: u64 = 0;
     for text in &TEXTS {
-        let first = with_failure(alloc, &CROSSED, turn, FindFault::Failed, 0)?.0;
-        if first.answer != Err(Error::Source(Simple(text))) {
+        if refusal_of(alloc, turn)? != Some(Error::Source(Simple(text))) {
             return Ok(Some(turn));
         }
         turn = turn.saturating_add(1);
     }
-    let both = with_failure(alloc, &CROSSED, turn, FindFault::Failed, 0)?;
-    Ok(if both == (WELL, WELL) {
+    Ok(if refusal_of(alloc, turn)? == None {
         None
     } else {
         Some(turn)
     })
 }
 
-/// The criss-cross, and the histories with wrong clocks.
-static HOSTILE: [Question; 3] = [
-    CROSSED,
-    Question(Bases, &OLDER_CHILD, 3, &[4], &[2]),
-    Question(Bases, &OLD_PATH, 6, &[7], &[5]),
-];
-
 #[test]
 fn refused_look_ups_and_memory_refuse_the_call(rt: HostRuntime) -> Result<(), Fail> {
     assert_eq!(rt; first_untold(rt.alloc())?, None);
-    assert_eq!(rt; first_lost(rt.alloc(), &HOSTILE)?, None);
+    assert_eq!(rt; first_lost(rt.alloc(), &WORKED)?, None);
+    assert_eq!(rt; first_lost(rt.alloc(), &LACKED)?, None);
     Ok(())
 }
 

@@ -9,9 +9,10 @@
 //!     1
 //! ```
 
+use crate::faults::{first_lost, first_wrong};
 use crate::histories::{CRISS_CROSS, Row};
 use crate::questions::Call::Octopus;
-use crate::questions::{Question, first_lost, first_wrong};
+use crate::questions::Question;
 use std::test::Fail;
 
 /// The criss-cross on the left, where [3] is younger than [2].
@@ -118,15 +119,9 @@ fn heads_go_back_to_their_best_base(rt: HostRuntime) -> Result<(), Fail> {
     Ok(())
 }
 
-/// Three heads, where each is looked up and where bases are gone on from.
-static HOSTILE: [Question; 3] = [
-    Question(Octopus, &CRISS_CROSS, 4, &[2, 5], &[2]),
-    Question(Octopus, &THREE_HEADS, 3, &[4, 5], &[2]),
-    Question(Octopus, &THREE_HEADS, 5, &[4, 3], &[2]),
-];
-
 #[test]
 fn refused_look_ups_and_memory_refuse_an_octopus(rt: HostRuntime) -> Result<(), Fail> {
-    assert_eq!(rt; first_lost(rt.alloc(), &HOSTILE)?, None);
+    assert_eq!(rt; first_lost(rt.alloc(), &WORKED)?, None);
+    assert_eq!(rt; first_lost(rt.alloc(), &LACKED)?, None);
     Ok(())
 }

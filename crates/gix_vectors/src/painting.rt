@@ -1,8 +1,9 @@
 //! Painting, the reduction and the counts of pops, on worked histories.
 
+use crate::faults::first_lost;
 use crate::histories::{CRISS_CROSS, OLD_PATH, OLDER_CHILD, Row, id, ids, source_of};
 use crate::questions::Call::{Counted, Paint, Reduce};
-use crate::questions::{Question, are_bases, are_set, first_lost};
+use crate::questions::{Question, are_bases, are_set};
 use crate::sources::{Failing, Turn};
 use gix_revision::graph::{Commit, Find, FindFault, Graph, MemorySource};
 use gix_revision::merge_base::{Flags, counted, paint, reduce};

@@ -1,16 +1,15 @@
 //! Revision texts resolved over worked histories, where look-ups fail, and where memory is refused.
 
-use crate::histories::{CRISS_CROSS, Row, agrees, id, source_of, written_out};
-use crate::sources::{Failing, Turn};
+use crate::faults::{Answered, Asks, refusals};
+use crate::histories::{CRISS_CROSS, Row, id, written_out};
 use gix_resolve::{Table, resolve};
 use gix_revision::date::Time;
 use gix_revision::error::Exn;
-use gix_revision::graph::{Commit, Find, FindFault, Graph};
+use gix_revision::graph::{Commit, Find, Graph};
 use gix_revision::hash::ObjectId;
 use gix_revision::merge_base::Flags;
 use gix_revision::spec::Spec;
 use gix_revision::spec::parse::Error;
-use refusing::Refusing;
 use std::alloc::{AllocError, Allocator, Global};
 use std::collections::{BTreeMap, BTreeSet};
 use std::test::Fail;
@@ -177,24 +176,13 @@ fn written(alloc: Global, answer: &Result<Spec, Error<'_>>) -> Result<Vec<u8>, A
     Ok(line)
 }
 
-/// How a text was answered.
-#[derive(Clone, Copy, Debug, PartialEq)]
-enum Answered {
-    /// As its row says.
-    AsWritten,
-    /// At a call that asks the source, since that failed.
-    SourceFailed,
-    OutOfMemory,
-    Otherwise,
-}
-
 fn judged(
     alloc: Global,
     answer: &Result<Spec, Error<'_>>,
     want: &[u8],
 ) -> Result<Answered, AllocError> {
     if written(alloc, answer)?.as_slice() == want {
-        return Ok(Answered::AsWritten);
+        return Ok(Answered::AsWanted);
     }
     Ok(match answer {
         Err(Error::OutOfMemory) => Answered::OutOfMemory,
@@ -211,162 +199,43 @@ fn judged(
     })
 }
 
-/// What came of a text: the answer, the faults counted then, and whether what is held is the source's.
-#[derive(Clone, Copy, Debug, PartialEq)]
-struct Came {
-    answered: Answered,
-    faults: u64,
-    agrees: bool,
-}
-
-/// A text, and what is wanted of it.
+/// A text of a case, and what is wanted of it.
 #[derive(Clone, Copy)]
 struct Wanted<'t> {
+    case: &'static Case,
     text: &'t [u8],
     answer: &'t [u8],
 }
 
-// What comes of a text over a table and a graph.
-fn asked<S: Find, A: Allocator + Copy>(
-    to: Global,
-    alloc: A,
-    (case, wanted): (&Case, Wanted<'_>),
-    table: &Table<A>,
-    graph: &mut Graph<S, Commit<Flags, A>, A>,
-) -> Result<Came, AllocError> {
-    let answer = resolve(alloc, to, wanted.text, NOW, table, graph);
-    let answered = judged(to, &answer, wanted.answer)?;
-    Ok(Came {
-        answered,
-        faults: graph.source().faults(),
-        agrees: agrees(graph, case.history),
-    })
-}
+impl Asks for Wanted<'_> {
+    fn history(&self) -> &'static [Row<'static>] {
+        self.case.history
+    }
 
-/// A text twice over a source that refuses the look-up after that many, and begins its count at `faults`.
-fn with_failure(
-    alloc: Global,
-    (case, wanted): (&Case, Wanted<'_>),
-    turn: Turn,
-    fault: FindFault,
-    faults: u64,
-) -> Result<(Came, Came), AllocError> {
-    let table = table_of(alloc, case)?;
-    let source = Failing::new(source_of(alloc, case.history)?, turn, fault, faults);
-    let mut graph = Graph::new(alloc, source);
-    let first = asked(alloc, alloc, (case, wanted), &table, &mut graph)?;
-    Ok((
-        first,
-        asked(alloc, alloc, (case, wanted), &table, &mut graph)?,
-    ))
-}
-
-/// The answer of the row, over a source that has failed that often.
-fn well(faults: u64) -> Came {
-    Came {
-        answered: Answered::AsWritten,
-        faults,
-        agrees: true,
+    fn ask<S: Find, A: Allocator + Copy>(
+        &self,
+        to: Global,
+        alloc: A,
+        graph: &mut Graph<S, Commit<Flags, A>, A>,
+    ) -> Result<Answered, AllocError> {
+        let table = table_of(alloc, self.case)?;
+        let answer = resolve(alloc, to, self.text, NOW, &table, graph);
+        judged(to, &answer, self.answer)
     }
 }
 
-/// A fault, the faults counted before it, and how a text is answered and what is counted after it.
-const FAULTS: [(FindFault, u64, Answered, u64); 3] = [
-    (FindFault::Failed, 0, Answered::SourceFailed, 1),
-    (
-        FindFault::Failed,
-        u64::MAX,
-        Answered::SourceFailed,
-        u64::MAX,
-    ),
-    (FindFault::OutOfMemory, 5, Answered::OutOfMemory, 5),
-];
-
-/// Whether each look-up that is refused in turn refuses the text and is counted, with what is held the
-/// source's, and whether the same text on the same graph is answered then.
-fn survives_faults(
-    alloc: Global,
-    (case, wanted): (&Case, Wanted<'_>),
-    (fault, before, answered, after): (FindFault, u64, Answered, u64),
-) -> Result<bool, AllocError> {
-    let refused = Came {
-        answered,
-        faults: after,
-        agrees: true,
-    };
-    for turn in 0..20u64 {
-        let (first, again) = with_failure(alloc, (case, wanted), Turn::After(turn), fault, before)?;
-        if first == well(before) {
-            return Ok(true);
-        }
-        if first != refused || again != well(after) {
-            return Ok(false);
-        }
-    }
-    Ok(false)
-}
-
-/// What comes of a text with one request for memory refused, and again; none where the table could not be
-/// made. Whether there was such a request.
-fn with_refusal(
-    alloc: Global,
-    (case, wanted): (&Case, Wanted<'_>),
-    before: u64,
-) -> Result<(Option<(Came, Came)>, bool), AllocError> {
-    let refusing = Refusing::new(alloc, before);
-    let Ok(table) = table_of(&refusing, case) else {
-        return Ok((None, true));
-    };
-    let mut graph = Graph::new(&refusing, source_of(alloc, case.history)?);
-    let first = asked(alloc, &refusing, (case, wanted), &table, &mut graph)?;
-    let has_refused = refusing.has_refused();
-    let again = asked(alloc, &refusing, (case, wanted), &table, &mut graph)?;
-    Ok((Some((first, again)), has_refused))
-}
-
-/// Whether each request for memory that is refused in turn refuses the text, with what is held the
-/// source's, or is not needed for its answer, and whether the same text on the same graph is answered then.
-fn survives_refusals(alloc: Global, wanted: (&Case, Wanted<'_>)) -> Result<bool, AllocError> {
-    let refused = Came {
-        answered: Answered::OutOfMemory,
-        faults: 0,
-        agrees: true,
-    };
-    for before in 0..1000u64 {
-        match with_refusal(alloc, wanted, before)? {
-            (Some(came), false) => return Ok(came == (well(0), well(0))),
-            (Some((first, again)), true) => {
-                if (first != refused && first != well(0)) || again != well(0) {
-                    return Ok(false);
-                }
-            }
-            (None, _) => {}
-        }
-    }
-    Ok(false)
-}
-
-/// Whether a row is answered as it says, also after each fault and each refused request.
-fn is_resolved(alloc: Global, wanted: (&Case, Wanted<'_>)) -> Result<bool, AllocError> {
-    for fault in &FAULTS {
-        if !survives_faults(alloc, wanted, *fault)? {
-            return Ok(false);
-        }
-    }
-    survives_refusals(alloc, wanted)
-}
-
-/// The first row of a case that is not answered so.
+/// The first row of a case that does not survive each fault and each refused request.
 fn first_wrong(alloc: Global, case: &'static Case) -> Result<Option<&'static str>, AllocError> {
     for row in case.rows.lines() {
         let (text, answer) = row.split_once(" => ").unwrap_or((row, "no row"));
         let text = written_out(alloc, text)?;
         let answer = written_out(alloc, answer)?;
         let wanted = Wanted {
+            case,
             text: &text,
             answer: &answer,
         };
-        if !is_resolved(alloc, (case, wanted))? {
+        if refusals(alloc, &wanted)?.is_none() {
             return Ok(Some(row));
         }
     }

@@ -1,0 +1,219 @@
+//! Calls of `describe` as tables have them, and whether they are answered so.
+
+use crate::histories::{Row, id, source_of};
+use crate::sources::{Failing, Turn};
+use gix_base::error::Message;
+use gix_revision::describe::{Names, Options, Outcome, counted, describe};
+use gix_revision::graph::{Find, FindFault, Graph};
+use std::alloc::{AllocError, Allocator, Global};
+use std::borrow::CowSlice;
+use std::collections::HashMap;
+
+/// A history, the names of commits in it, the commit to describe, how, and what is wanted.
+#[derive(Clone, Copy)]
+pub struct Case(
+    pub &'static [Row<'static>],
+    pub &'static [(u8, &'static str)],
+    pub u8,
+    pub How,
+    pub Want,
+);
+
+/// How a commit is described.
+#[derive(Clone, Copy)]
+pub struct How {
+    pub max_candidates: usize,
+    pub fallback_to_oid: bool,
+    pub first_parent: bool,
+    /// The commit that the source fails for; 0 where it fails for none.
+    pub fails_for: u8,
+}
+
+#[derive(Clone, Copy)]
+pub enum Want {
+    Nothing,
+    /// The source lacks the commit.
+    Missing,
+    /// The parents of this one could not be had.
+    Lost(u8),
+    /// Nothing is asked of the answer but that it comes.
+    Anything,
+    /// The id alone, after so many commits; how many left the queue, and which are held then.
+    Unnamed(u32, u128, &'static [u8]),
+    /// A name with its depth, the number of commits seen; how many left the queue, and which are held
+    /// then.
+    Named(&'static str, u32, u32, u128, &'static [u8]),
+}
+
+pub const PLAIN: How = How {
+    max_candidates: 10,
+    fallback_to_oid: false,
+    first_parent: false,
+    fails_for: 0,
+};
+
+pub const ALWAYS: How = How {
+    max_candidates: 10,
+    fallback_to_oid: true,
+    first_parent: false,
+    fails_for: 0,
+};
+
+pub const FIRST_PARENT: How = How {
+    max_candidates: 10,
+    fallback_to_oid: true,
+    first_parent: true,
+    fails_for: 0,
+};
+
+pub const NO_CANDIDATE: How = How {
+    max_candidates: 0,
+    fallback_to_oid: true,
+    first_parent: false,
+    fails_for: 0,
+};
+
+pub const ONE_CANDIDATE: How = How {
+    max_candidates: 1,
+    fallback_to_oid: false,
+    first_parent: false,
+    fails_for: 0,
+};
+
+/// Three commits, each the parent of the next.
+pub const LINE: &[Row<'static>] = &[
+    Row(1, 1, None, &[]),
+    Row(2, 2, None, &[1]),
+    Row(3, 3, None, &[2]),
+];
+
+/// A merge, whose two parents have one parent.
+pub const FORK: &[Row<'static>] = &[
+    Row(1, 1, None, &[]),
+    Row(2, 9, None, &[1]),
+    Row(3, 8, None, &[1]),
+    Row(4, 10, None, &[2, 3]),
+];
+
+pub fn names_of<A: Allocator + Copy>(
+    alloc: A,
+    names: &[(u8, &'static str)],
+) -> Result<Names<'static, A>, AllocError> {
+    let mut all = HashMap::new(alloc);
+    for (digit, name) in names {
+        all.insert(id(*digit), CowSlice::Borrowed(name.as_bytes()))?;
+    }
+    Ok(all)
+}
+
+pub fn options_of<A: Allocator + Copy>(
+    alloc: A,
+    names: &[(u8, &'static str)],
+    how: How,
+) -> Result<Options<'static, A>, AllocError> {
+    Ok(Options {
+        name_by_oid: names_of(alloc, names)?,
+        max_candidates: how.max_candidates,
+        fallback_to_oid: how.fallback_to_oid,
+        first_parent: how.first_parent,
+    })
+}
+
+/// Whether a name is this one, and borrowed as the names that were handed in.
+fn is_name<A: Allocator>(found: &Option<CowSlice<'static, u8, A>>, name: &str) -> bool {
+    match found {
+        Some(CowSlice::Borrowed(found)) => *found == name.as_bytes(),
+        _ => false,
+    }
+}
+
+/// Whether an outcome is of a commit, and says what is wanted.
+pub fn says<A: Allocator>(outcome: &Outcome<'static, A>, start: u8, want: Want) -> bool {
+    let (named, depth, seen) = match want {
+        Want::Unnamed(seen, _, _) => (outcome.name.is_none(), 0, seen),
+        Want::Named(name, depth, seen, _, _) => (is_name(&outcome.name, name), depth, seen),
+        Want::Anything => return true,
+        _ => return false,
+    };
+    named && outcome.id == id(start) && outcome.depth == depth && outcome.commits_seen == seen
+}
+
+/// Whether so many commits left the queue, and these digits are held.
+fn leaves<S: Find, A: Allocator + Copy>(graph: &Graph<S, u32, A>, pops: u128, want: Want) -> bool {
+    let (wanted, held) = match want {
+        Want::Unnamed(_, pops, held) | Want::Named(_, _, _, pops, held) => (pops, held),
+        _ => return true,
+    };
+    // Where no walk is made the graph stays as it was.
+    pops == wanted
+        && (pops == 0 || (1..16).all(|digit| graph.contains(&id(digit)) == held.contains(&digit)))
+}
+
+/// What came of a call.
+#[derive(Clone, Copy, Debug, PartialEq, Eq)]
+pub enum Met {
+    Right,
+    RefusedForTheSource,
+    RefusedForMemory,
+    Wrong,
+}
+
+/// What came of a call that was to answer what is wanted.
+fn verdict<S: Find, A: Allocator + Copy>(
+    found: &Result<(Option<Outcome<'static, A>>, u128), Message>,
+    graph: &Graph<S, u32, A>,
+    start: u8,
+    want: Want,
+) -> Met {
+    let right = match (found, want) {
+        (Ok((None, pops)), Want::Nothing) => *pops == 0,
+        (Ok((Some(outcome), pops)), want) => {
+            says(outcome, start, want) && leaves(graph, *pops, want)
+        }
+        (Err(Message::MissingStart(lacked)), Want::Missing) => *lacked == id(start),
+        (Err(Message::ParentsOf(child)), Want::Lost(digit)) => *child == id(digit),
+        (Err(Message::ParentsOf(_)), _) => return Met::RefusedForTheSource,
+        (Err(Message::OutOfMemory), _) => return Met::RefusedForMemory,
+        _ => false,
+    };
+    if right { Met::Right } else { Met::Wrong }
+}
+
+/// Makes the call of a case, and compares its answer with the one that is wanted.
+pub fn answered<S: Find, A: Allocator + Copy>(
+    alloc: A,
+    graph: &mut Graph<S, u32, A>,
+    case: &Case,
+) -> Result<Met, AllocError> {
+    let Case(_, names, start, how, want) = *case;
+    let options = options_of(alloc, names, how)?;
+    let found = counted(alloc, &id(start), graph, options);
+    Ok(verdict(&found, graph, start, want))
+}
+
+/// Whether a case has the answer that is wanted, on a fresh graph and on one that another call left.
+fn is_described(alloc: Global, case: &Case) -> Result<bool, AllocError> {
+    let Case(history, names, _, how, _) = *case;
+    let bad = Turn::For(id(how.fails_for));
+    let source = Failing::new(source_of(alloc, history)?, bad, FindFault::Failed, 0);
+    let mut graph = Graph::new(alloc, source);
+    if answered(alloc, &mut graph, case)? != Met::Right {
+        return Ok(false);
+    }
+    let mut other = options_of(alloc, names, ALWAYS)?;
+    other
+        .name_by_oid
+        .insert(id(14), CowSlice::Borrowed(b"other"))?;
+    let _ = describe(alloc, &id(2), &mut graph, other);
+    Ok(answered(alloc, &mut graph, case)? == Met::Right)
+}
+
+/// The number of the first case that is not answered so.
+pub fn first_wrong(alloc: Global, cases: &[Case]) -> Result<Option<usize>, AllocError> {
+    for (i, case) in cases.iter().enumerate() {
+        if !is_described(alloc, case)? {
+            return Ok(Some(i));
+        }
+    }
+    Ok(None)
+}

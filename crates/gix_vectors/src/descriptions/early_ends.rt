@@ -1,0 +1,140 @@
+//! Rows of git-describe where the walk ends before the history does: at a name below which nothing is left, or where
+//! there is no room for one more candidate (`--candidates`, at most 32 here); and the depth that is completed then.
+
+use super::cases::{Case, FORK, How, LINE, ONE_CANDIDATE, PLAIN, Want, first_wrong, says};
+use crate::histories::{Row, id};
+use gix_base::hash::ObjectId;
+use gix_revision::describe::{Options, counted};
+use gix_revision::graph::{Graph, MemorySource, SourceCommit};
+use std::alloc::{AllocError, Global};
+use std::borrow::CowSlice;
+use std::test::Fail;
+
+/// The second parent of [4] of the fork can't be had.
+const FAILS_FOR_THE_SECOND_PARENT: How = How {
+    max_candidates: 10,
+    fallback_to_oid: true,
+    first_parent: true,
+    fails_for: 3,
+};
+
+/// The root of the line can't be had.
+const FAILS_FOR_THE_ROOT: How = How {
+    max_candidates: 10,
+    fallback_to_oid: false,
+    first_parent: false,
+    fails_for: 1,
+};
+
+/// The named commit is older than its parent.
+const SKEWED: &[Row<'static>] = &[
+    Row(1, 5, None, &[]),
+    Row(2, 1, None, &[1]),
+    Row(3, 10, None, &[2, 1]),
+];
+
+/// The fork, with parents listed twice.
+const LISTED_TWICE: &[Row<'static>] = &[
+    Row(1, 1, None, &[]),
+    Row(2, 9, None, &[1, 1]),
+    Row(3, 8, None, &[1]),
+    Row(4, 10, None, &[2, 3, 2]),
+];
+
+pub const CASES: &[Case] = &[
+    // The walk ends at the name: what is behind it is not looked up.
+    Case(
+        LINE,
+        &[(2, "v")],
+        3,
+        PLAIN,
+        Want::Named("v", 1, 2, 2, &[2, 3]),
+    ),
+    Case(
+        LINE,
+        &[(2, "v")],
+        3,
+        FAILS_FOR_THE_ROOT,
+        Want::Named("v", 1, 2, 2, &[2, 3]),
+    ),
+    Case(LINE, &[(1, "v1")], 3, FAILS_FOR_THE_ROOT, Want::Lost(2)),
+    // The depth is completed where the named commit is older than its parent.
+    Case(
+        SKEWED,
+        &[(2, "v")],
+        3,
+        PLAIN,
+        Want::Named("v", 2, 3, 3, &[1, 2, 3]),
+    ),
+    // The second name is given up for want of room, and popped again.
+    Case(
+        FORK,
+        &[(2, "A"), (3, "B")],
+        4,
+        ONE_CANDIDATE,
+        Want::Named("A", 2, 4, 5, &[1, 2, 3, 4]),
+    ),
+    Case(
+        LISTED_TWICE,
+        &[(2, "A"), (3, "B")],
+        4,
+        ONE_CANDIDATE,
+        Want::Named("A", 2, 4, 5, &[1, 2, 3, 4]),
+    ),
+    Case(
+        FORK,
+        &[(3, "B")],
+        4,
+        FAILS_FOR_THE_SECOND_PARENT,
+        Want::Unnamed(3, 3, &[1, 2, 4]),
+    ),
+];
+
+/// A commit with the parents 1 to 40, all of which are roots, the greater the newer.
+fn forty_parents(alloc: Global) -> Result<MemorySource, AllocError> {
+    let mut source = MemorySource::new(alloc);
+    let mut parents = Vec::new(alloc);
+    for n in 1..41u8 {
+        parents.push(ObjectId([n; 20]))?;
+        let root = SourceCommit {
+            parents: Vec::new(alloc),
+            time: i64::from(n),
+            generation: None,
+        };
+        let _ = source.insert(ObjectId([n; 20]), root);
+    }
+    let merge = SourceCommit {
+        parents,
+        time: 41,
+        generation: None,
+    };
+    let _ = source.insert(id(15), merge);
+    Ok(source)
+}
+
+/// Whether 32 of forty names are weighed where more may be: the newest ones, all of which are as far.
+/// The smaller name is that of the older ones.
+fn are_forty_weighed(alloc: Global) -> Result<bool, AllocError> {
+    let mut graph = Graph::new(alloc, forty_parents(alloc)?);
+    let mut options = Options::new(alloc);
+    options.max_candidates = usize::MAX;
+    for n in 1..41u8 {
+        let name: &'static [u8] = if n > 8 { b"newer" } else { b"a" };
+        options
+            .name_by_oid
+            .insert(ObjectId([n; 20]), CowSlice::Borrowed(name))?;
+    }
+    let found = counted(alloc, &id(15), &mut graph, options);
+    let want = Want::Named("newer", 40, 41, 42, &[]);
+    Ok(match &found {
+        Ok((Some(outcome), pops)) => says(outcome, 15, want) && *pops == 42,
+        _ => false,
+    })
+}
+
+#[test]
+fn early_ends_are_described(rt: HostRuntime) -> Result<(), Fail> {
+    assert_eq!(rt; first_wrong(rt.alloc(), CASES)?, None);
+    assert!(rt; are_forty_weighed(rt.alloc())?);
+    Ok(())
+}

@@ -1,0 +1,116 @@
+//! What is described as text, as git-describe prints it (`--long`, `--abbrev`, `--dirty`), and copies.
+
+use super::cases::{FIRST_PARENT, Want, names_of, options_of, says};
+use crate::histories::id;
+use gix_base::hash::ObjectId;
+use gix_revision::describe::{Format, Outcome};
+use std::alloc::{AllocError, Global};
+use std::borrow::CowSlice;
+use std::collections::HashMap;
+use std::test::Fail;
+
+/// The name, the depth, whether the long form is asked for, the number of digits and the suffix of what
+/// is described, and its text.
+#[derive(Clone, Copy)]
+struct Printed(
+    Option<&'static [u8]>,
+    u32,
+    bool,
+    usize,
+    Option<&'static str>,
+    &'static str,
+);
+
+const PRINTED: &[Printed] = &[
+    Printed(Some(b"v1"), 0, false, 7, Some("dirty"), "v1-dirty"),
+    Printed(
+        Some(b"v1"),
+        0,
+        true,
+        7,
+        Some("dirty"),
+        "v1-0-g0123456-dirty",
+    ),
+    Printed(Some(b"v1"), 2, false, 7, None, "v1-2-g0123456"),
+    Printed(Some(b"v1"), 2, false, 0, None, "v1-2-g"),
+    Printed(
+        Some(b"v1"),
+        2,
+        false,
+        99,
+        None,
+        "v1-2-g0123456789abcdeffedcba987654321076543210",
+    ),
+    Printed(None, 0, false, 7, None, "0123456"),
+    Printed(Some(b"v\xff"), 0, false, 7, None, "v\u{fffd}"),
+];
+
+const DIGITS: &str = "0123456789abcdeffedcba987654321076543210";
+
+/// What is described by a name or by its digits, as it can be printed.
+fn format_of(alloc: Global, id: ObjectId, row: &Printed) -> Result<Format<'static>, AllocError> {
+    let Printed(name, depth, long, hex_len, suffix, _) = *row;
+    let outcome = Outcome {
+        name: name.map(|name| CowSlice::Borrowed(name)),
+        id,
+        depth,
+        name_by_oid: HashMap::new(alloc),
+        commits_seen: 3,
+    };
+    let mut format = outcome.into_format(hex_len);
+    format.long(long);
+    if let Some(suffix) = suffix {
+        format.dirty_suffix = Some(format!(in alloc; "{suffix}")?);
+    }
+    Ok(format)
+}
+
+/// Whether a row is printed as it should be, and its copy is equal.
+fn is_printed(alloc: Global, row: &Printed) -> Result<bool, AllocError> {
+    let Ok(id) = ObjectId::from_hex(DIGITS.as_bytes()) else {
+        return Ok(false);
+    };
+    let format = format_of(alloc, id, row)?;
+    let text = format!(in alloc; "{format}")?;
+    Ok(text.as_str() == row.5 && format.clone()? == format)
+}
+
+/// The text of the first row that is not printed so.
+fn first_misprinted(alloc: Global) -> Result<Option<&'static str>, AllocError> {
+    for row in PRINTED {
+        if !is_printed(alloc, row)? {
+            return Ok(Some(row.5));
+        }
+    }
+    Ok(None)
+}
+
+/// Whether the copies of options and of an outcome have all of their fields.
+fn are_copied(alloc: Global) -> Result<bool, AllocError> {
+    let options = options_of(alloc, &[(1, "v1")], FIRST_PARENT)?;
+    let copy = options.clone()?;
+    let outcome = Outcome {
+        name: Some(CowSlice::Borrowed(b"v1")),
+        id: id(3),
+        depth: 2,
+        name_by_oid: names_of(alloc, &[(1, "v1")])?,
+        commits_seen: 3,
+    };
+    let other = outcome.clone()?;
+    let same_options = copy.max_candidates == options.max_candidates
+        && copy.fallback_to_oid == options.fallback_to_oid
+        && copy.first_parent == options.first_parent
+        && copy.name_by_oid == options.name_by_oid;
+    Ok(
+        same_options
+            && says(&other, 3, Want::Named("v1", 2, 3, 3, &[]))
+            && other.name_by_oid == outcome.name_by_oid,
+    )
+}
+
+#[test]
+fn descriptions_are_printed_and_copied(rt: HostRuntime) -> Result<(), Fail> {
+    assert_eq!(rt; first_misprinted(rt.alloc())?, None);
+    assert!(rt; are_copied(rt.alloc())?);
+    Ok(())
+}
