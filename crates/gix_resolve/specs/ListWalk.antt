@@ -1,5 +1,5 @@
 -- A walk that lists commits by their numbers, and marks just those that it has listed.
-use Rattle.std.specs.Prelude.{◌≡◌, ◌↔◌, ℕ, List, ◌++◌, IsTrue, is_some}
+use Rattle.std.specs.Prelude.{◌≡◌, ◌↔◌, List, ◌++◌, IsTrue, is_some}
 use Rattle.std.specs.List.{IsDistinct}
 use Rattle.gix_base.specs.declared.hash.ObjectId.{ObjectId}
 use Rattle.gix_revwalk.specs.History.{History, Has, IsEdge, IsAncestorOfOne, is_one_of, same_id}
