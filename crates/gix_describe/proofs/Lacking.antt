@@ -1,7 +1,8 @@
 -- The count of the queued commits that lack a mark, over marks that are handed on and commits that come and go.
-use Rattle.std.proofs.Common.{◌≡◌, ℕ, ◌+◌, ◌-◌, ◌<◌, max, Bool, true, false, cond, refl, ap, sym, subst, ◌∙◌, List, [], ◌∷◌, ◌++◌, ◌||◌, ◌&&◌, not, is_some, Option, Some, None, bit_or, arith}
-use Rattle.std.specs.Option.{option_map}
+use Rattle.std.proofs.Common.{◌≡◌, ℕ, ◌+◌, ◌-◌, ◌<◌, max, Bool, true, false, cond, refl, ap, sym, subst, ◌∙◌, List, [], ◌∷◌, ◌++◌, ◌||◌, ◌&&◌, not, map, is_some, Option, Some, None, bit_or, arith}
+use Rattle.std.specs.Option.{option_map, unwrap_or}
 use Rattle.std.specs.Int.{bit_at}
+use Rattle.std.specs.Map.{lookup}
 use Rattle.std.specs.List.{IsDistinct, AllByRecursion, sum_by}
 use Rattle.std.specs.List.Sorted.{IsPermutation}
 use Rattle.std.proofs.lemmas.List.Sums.{sum_by-cons}
@@ -10,6 +11,9 @@ use Rattle.std.proofs.lemmas.Map.Keys.{IsDistinct-tail, IsDistinct-head}
 use Rattle.std.proofs.lemmas.Nat.Bits.{bit_at_or, bit_at-lt}
 use Rattle.gix_base.specs.declared.hash.ObjectId.{ObjectId}
 use Rattle.gix_revwalk.specs.History.{History, same_id, is_one_of}
+use Rattle.gix_revwalk.specs.Graph.{Graphed, held_at}
+use Rattle.gix_revwalk.specs.Noted.{noted_at, unnoted_lacks}
+use Rattle.gix_revwalk.specs.Numbers.{held_ids}
 use Rattle.gix_revwalk.proofs.Ids.{same_id-laws, same_id-true, same_id-itself}
 use Rattle.gix_describe.specs.declared.describe.key.Key.{Key}
 use Rattle.gix_describe.specs.declared.describe.met.Met.{Met}
@@ -17,6 +21,14 @@ use Rattle.gix_describe.specs.Handing.{Queue, queued_ids, bits}
 use Rattle.gix_describe.specs.Lacking.{lacks, lacking_in, CountsLacking}
 use Rattle.gix_describe.specs.WalkState.{IsQueue, IsMarked, others}
 use Rattle.gix_describe.proofs.Handing.{once_more, one_of_push}
+
+one_of_other : (x : ObjectId) (xs : List ObjectId) → AllByRecursion (λ y. same_id x y ≡ false) xs → is_one_of xs x ≡ false
+one_of_other x [] a = refl
+one_of_other x (y ∷ xs) a = ap (λ b. b || is_one_of xs x) a.0 ∙ one_of_other x xs a.1
+
+later : (a b : Bool) → b ≡ true → (a || b) ≡ true
+later true b e = refl
+later false b e = e
 
 -- sums of two functions that agree but for p
 module _ (p : ObjectId) (f g : ObjectId → ℕ) (off : (c : ObjectId) → same_id p c ≡ false → g c ≡ f c) where
@@ -38,16 +50,12 @@ module _ (p : ObjectId) (f g : ObjectId → ℕ) (off : (c : ObjectId) → same_
       elim (same_id p x) as (λ s. same_id p x ≡ s → (s || is_one_of xs p) ≡ true → sum_by g (x ∷ xs) + f p ≡ sum_by f (x ∷ xs) + g p) [
         | true ↦ λ e yes.
             let is = same_id-true p x e in
-            let i = sum_without xs (subst (λ z. is_one_of xs z ≡ false) (sym is) (none xs (IsDistinct-head same_id x xs once))) in
+            let i = sum_without xs (subst (λ z. is_one_of xs z ≡ false) (sym is) (one_of_other x xs (IsDistinct-head same_id x xs once))) in
             let fx : f x ≡ f p = ap f (sym is) in
             let gx : g x ≡ g p = ap g (sym is) in
             omega arith
         | false ↦ λ e yes. let i = sum_with xs (IsDistinct-tail same_id x xs once) yes in let s = off x e in omega arith
       ] refl m
-    where
-      none : (l : List ObjectId) → AllByRecursion (λ y. same_id x y ≡ false) l → is_one_of l x ≡ false
-      none [] a = refl
-      none (y ∷ l) a = ap (λ b. b || is_one_of l x) a.0 ∙ none l a.1
 
 pub sum_same : (f g : ObjectId → ℕ) → ((c : ObjectId) → g c ≡ f c) → (q : List ObjectId) → sum_by g q ≡ sum_by f q
 sum_same f g e [] = refl
@@ -184,10 +192,6 @@ all_have f (x ∷ xs) e =
     let own : f x ≡ 0 = e x (ap (λ b. b || is_one_of xs x) (same_id-itself x)) in
     let rest = all_have f xs (λ c m. e c (later (same_id c x) (is_one_of xs c) m)) in
     omega arith
-  where
-    later : (a b : Bool) → b ≡ true → (a || b) ≡ true
-    later true b e = refl
-    later false b e = e
 
 -- x was popped after xs
 pub noted_more : (xs : List ObjectId) (x q : ObjectId) (b : Bool) → b ≡ is_one_of xs q → (same_id x q || b) ≡ is_one_of (xs ++ x ∷ []) q
@@ -202,3 +206,72 @@ noted_more xs x q b e = ap (λ b. same_id x q || b) e ∙ swap (same_id x q) (is
 -- a mark that is not lacked
 pub has_bit : (m j : ℕ) → 1 - bit_at m j ≡ 0 → bit_at m j ≡ 1
 has_bit m j e = let low : bit_at m j < 2 = bit_at-lt m j in omega arith
+
+-- what is weighed among ids is what is queued
+sum_among : (f u : ObjectId → ℕ) (ids q : List ObjectId) → IsDistinct same_id ids → IsDistinct same_id q
+    → ((c : ObjectId) → is_one_of q c ≡ true → (u c ≡ f c) × (is_one_of ids c ≡ true))
+    → ((c : ObjectId) → is_one_of ids c ≡ true → is_one_of q c ≡ false → u c ≡ 0)
+    → sum_by u ids ≡ sum_by f q
+sum_among f u ids [] apart once own rest = all_have u ids (λ c m. rest c m refl)
+sum_among f u ids (x ∷ xs) apart once own rest =
+    let here = own x (ap (λ b. b || is_one_of xs x) (same_id-itself x)) in
+    let sums = sum_with x u less (λ c e. ap (λ b. cond b 0 (u c)) e) ids apart here.1 in
+    let gone : less x ≡ 0 = ap (λ b. cond b 0 (u x)) (same_id-itself x) in
+    let cons = sum_by-cons f x xs in
+    let same = here.0 in
+    let i = sum_among f less ids xs apart (IsDistinct-tail same_id x xs once)
+    (λ c m. let late = own c (later (same_id c x) (is_one_of xs c) m) in (ap (λ b. cond b 0 (u c)) (other c m (same_id x c) refl) ∙ late.0, late.1))
+    (λ c m no. elim (same_id x c) as (λ b. same_id x c ≡ b → cond b 0 (u c) ≡ 0) [
+      | true ↦ λ e. refl
+      | false ↦ λ e. rest c m (ap (λ b. b || is_one_of xs c) (same_id-laws.symm c x ∙ e) ∙ no)
+    ] refl) in
+    omega arith
+  where
+    less : ObjectId → ℕ
+    less c = cond (same_id x c) 0 (u c)
+
+    other : (c : ObjectId) → is_one_of xs c ≡ true → (b : Bool) → same_id x c ≡ b → b ≡ false
+    other c m false e = refl
+    other c m true e =
+        let out = one_of_other x xs (IsDistinct-head same_id x xs once) in
+        let there = subst (λ z. is_one_of xs z ≡ true) (sym (same_id-true x c e)) m in
+        absurd (let k : false ≡ true = sym out ∙ there in cc)
+
+held_one : (es : List (ObjectId × ℕ)) (c : ObjectId) → is_one_of (map (λ e. e.0) es) c ≡ is_some (lookup (same_id c) es)
+held_one [] c = refl
+held_one (e ∷ es) c = elim (same_id c e.0) as (λ b. (b || is_one_of (map (λ e. e.0) es) c) ≡ is_some (cond b (Some e.1) (lookup (same_id c) es))) [
+  | true ↦ refl
+  | false ↦ held_one es c
+]
+
+-- of what is held, what has not left the queue is counted
+pub lacking_unnoted : {S A : Type 0} (g : Graphed S ℕ) (place : ℕ) (q : Queue A) → IsDistinct same_id (held_ids g) → IsDistinct same_id (queued_ids q)
+    → ((c : ObjectId) → is_one_of (queued_ids q) c ≡ (is_some (held_at g c) && not (noted_at g c)))
+    → sum_by (unnoted_lacks g place) (held_ids g) ≡ lacking_in (Some place) (held_at g) q
+lacking_unnoted {S} {A} g place q apart once ids = sum_among _ (unnoted_lacks g place) (held_ids g) (queued_ids q) apart once
+    (λ c m. let e = sym (ids c) ∙ m in (weighed c (noted_at g c) refl (still _ _ e), held_one g.held c ∙ held _ _ e))
+    (λ c m no. weighs c (noted_at g c) refl (left _ _ (sym (held_one g.held c) ∙ m) (sym (ids c) ∙ no)))
+  where
+    held : (a b : Bool) → (a && not b) ≡ true → a ≡ true
+    held true b e = refl
+    held false b e = e
+
+    still : (a b : Bool) → (a && not b) ≡ true → b ≡ false
+    still true true e = sym e
+    still true false e = refl
+    still false b e = absurd (let k : false ≡ true = e in cc)
+
+    left : (a b : Bool) → a ≡ true → (a && not b) ≡ false → b ≡ true
+    left true true a e = refl
+    left true false a e = sym e
+    left false b a e = absurd (let k : false ≡ true = a in cc)
+
+    marks : (o : Option ℕ) → 1 - bit_at (unwrap_or o 0) place ≡ 1 - bit_at (bits o) place
+    marks None = refl
+    marks (Some k) = refl
+
+    weighed : (c : ObjectId) (b : Bool) → noted_at g c ≡ b → b ≡ false → unnoted_lacks g place c ≡ lacks (Some place) (bits (held_at g c))
+    weighed c b is e = ap (λ n. cond n 0 (1 - bit_at (unwrap_or (held_at g c) 0) place)) (is ∙ e) ∙ marks (held_at g c)
+
+    weighs : (c : ObjectId) (b : Bool) → noted_at g c ≡ b → b ≡ true → unnoted_lacks g place c ≡ 0
+    weighs c b is e = ap (λ n. cond n 0 (1 - bit_at (unwrap_or (held_at g c) 0) place)) (is ∙ e)

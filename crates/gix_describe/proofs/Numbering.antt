@@ -1,7 +1,6 @@
 -- Numbers of commits that are met, over one more and over another value of one.
 use Rattle.std.proofs.Common.{◌≡◌, ◌<◌, ◌∙◌, ℕ, suc, true, false, cond, refl, ap, sym, subst, List, [], ◌∷◌, ◌++◌, map, length, Option, Some, None, is_some, arith}
 use Rattle.std.specs.Option.{unwrap_or}
-use Rattle.std.specs.Prelude.{All}
 use Rattle.std.specs.List.Sorted.{IsPermutation}
 use Rattle.std.specs.Map.{lookup}
 use Rattle.std.proofs.lemmas.List.{map-append, length-map}
@@ -86,10 +85,6 @@ pub numbered_popped : {S A : Type 0} (g : Graphed S ℕ) (k : Key) (v : Met A) (
 numbered_popped {S} {A} g k v q0 q1 perm all =
     let both : AreNumbered g ((k, v) ∷ q1) = All-permutation (λ (p : Key × Met A). IsNumbered g p.1) q0 ((k, v) ∷ q1) perm all in
     (both 0 (k, v) (omega arith), λ i p lt. both (suc i) p (omega arith))
-
-pub numbered_values : {S A : Type 0} (g : Graphed S ℕ) (q : Queue A) → AreNumbered g q → All (IsNumbered g) (map (λ p. p.1) q)
-numbered_values g [] all = λ i d lt. absurd (omega arith)
-numbered_values {S} {A} g (p ∷ q) all = all_cons (IsNumbered g) p.1 (map (λ (p : Key × Met A). p.1) q) (all 0 p (omega arith)) (numbered_values g q (λ i d lt. all (suc i) d (omega arith)))
 
 -- what is held stays
 pub same_number : {S : Type 0} (m n : Graphed S ℕ) (q : ObjectId) → n.held ≡ m.held → number_at n q ≡ number_at m q

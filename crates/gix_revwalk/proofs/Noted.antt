@@ -1,14 +1,18 @@
 -- What a walk has noted, over one more id and over one that is noted.
-use Rattle.std.proofs.Common.{◌≡◌, ◌||◌, ◌∙◌, ℕ, Bool, true, false, cond, refl, ap, sym, subst, List, Option, Some, None, is_some, map, set, nat_eq}
+use Rattle.std.proofs.Common.{◌≡◌, ◌||◌, ◌∙◌, ◌-◌, ℕ, zero, suc, Bool, true, false, cond, refl, ap, sym, subst, List, [], ◌∷◌, Option, Some, None, is_some, map, set, nat_eq, arith}
 use Rattle.std.specs.Option.{unwrap_or}
+use Rattle.std.specs.Int.{bit_at}
+use Rattle.std.specs.List.{AllByRecursion, sum_by}
+use Rattle.std.proofs.lemmas.List.Sums.{sum_by-cons}
 use Rattle.std.specs.Map.{lookup}
 use Rattle.gix_base.specs.declared.hash.ObjectId.{ObjectId}
 use Rattle.gix_revwalk.specs.declared.graph.Node.{Node}
 use Rattle.gix_revwalk.specs.declared.numbers.Number.{Number}
 use Rattle.gix_revwalk.specs.History.{History, same_id}
 use Rattle.gix_revwalk.specs.Numbers.{place_of, item_at}
-use Rattle.gix_revwalk.specs.Nodes.{pair_of, mark_of, AreNodes}
+use Rattle.gix_revwalk.specs.Nodes.{pair_of, mark_of, node_ids, node_lacks, AreNodes}
 use Rattle.gix_revwalk.proofs.Places.{lookup-has}
+use Rattle.gix_revwalk.proofs.NodeSteps.{held-at}
 use Rattle.gix_revwalk.proofs.Given.{marked-set}
 use Rattle.gix_revwalk.proofs.Growth.{ids-marks, marked-at}
 
@@ -44,3 +48,25 @@ noted-here {T} h ns entries edges turn k n id b are at same test =
     by : (b : Bool) → is_some (cond b (Some n.queued) None) ≡ b
     by true = refl
     by false = refl
+
+-- what holds at each place holds of each item
+each-from : {X : Type 0} (P : X → Type 0) (xs : List X) → ((k : ℕ) (x : X) → item_at xs k ≡ Some x → P x) → AllByRecursion P xs
+each-from P [] all = tt
+each-from P (x ∷ xs) all = (all zero x refl, each-from P xs (λ k y e. all (suc k) y e))
+
+sum-ids : (f : ObjectId → ℕ) (g : Node ℕ → ℕ) (ns : List (Node ℕ)) → AllByRecursion (λ n. f n.id ≡ g n) ns → sum_by g ns ≡ sum_by f (node_ids ns)
+sum-ids f g [] same = refl
+sum-ids f g (n ∷ ns) same =
+    let a = sum_by-cons g n ns in
+    let b = sum_by-cons f n.id (node_ids ns) in
+    let here = same.0 in
+    let rest = sum-ids f g ns same.1 in
+    omega arith
+
+-- the nodes that lack a bit are the ids that do
+pub lacking-nodes : (h : History) (ns : List (Node ℕ)) (entries : List (ObjectId × Number)) (edges : List Number) (turn place : ℕ) → AreNodes h ns entries edges turn
+    → sum_by (node_lacks turn place) ns
+    ≡ sum_by (λ q. cond (is_some (unwrap_or (lookup (same_id q) (map (mark_of turn) ns)) None)) 0 (1 - bit_at (unwrap_or (lookup (same_id q) (map pair_of ns)) 0) place)) (node_ids ns)
+lacking-nodes h ns entries edges turn place are = sum-ids _ (node_lacks turn place) ns (each-from _ ns (λ k n at.
+    ap (λ b. cond b 0 (1 - bit_at (unwrap_or (lookup (same_id n.id) (map pair_of ns)) 0) place)) (noted-here h ns entries edges turn k n n.id _ are at refl refl)
+    ∙ ap (λ o. cond (nat_eq n.turn turn) 0 (1 - bit_at (unwrap_or o 0) place)) (held-at h ns entries edges turn k n are at)))

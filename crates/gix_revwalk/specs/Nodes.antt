@@ -1,6 +1,7 @@
 -- What stands in a graph: nodes in the order of their numbers, an index, and rows of known parents.
-use Rattle.std.specs.Prelude.{◌≡◌, ℕ, ◌+◌, ◌≤◌, ◌<◌, List, map, take, drop, length, Option, Some, None, cond, nat_eq, is_some}
+use Rattle.std.specs.Prelude.{◌≡◌, ℕ, ◌+◌, ◌-◌, ◌≤◌, ◌<◌, List, map, take, drop, length, Option, Some, None, cond, nat_eq, is_some}
 use Rattle.std.specs.Option.{option_map}
+use Rattle.std.specs.Int.{bit_at}
 use Rattle.std.specs.List.{filter, AllByRecursion, IsDistinct}
 use Rattle.std.specs.Map.{lookup}
 use Rattle.gix_base.specs.declared.hash.ObjectId.{ObjectId}
@@ -22,6 +23,10 @@ mark_of turn n = (n.id, cond (nat_eq n.turn turn) (Some n.queued) None)
 -- the node without a turn
 abbrev pub unturned : {T : Type 0} → Node T → Node T
 unturned n = record n { turn = 0 }
+
+-- 1 where the node has another turn, and lacks the bit of a place in its value
+abbrev pub node_lacks : ℕ → ℕ → Node ℕ → ℕ
+node_lacks turn place n = cond (nat_eq n.turn turn) 0 (1 - bit_at n.value place)
 
 abbrev pub node_ids : {T : Type 0} → List (Node T) → List ObjectId
 node_ids ns = map (λ e. e.0) (map pair_of ns)

@@ -5,6 +5,7 @@
 
 ghost use Rattle.std.specs.Prelude.{◌≡◌, ◌<◌, ◌||◌, List, [], ◌∷◌, ◌++◌, length, Some, None, IsTrue, IsOk, is_some, IfSome, IfOk, OnOk, OnErr, false, map};
 ghost use Rattle.std.specs.Option.{option_map};
+ghost use Rattle.std.specs.List.{IsDistinct, sum_by};
 ghost use Rattle.gix_base.specs.declared.hash.ObjectId.{ObjectId};
 ghost use Rattle.gix_revwalk.specs.Faults.{count_after, is_source_fault};
 ghost use Rattle.gix_revwalk.specs.History.{entry_at, parents_in};
@@ -13,8 +14,8 @@ ghost use Rattle.gix_revwalk.specs.Data.{TakesIn, SameData, len_after, mark_at, 
 ghost use Rattle.gix_revwalk.specs.Held.{entry_of};
 ghost use Rattle.gix_revwalk.specs.Number.{place_in};
 ghost use Rattle.gix_revwalk.specs.Numbers.{number_at, named, value_at, held_ids, item_at, Grows, HoldsMore, Puts};
-ghost use Rattle.gix_revwalk.specs.Nodes.{unturned};
-ghost use Rattle.gix_revwalk.specs.Noted.{noted_at};
+ghost use Rattle.gix_revwalk.specs.Nodes.{unturned, node_lacks};
+ghost use Rattle.gix_revwalk.specs.Noted.{noted_at, unnoted_lacks};
 ghost use Rattle.gix_revwalk.specs.History.{same_id};
 ghost use Rattle.gix_revwalk.specs.Rows.{AreNumbers};
 
@@ -173,6 +174,30 @@ pub fn is_noted<S: Find, T: Held, A: Allocator>(graph: &Graph<S, T, A>, number: 
         → result ≡ noted_at graph.now id }
 {
     graph.nodes[number.place()].turn == graph.turn
+}
+
+/// How many nodes that have another turn lack the bit of a place in their values.
+fn nodes_lacking(nodes: &[Node<u32>], turn: u32, place: usize) -> usize
+    requires few { place < 32 }
+    ensures { result ≡ sum_by (node_lacks turn place) nodes.now }
+{
+    let mut lacking = nodes.len();
+    for node in nodes {
+        if node.turn == turn || (node.value >> place) & 1 == 1 {
+            lacking -= 1;
+        }
+    }
+    lacking
+}
+
+/// How many of the held ids that the walk that is going on has not noted lack the bit of a place in
+/// their values.
+pub fn unnoted_lacking<S: Find, A: Allocator>(graph: &Graph<S, u32, A>, place: usize) -> usize
+    requires few { place < 32 }
+    ensures once { IsDistinct same_id (held_ids graph.now) }
+    ensures count { result ≡ sum_by (unnoted_lacks graph.now place) (held_ids graph.now) }
+{
+    nodes_lacking(&graph.nodes, graph.turn, place)
 }
 
 /// Takes the turn of each node from it.

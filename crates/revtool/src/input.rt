@@ -1,6 +1,6 @@
 //! The whole of an input, by a bounded number of reads.
 
-ghost use Rattle.std.specs.Prelude.{◌≡◌, ◌≤◌, ◌<◌, ◌*◌, [], length, OnOk, IfOk, IsTrue, vec_len};
+ghost use Rattle.std.specs.Prelude.{◌≡◌, ◌<◌, [], length, OnOk, IfOk, IsTrue, vec_len};
 ghost use Rattle.std.specs.Io.KnownBytes.{IsAtEnd};
 ghost use Rattle.revtool.specs.Reads.{TakesMore};
 

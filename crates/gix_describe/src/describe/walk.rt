@@ -1,14 +1,13 @@
 //! The walk that stops early: the newest of the queued commits is popped, and its parents are queued.
 
-ghost use Rattle.std.specs.Prelude.{◌≡◌, ◌≤◌, ◌<◌, ◌↔◌, ◌+◌, ◌^◌, ◌++◌, ◌∷◌, [], ℕ, IfOk, IfErr, IfSome, IsNone, OnOk, Some, None, List, cond, bit_or, length, slice_index, get_or, IsTrue, MatchBool, MatchOption, false};
+ghost use Rattle.std.specs.Prelude.{◌≡◌, ◌≤◌, ◌<◌, ◌+◌, ◌^◌, ◌++◌, ◌∷◌, [], ℕ, IfOk, IfErr, IfSome, IsNone, OnOk, Some, None, List, cond, bit_or, length, get_or, MatchBool, MatchOption, false};
 ghost use Rattle.std.specs.Option.{option_map};
-ghost use Rattle.std.specs.Int.{bit_at};
 ghost use Rattle.std.specs.List.Sorted.{IsPermutation};
 ghost use Rattle.gix_base.specs.declared.hash.ObjectId.{ObjectId};
 ghost use Rattle.gix_revwalk.specs.Followed.{followed};
-ghost use Rattle.gix_revwalk.specs.Graph.{Graphed, held_at};
+ghost use Rattle.gix_revwalk.specs.Graph.{held_at};
 ghost use Rattle.gix_revwalk.specs.Noted.{noted_at};
-ghost use Rattle.gix_revwalk.specs.History.{History, is_one_of, same_id};
+ghost use Rattle.gix_revwalk.specs.History.{History, same_id};
 ghost use Rattle.std.specs.Ordering.{is_lt, is_gt};
 ghost use Rattle.gix_describe.specs.Asks.{Asks, IsHandRefused, IsWalkRefused};
 ghost use Rattle.gix_describe.specs.DescribeRefusals.{refusal};
@@ -16,7 +15,7 @@ ghost use Rattle.gix_describe.specs.Choice.{rank_order, rank_at, name_of, IsChos
 ghost use Rattle.gix_describe.specs.Described.{name_at};
 ghost use Rattle.gix_describe.specs.Handing.{bits};
 ghost use Rattle.gix_describe.specs.Lacking.{lacks, lacking_in};
-ghost use Rattle.gix_describe.specs.Numbered.{IsNumbered, AreNumbered, KeepsNumbers};
+ghost use Rattle.gix_describe.specs.Numbered.{IsNumbered, KeepsNumbers};
 ghost use Rattle.gix_describe.specs.Order.{HoldsFirst, IsTied};
 ghost use Rattle.gix_describe.specs.Outcomes.{names_of};
 
@@ -27,6 +26,7 @@ use crate::describe::options::Names;
 use gix_base::error::Message;
 use gix_base::hash::ObjectId;
 use gix_revwalk::graph::{Find, Graph};
+use gix_revwalk::numbers;
 use gix_revwalk::queue::PriorityQueue;
 use std::alloc::Allocator;
 use std::cmp::Ordering;
@@ -57,23 +57,6 @@ fn name_bytes<'a, 'name, A: Allocator + Copy>(names: &'a Names<'name, A>, id: &O
         Some(name) => name.as_slice(),
         None => &[],
     }
-}
-
-/// How many of the queued commits lack the mark of a place.
-fn lacking_of<S: Find, A: Allocator + Copy>(
-    queue: &Queue<A>,
-    place: usize,
-    graph: &Graph<S, u32, A>,
-) -> usize
-    requires few { place < 32 }
-    requires numbered { AreNumbered graph.now queue.now }
-    ensures { result ≡ lacking_in (Some place) (held_at graph.now) queue.now }
-{
-    let mut lacking = queue.len();
-    for met in queue.iter_unordered() {
-        lacking -= bit_of(marks_of(met, graph), place) as usize;
-    }
-    lacking
 }
 
 impl<A: Allocator + Copy> Walk<A> {
@@ -398,7 +381,8 @@ impl<A: Allocator + Copy> Walk<A> {
             graph.old.source graph.new.source (refusal result) }
     {
         let mut depth = count;
-        let mut lacking = lacking_of(&self.queue, place, graph);
+        // What was met and is not noted is queued.
+        let mut lacking = numbers::unnoted_lacking(graph, place);
         while let Some((_, met)) = self.next() {
             let (counted, complete) = self.pass_for(
                 alloc,

@@ -1,12 +1,12 @@
 //! Handing marks to commits, by their numbers, with a count of the entries that are not stale.
 
-ghost use Rattle.std.specs.Prelude.{◌≡◌, ◌<◌, ◌≤◌, ◌-◌, ◌^◌, ◌∷◌, [], List, map, Some, IsTrue, OnOk, OnErr, IfOk, IfSome, IsNone, IsSome, cond, ◌↔◌, Ok, Err, is_some, not};
+ghost use Rattle.std.specs.Prelude.{◌≡◌, ◌<◌, ◌≤◌, ◌-◌, ◌^◌, ◌∷◌, [], List, Some, IsTrue, OnOk, IfOk, IfSome, IsNone, IsSome, cond, Ok, Err, not};
 ghost use Rattle.std.specs.List.Sorted.{IsPermutation};
 ghost use Rattle.gix_base.specs.declared.hash.ObjectId.{ObjectId};
 ghost use Rattle.gix_revwalk.specs.declared.numbers.Number.{Number};
-ghost use Rattle.gix_revwalk.specs.Graph.{held_len, held_at};
+ghost use Rattle.gix_revwalk.specs.Graph.{held_len};
 ghost use Rattle.gix_revwalk.specs.Number.{place_in};
-ghost use Rattle.gix_revwalk.specs.Numbers.{named, held_ids, HoldsMore};
+ghost use Rattle.gix_revwalk.specs.Numbers.{held_ids, HoldsMore};
 ghost use Rattle.gix_revwalk.specs.History.{Has, same_id, is_one_of, entry_at, parents_in};
 ghost use Rattle.gix_merge_base.specs.PaintSteps.{Hands, Notes, Steps, results_after};
 ghost use Rattle.gix_merge_base.specs.Marks.{marks_of, joined, handed_on};
@@ -14,7 +14,7 @@ ghost use Rattle.gix_revwalk.specs.Faults.{count_after, is_source_fault};
 ghost use Rattle.gix_revwalk.specs.Walks.{KeepsHeld};
 ghost use Rattle.gix_merge_base.specs.Keys.{KeyAtMost};
 ghost use Rattle.gix_merge_base.specs.Counting.{Counts, open_then, unstale};
-ghost use Rattle.gix_merge_base.specs.PaintQueue.{marks_at, queued_at, queued_ids, id_at, ids_at, AreIn, AreHeld, Keyed, key_at, no_mark, mark_or};
+ghost use Rattle.gix_merge_base.specs.PaintQueue.{marks_at, queued_at, queued_ids, id_at, ids_at, AreIn, AreHeld, Keyed, mark_or};
 
 use crate::merge_base::flags::Flags;
 use crate::merge_base::gen_then_time::GenThenTime;

@@ -1,9 +1,8 @@
 //! The members of the set that a spec means, in no order.
 
-ghost use Rattle.std.specs.Prelude.{IfOk, ◌∷◌, []};
+ghost use Rattle.std.specs.Prelude.{IfOk, []};
 ghost use Rattle.gix_revwalk.specs.Faults.{is_source_fault};
 ghost use Rattle.gix_revwalk.specs.GraphAfter.{GraphAfter};
-ghost use Rattle.gix_revwalk.specs.History.{entry_at, parents_in, IsAncestorOfOne};
 ghost use Rattle.gix_revwalk.specs.Sizes.{Lists};
 ghost use Rattle.gix_spec.specs.declared.spec.Spec.TheVariants.{Merge};
 ghost use Rattle.gix_spec.specs.declared.spec.Spec.TheVariants.{IncludeOnlyParents, ExcludeParents};

@@ -1,15 +1,27 @@
-use Rattle.std.proofs.Common.{refl, Some, None, ◌≡◌, ◌≤◌, ◌<◌, ◌-◌, ◌+◌, ◌∙◌, ℕ, ap, length, arith}
-use Rattle.gix_revwalk.specs.History.{History}
+use Rattle.std.proofs.Common.{refl, Some, None, ◌≡◌, ◌≤◌, ◌<◌, ◌-◌, ◌+◌, ◌∙◌, ◌&&◌, not, is_some, ℕ, ap, sym, length, arith}
+use Rattle.gix_revwalk.specs.History.{History, is_one_of}
 use Rattle.gix_revwalk.specs.Followed.{followed}
 use Rattle.gix_describe.proofs.WalkSteps.{bounded}
-use Rattle.gix_describe.proofs.Asked.{asks_on, refusal_came}
+use Rattle.gix_describe.proofs.Asked.{asks_nothing, asks_on, refusal_came}
 use Rattle.gix_describe.proofs.WalkEnds.{taken_of, completes_ended}
 use Rattle.gix_revwalk.specs.Graph.{held_at}
-use Rattle.gix_describe.proofs.Lacking.{lacking_popped}
+use Rattle.gix_describe.proofs.Lacking.{lacking_popped, lacking_unnoted}
 use Rattle.gix_describe.proofs.describe.walk.Walk.complete.Goals as goal
 
 fewer : (n h k i j : ℕ) → h ≡ n → k ≡ n → j ≡ i + 1 → j ≤ n → k - j < h - i
 fewer n h k i j a b c d = omega arith
+
+pub loop-met-init : goal.loop-met-init
+loop-met-init g c =
+    let at = c.requires.completes.at in
+    let m = c.args.graph.now in
+    record {
+      completes = c.requires.completes;
+      lacking = c.unnoted_lacking-lacking.ensures.count ∙ lacking_unnoted m c.args.place c.args.self.now.queue c.unnoted_lacking-lacking.ensures.once at.queue.once
+          (λ q. at.queue.ids q ∙ ap (λ b. b && not (is_one_of c.requires.completes.popped q)) (sym (at.marked.met q)) ∙ ap (λ b. is_some (held_at m q) && not b) (sym (at.noted q)));
+      candidates = refl;
+      asked = asks_nothing _ _ _ _ _ refl;
+    }
 
 pub loop-met-smaller : goal.loop-met-smaller
 loop-met-smaller g c =
