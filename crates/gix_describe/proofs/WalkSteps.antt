@@ -35,7 +35,6 @@ use Rattle.gix_describe.specs.WalkState.{IsQueue, IsMarked, IsCounted, others, N
 use Rattle.gix_describe.proofs.Early.{In, absent}
 use Rattle.gix_describe.proofs.Handing.{all_cons, once_more, one_of_push}
 use Rattle.gix_describe.proofs.Traces.{Open, Marked, and_left, and_right, both, or_split, or_left, or_right, met_more, marked_more, late_more, mark_fresh, late_fresh, open_met, open_out, open_is, popped_of}
-use Rattle.gix_describe.proofs.WalkQueue.{only_start}
 
 -- ---- what is popped was met
 pub popped_met : (h : History) (s : ObjectId) (xs : List ObjectId) (c : ObjectId) → IsWalk h s xs → In xs c → is_met h s xs c ≡ true
@@ -355,12 +354,6 @@ no_length xs e = zero_from (length xs) e
 
 pub some_length : (n : ℕ) → (n == 0) ≡ false → n ≡ 0 → ⊥
 some_length n e f = let z : (n == 0) ≡ true = ap (λ k. k == 0) f in let k : true ≡ false = sym z ∙ e in cc
-
--- the start alone gives no candidate
-pub start_alone : (h : History) (s : ObjectId) (names : Names) (xs : List ObjectId) (x : ObjectId) → name_at names s ≡ None → IsNext h s xs x → xs ≡ [] → filter (is_named names) (xs ++ x ∷ []) ≡ []
-start_alone h s names xs x unnamed next none =
-    let is : x ≡ s = only_start h s x (subst (λ l. Open h s l x) none next.0) in
-    ap (λ l. filter (is_named names) (l ++ x ∷ [])) none ∙ ap (λ b. cond b (x ∷ []) []) (ap is_some (ap (name_at names) is ∙ unnamed))
 
 -- ---- measures
 pub bounded : (h : History) (s : ObjectId) (xs : List ObjectId) → IsWalk h s xs → Has h s → length xs ≤ length h

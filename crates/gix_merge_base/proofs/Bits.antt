@@ -78,14 +78,6 @@ marks-joined w a = same_marks _ _
     (bit-or (bit_and 7 w) a 2 ∙ ap (λ z. z || (bit_at a 2 == 1)) (bit-and 7 w 2))
     (bit-or (bit_and 7 w) a 3 ∙ ap (λ z. z || (bit_at a 3 == 1)) (bit-and 7 w 3))
 
--- the marks of `7 & w`, where not both sides reach it
-pub marks-kept : (w : ℕ) → ((marks_of (record { 0 = w })).one && (marks_of (record { 0 = w })).two) ≡ false → marks_of (record { 0 = bit_and 7 w }) ≡ handed_on (marks_of (record { 0 = w }))
-marks-kept w none = same_marks _ _ (bit-and 7 w 0) (bit-and 7 w 1) (bit-and 7 w 2 ∙ sym (or_false (bit_at w 2 == 1) _ none)) (bit-and 7 w 3)
-  where
-    or_false : (a b : Bool) → b ≡ false → (a || b) ≡ a
-    or_false true b e = refl
-    or_false false b e = e
-
 -- the marks of `7 & w | 4`, where both sides reach it
 pub marks-staled : (w : ℕ) → ((marks_of (record { 0 = w })).one && (marks_of (record { 0 = w })).two) ≡ true → marks_of (record { 0 = bit_or (bit_and 7 w) 4 }) ≡ handed_on (marks_of (record { 0 = w }))
 marks-staled w both = same_marks _ _

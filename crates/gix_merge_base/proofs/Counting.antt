@@ -1,5 +1,5 @@
 -- The count of queued entries whose commit is not stale, over one more entry and over one less.
-use Rattle.std.proofs.Common.{◌≡◌, ℕ, true, false, cond, refl, ap, sym, subst, ◌∙◌, List, [], ◌∷◌, not, ◌+◌, ◌-◌, ◌≤◌, length, arith, IsTrue}
+use Rattle.std.proofs.Common.{◌≡◌, ℕ, true, false, cond, refl, ap, sym, subst, ◌∙◌, List, [], ◌∷◌, not, ◌+◌, ◌-◌, arith, IsTrue}
 use Rattle.std.specs.List.{sum_by}
 use Rattle.std.specs.List.Sorted.{IsPermutation}
 use Rattle.std.proofs.lemmas.List.Sums.{sum_by-cons}
@@ -115,48 +115,6 @@ module _ (m m' : ObjectId → MarkSet) (n n' : ObjectId → ℕ) (q q' : List Ob
           | false ↦ λ was. counts_turned o k was now
         ] refl
       ] refl
-
--- the count of one commit is at most the whole, where it is not stale
-pub counts_enough : (m : ObjectId → MarkSet) (n : ObjectId → ℕ) (q : List ObjectId) (o : ℕ) (id : ObjectId) → Counts m n q o → (m id).stale ≡ false → n id ≤ o
-counts_enough m n q o id k was =
-    let before : level (not (m id).stale) ≡ 1 = ap (λ z. level (not z)) was in
-    let own = k.times id in
-    let old = k.unstale in
-    let le = at_most id m before q in
-    omega arith
-  where
-    at_most : (id : ObjectId) (m : ObjectId → MarkSet) → level (not (m id).stale) ≡ 1 → (q : List ObjectId) → times id q ≤ unstale m q
-    at_most id m one [] = omega arith
-    at_most id m one (x ∷ xs) =
-        let a = sum_by-cons (λ y. level (same_id id y)) x xs in
-        let b = sum_by-cons (λ y. level (not (m y).stale)) x xs in
-        let i = at_most id m one xs in
-        elim (same_id id x) as (λ s. same_id id x ≡ s → times id (x ∷ xs) ≤ unstale m (x ∷ xs)) [
-          | true ↦ λ same.
-              let is = same_id-true id x same in
-              let fx : level (not (m x).stale) ≡ 1 = subst (λ z. level (not (m z).stale) ≡ 1) is one in
-              let lx : level (same_id id x) ≡ 1 = ap level same in
-              omega arith
-          | false ↦ λ apart. let lx : level (same_id id x) ≡ 0 = ap level apart in omega arith
-        ] refl
-
--- no more is counted than is queued
-pub counts_few : (m : ObjectId → MarkSet) (n : ObjectId → ℕ) (q : List ObjectId) (o : ℕ) → Counts m n q o → o ≤ length q
-counts_few m n q o k = let old = k.unstale in let le = at_most m q in omega arith
-  where
-    at_most : (m : ObjectId → MarkSet) (q : List ObjectId) → unstale m q ≤ length q
-    at_most m [] = omega arith
-    at_most m (x ∷ xs) =
-        let b = sum_by-cons (λ y. level (not (m y).stale)) x xs in
-        let i = at_most m xs in
-        elim (not (m x).stale) as (λ s. not (m x).stale ≡ s → unstale m (x ∷ xs) ≤ length (x ∷ xs)) [
-          | true ↦ λ e. let l : level (not (m x).stale) ≡ 1 = ap level e in omega arith
-          | false ↦ λ e. let l : level (not (m x).stale) ≡ 0 = ap level e in omega arith
-        ] refl
-
--- nothing is counted where each queued commit is stale, and then alone
-pub counts_zero : (m : ObjectId → MarkSet) (n : ObjectId → ℕ) (q : List ObjectId) → Counts m n q 0 → unstale m q ≡ 0
-counts_zero m n q k = sym k.unstale
 
 -- an entry leaves
 pub counts_popped : (m m' : ObjectId → MarkSet) (n n' : ObjectId → ℕ) (q q' : List ObjectId) (id : ObjectId) (o : ℕ)

@@ -8,7 +8,7 @@ use Rattle.gix_revwalk.specs.History.{History, Has, is_one_of, same_id}
 use Rattle.gix_merge_base.specs.Marks.{MarkSet, HasMarksOf, joined, has_marks, level, marks_in}
 use Rattle.gix_merge_base.specs.PaintSteps.{Hands, total}
 use Rattle.gix_revwalk.proofs.Ids.{same_id-true, same_id-itself}
-use Rattle.gix_revwalk.proofs.Members.{one_of-left, one_of-right, one_of-cases, one_of-single, one_of-head, one_of-tail, one_of-cons_cases, one_of-take_cases}
+use Rattle.gix_revwalk.proofs.Members.{one_of-left, one_of-right, one_of-cases, one_of-single, one_of-head, one_of-tail, one_of-cons_cases}
 use Rattle.gix_merge_base.proofs.Painting.{below-itself, below-trans, or_either, or_right, and_both}
 
 or_left : (a b : Bool) → IsTrue a → IsTrue (a || b)
@@ -44,9 +44,6 @@ one_more false a h = cc
 and_false : (x y : Bool) → (x && y) ≡ false → (x ≡ false) ⊎ (y ≡ false)
 and_false true y h = inr h
 and_false false y h = inl refl
-
-marks_no_less : (w a : MarkSet) → marks_in a ≤ marks_in (joined w a)
-marks_no_less w a = let x = no_less w.one a.one in let y = no_less w.two a.two in let z = no_less w.stale a.stale in omega arith
 
 marks_more : (w a : MarkSet) → has_marks a w ≡ false → marks_in a + 1 ≤ marks_in (joined w a)
 marks_more w a h =
@@ -189,28 +186,3 @@ one_of-taken (suc n) (p ∷ ps) q k = elim (one_of-cons_cases p (take n ps) q k)
   | inl is ↦ subst (λ z. IsTrue (is_one_of (p ∷ ps) z)) (sym is) (one_of-head p ps)
   | inr r ↦ one_of-tail p ps q (one_of-taken n ps q r)
 ]
-
-pub holds_next : (h : History) (ps : List ObjectId) (i : ℕ) (d : ObjectId) (A B D : ObjectId → Type 0) → i < length ps
-    → ((q : ObjectId) → B q → A q ⊎ (IsTrue (is_one_of (take i ps) q) × Has h q))
-    → ((q : ObjectId) → D q → B q ⊎ (IsTrue (is_one_of (get_or ps i d ∷ []) q) × Has h q))
-    → (q : ObjectId) → D q → A q ⊎ (IsTrue (is_one_of (take (i + 1) ps) q) × Has h q)
-holds_next h ps i d A B D below old new q k =
-    elim (new q k) as (λ _. A q ⊎ (IsTrue (is_one_of (take (i + 1) ps) q) × Has h q)) [
-      | inl b ↦ elim (old q b) as (λ _. A q ⊎ (IsTrue (is_one_of (take (i + 1) ps) q) × Has h q)) [
-        | inl a ↦ inl a
-        | inr x ↦ inr (rw (add-one, take-suc ps i d below) (one_of-left (take i ps) (get_or ps i d ∷ []) q x.0), x.1)
-      ]
-      | inr x ↦ inr (rw (add-one, take-suc ps i d below) (one_of-right (take i ps) (get_or ps i d ∷ []) q x.0), x.1)
-    ]
-
-pub holds_taken : (h : History) (ps : List ObjectId) (n : ℕ) (A D : ObjectId → Type 0) → ((q : ObjectId) → D q → A q ⊎ (IsTrue (is_one_of (take n ps) q) × Has h q))
-    → (q : ObjectId) → D q → A q ⊎ (IsTrue (is_one_of ps q) × Has h q)
-holds_taken h ps n A D old q k = elim (old q k) as (λ _. A q ⊎ (IsTrue (is_one_of ps q) × Has h q)) [ inl a ↦ inl a | inr x ↦ inr (one_of-taken n ps q x.0, x.1) ]
-
--- what holds of the first i and of the next
-pub next_all : (P : ObjectId → Type 0) (ps : List ObjectId) (i : ℕ) (d : ObjectId) → i < length ps → ((q : ObjectId) → IsTrue (is_one_of (take i ps) q) → P q) → P (get_or ps i d) → (q : ObjectId) → IsTrue (is_one_of (take (i + 1) ps) q) → P q
-next_all P ps i d below old here q k =
-    elim (one_of-take_cases ps i d q below k) as (λ _. P q) [
-      | inl m ↦ old q m
-      | inr is ↦ subst P (sym is) here
-    ]

@@ -1,15 +1,13 @@
 -- The common ancestors that are a parent of no common one are the maximal ones.
-use Rattle.std.proofs.Common.{◌≡◌, Bool, false, refl, sym, subst, ◌∙◌, List, [], ◌∷◌, inl, inr, ◌||◌, IsTrue, ◌↔◌, not, ap}
+use Rattle.std.proofs.Common.{◌≡◌, false, refl, sym, subst, List, [], ◌∷◌, inl, inr, IsTrue, ◌↔◌, not}
 use Rattle.std.proofs.lemmas.Bool.{not_from_false, false_from_ne_true}
 use Rattle.std.specs.List.{filter}
 use Rattle.gix_base.specs.declared.hash.ObjectId.{ObjectId}
 use Rattle.gix_revwalk.specs.History.{History, entry_at, is_one_of, Has, IsEdge, parents_in, IsAncestor, IsAncestorOfOne, IsAcyclic}
-use Rattle.gix_merge_base.specs.Bases.{IsCommon, IsMaximal, IsBase, AreBases, CoverBases, is_trivial}
-use Rattle.gix_revwalk.specs.Sizes.{is_empty}
+use Rattle.gix_merge_base.specs.Bases.{IsCommon, IsMaximal, AreBases, CoverBases, is_trivial}
 use Rattle.gix_revwalk.specs.History.IsAncestor.{itself, further}
-use Rattle.gix_revwalk.specs.Graph.{Graphed}
 use Rattle.gix_revwalk.proofs.Ancestors.{anc-edge, has_ancestor}
-use Rattle.gix_revwalk.specs.Walks.{parents_of_all, HoldsEach, HoldsAncestors}
+use Rattle.gix_revwalk.specs.Walks.{parents_of_all}
 use Rattle.gix_revwalk.proofs.Members.{not_both, one_of-left, one_of-right, one_of-cases, one_of-single, one_of-head, one_of-tail, one_of-cons_cases, one_of-filter, one_of-filtered}
 
 pub parent_of_one : (h : History) (xs : List ObjectId) (p c : ObjectId) → IsTrue (is_one_of xs p) → IsTrue (is_one_of (parents_in (entry_at h p)) c) → IsTrue (is_one_of (parents_of_all h xs) c)
@@ -70,22 +68,8 @@ common_ones h f os xs ys first others c = (
   (λ m. one_of-filtered (is_one_of ys) xs c ((first c).1 (f, one_of-head f [], m.0)) ((others c).1 m.1)),
 )
 
--- at the end of the call
-pub bases_are : (h : History) (f : ObjectId) (os xs ys : List ObjectId) → IsAcyclic h → (is_empty os || is_one_of os f) ≡ false
-    → ((c : ObjectId) → IsTrue (is_one_of xs c) ↔ IsAncestorOfOne h (f ∷ []) c) → ((c : ObjectId) → IsTrue (is_one_of ys c) ↔ IsAncestorOfOne h os c)
-    → (c : ObjectId) → IsTrue (is_one_of (filter (λ x. not (is_one_of (parents_of_all h (filter (is_one_of ys) xs)) x)) (filter (is_one_of ys) xs)) c) ↔ IsBase h f os c
-bases_are h f os xs ys acyclic plain first others c =
-    rw plain (maximal_ones h (IsCommon h f os) (filter (is_one_of ys) xs) acyclic (common_goes_down h f os) (common_has h f os) (common_ones h f os xs ys first others) c)
-
 -- exact bases cover the bases
 pub covers : (h : History) (f : ObjectId) (os ids : List ObjectId) → is_trivial f os ≡ false → AreBases h f os ids → CoverBases h f os ids
 covers h f os ids plain are =
     let looked = rw plain at are in
     record { every = λ c m. (looked c).1 m; common = λ c m. ((looked c).0 m).0 }
-
--- a graph that holds all ancestors of f and others holds what is common, of those of f
-pub holds_common : {S T : Type 0} (h : History) (g : Graphed S T) (f : ObjectId) (os xs common : List ObjectId) (p : ObjectId → Bool)
-    → HoldsAncestors h g (f ∷ os) → ((c : ObjectId) → IsTrue (is_one_of xs c) ↔ IsAncestorOfOne h (f ∷ []) c) → common ≡ filter p xs → HoldsEach h g common
-holds_common h g f os xs common p holds ours is q m has =
-    let a = (ours q).0 (one_of-filter p xs q (ap (λ l. is_one_of l q) (sym is) ∙ m)).0 in
-    holds q (f, one_of-head f os, subst (λ z. IsAncestor h z q) (one_of-single f a.0 a.1) a.2)

@@ -7,12 +7,6 @@ use Rattle.gix_revwalk.proofs.Places.{same_id-sym}
 use Rattle.gix_merge_base.specs.PaintSteps.{Notes}
 use Rattle.gix_merge_base.specs.Marks.{MarkSet, becomes_result, noted}
 
-pub notes_none : (m : ObjectId → MarkSet) (id : ObjectId) → becomes_result (m id) ≡ false → Notes m id m
-notes_none m id e = record {
-  same = λ p. (refl, refl, refl);
-  result = λ p. rw e (elim (same_id p id) as (λ b. (m p).result ≡ (cond b false false || (m p).result)) [ true ↦ refl | false ↦ refl ]);
-}
-
 pub notes_one : (m m' : ObjectId → MarkSet) (id : ObjectId) (w : MarkSet) → becomes_result (m id) ≡ true → w ≡ noted (m id) → ((p : ObjectId) → m' p ≡ cond (same_id id p) w (m p)) → Notes m id m'
 notes_one m m' id w e is marks =
     let at : (p : ObjectId) → m' p ≡ cond (same_id id p) (noted (m p)) (m p) =

@@ -2,7 +2,7 @@
 use Rattle.std.proofs.Common.{◌≡◌, ℕ, Bool, true, false, cond, refl, ap, sym, subst, ◌∙◌, List, [], ◌∷◌, ◌++◌, ◌⊎◌, inl, inr, ◌||◌, ◌&&◌, IsTrue, is_some, ◌+◌, ◌≤◌, ◌<◌, length, arith, take, get_or, add-one}
 use Rattle.std.specs.List.{IsDistinct, list_any}
 use Rattle.std.specs.List.Sorted.{IsPermutation}
-use Rattle.std.proofs.lemmas.List.Sorted.{list_any-IsPermutation, length_permutation, IsPermutation-refl}
+use Rattle.std.proofs.lemmas.List.Sorted.{list_any-IsPermutation, length_permutation}
 use Rattle.std.proofs.lemmas.List.Folds.{list_any-append}
 use Rattle.std.proofs.lemmas.List.{length_push}
 use Rattle.std.proofs.Math.Seq.{take-suc}
@@ -19,9 +19,6 @@ use Rattle.gix_merge_base.proofs.Painting.{Handed, or_either, and_both, and_pair
 use Rattle.gix_merge_base.proofs.PaintWalk.{Walk}
 use Rattle.gix_merge_base.specs.Counting.{Counts}
 use Rattle.std.proofs.Math.Path.{fun_ext}
-
-first_marks : MarkSet
-first_marks = record { one = true; two = false; stale = false; result = false }
 
 same_id-sym : (a b : ObjectId) → same_id a b ≡ same_id b a
 same_id-sym a b =
@@ -177,12 +174,6 @@ pub begins_one : (h : History) (w : MarkSet) (id : ObjectId) (m m' : ObjectId �
 begins_one h w id m m' q q' has marks perm = record {
   marks = λ c. marks c ∙ rw has (elim (same_id id c) as (λ s. cond s (joined w (m c)) (m c) ≡ cond (s && true) (joined w (m c)) (m c)) [ true ↦ refl | false ↦ refl ]);
   queue = rw has perm;
-}
-
-pub begins_none : (h : History) (w : MarkSet) (id : ObjectId) (m m' : ObjectId → MarkSet) (q q' : List ObjectId) → is_some (entry_at h id) ≡ false → ((c : ObjectId) → m' c ≡ m c) → q' ≡ q → Begins h w id m q m' q'
-begins_none h w id m m' q q' none same is = record {
-  marks = λ c. same c ∙ rw none (elim (same_id id c) as (λ s. m c ≡ cond (s && false) (joined w (m c)) (m c)) [ true ↦ refl | false ↦ refl ]);
-  queue = rw (none, is) (IsPermutation-refl q);
 }
 
 -- a look-up before it moves no mark

@@ -13,14 +13,6 @@ pub record Surveyed (h : History) (ids : List ObjectId) (m : ObjectId → MarkSe
   pub alike : unmet ≤ 1 → Alike (take i ids) m
   pub least : (r : ObjectId) → IsTrue (is_one_of (take i ids) r) → (m r).stale ≡ false → bound ≤ generation_of h r
 
-pub survey_begins : (h : History) (ids : List ObjectId) (m : ObjectId → MarkSet) (bound : ℕ) → Surveyed h ids m 0 0 bound
-survey_begins h ids m bound = record {
-  few = omega arith;
-  none = λ e r k. cc;
-  alike = λ e a b a_in a_out b_in b_out. cc;
-  least = λ r k out. cc;
-}
-
 module _ (h : History) (ids : List ObjectId) (m : ObjectId → MarkSet) (i unmet bound : ℕ) (d : ObjectId) (below : i < length ids) (old : Surveyed h ids m i unmet bound) where
   either : (r : ObjectId) → IsTrue (is_one_of (take (i + 1) ids) r) → IsTrue (is_one_of (take i ids) r) ⊎ (r ≡ get_or ids i d)
   either r k = one_of-take_cases ids i d r below k

@@ -1,12 +1,11 @@
 -- What a walk has marked is what it has listed, over the steps of the walk.
-use Rattle.std.proofs.Common.{◌≡◌, ℕ, true, false, cond, refl, ap, sym, subst, ◌∙◌, List, [], ◌∷◌, ◌++◌, ◌||◌, ◌<◌, length, get_or, is_some, Option, Some, None, IsTrue, Bool, arith}
+use Rattle.std.proofs.Common.{◌≡◌, ℕ, true, false, cond, refl, ap, sym, subst, ◌∙◌, List, [], ◌∷◌, ◌++◌, ◌||◌, ◌<◌, length, get_or, is_some, Option, Some, IsTrue, Bool, arith}
 use Rattle.gix_base.specs.declared.hash.ObjectId.{ObjectId}
 use Rattle.gix_revwalk.specs.History.{is_one_of, same_id}
 use Rattle.gix_revwalk.specs.Graph.{Graphed, held_len}
 use Rattle.gix_revwalk.specs.Data.{Marks, mark_at}
 use Rattle.gix_revwalk.specs.Number.{place_in}
 use Rattle.gix_revwalk.specs.Numbers.{held_ids, Grows}
-use Rattle.gix_revwalk.specs.Walks.{added}
 use Rattle.gix_revwalk.specs.declared.graph.commit.Commit.{Commit}
 use Rattle.gix_revwalk.specs.declared.numbers.Mark.{Mark}
 use Rattle.gix_revwalk.specs.declared.numbers.Number.{Number}
@@ -22,10 +21,6 @@ use Rattle.gix_merge_base.proofs.Listed.{listed-grown, listed-same, listed-push,
 -- the marks that a walk has given say which ids it has listed
 pub listed-mark : {S D A : Type 0} (g : Graphed S (Commit D A)) (ns : List Number) (k : ℕ) (o : Option (Mark D)) → AreMarked g ns → o ≡ mark_at g (id_at g k) → is_some o ≡ is_one_of (ids_at g ns) (id_at g k)
 listed-mark g ns k o at is = ap is_some is ∙ at.marks (id_at g k)
-
--- nothing changes where the commit is listed
-pub added-there : (xs : List ObjectId) (id : ObjectId) → is_one_of xs id ≡ true → xs ≡ added xs id
-added-there xs id there = sym (ap (λ b. cond b xs (xs ++ id ∷ [])) there)
 
 -- what stands in a list with one id more
 pushed : (xs : List ObjectId) (id q : ObjectId) (b : Bool) → b ≡ is_one_of xs q → cond (same_id id q) true b ≡ is_one_of (xs ++ id ∷ []) q
@@ -57,10 +52,6 @@ pub marked-grown : {S D A : Type 0} (m n : Graphed S (Commit D A)) (ns : List Nu
 marked-grown m n ns grows same at =
     let grown = listed-grown m n grows ns at.inside in
     (record { inside = grown.0; marks = λ q. ap is_some (same q) ∙ at.marks q ∙ ap (λ l. is_one_of l q) (sym grown.1) }, grown.1)
-
--- the walk that has begun has listed nothing
-pub marked-none : {S D A : Type 0} (g : Graphed S (Commit D A)) → ((q : ObjectId) → mark_at g q ≡ None) → AreMarked g []
-marked-none g none = record { inside = tt; marks = λ q. ap is_some (none q) }
 
 -- each number of a list is one of the graph, also where the same ids are held
 pub in-loop : {S T : Type 0} (m n : Graphed S T) → held_ids n ≡ held_ids m → (ns : List Number) (i : ℕ) (d : Number) → AreIn m ns → i < length ns → place_in (get_or ns i d) < held_len n

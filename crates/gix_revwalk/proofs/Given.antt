@@ -32,18 +32,6 @@ pub given-agree : {D A : Type 0} (h : History) (w : D) (ns : List (Node (Commit 
     → (id : ObjectId) (x : Commit D A) → lookup (same_id id) (map pair_of (map (given w) ns)) ≡ Some x → agrees_with x (entry_at h id)
 given-agree h w ns agree id x e = agree_cleared (entry_at h id) w (lookup (same_id id) (map pair_of ns)) (agree id) x (sym (given-lookup w ns id) ∙ e)
 
--- a later turn
-pub nodes-turn : {T : Type 0} (h : History) (ns : List (Node T)) (entries : List (ObjectId × Number)) (edges : List Number) (t u : ℕ) → AreNodes h ns entries edges t → t ≤ u → AreNodes h ns entries edges u
-nodes-turn h ns entries edges t u are le =
-    let begun = are.begun in
-    record {
-      index = are.index;
-      once = are.once;
-      rows = are.rows;
-      turns = each-map (λ n. n.turn ≤ t) (λ n. n.turn ≤ u) (λ n k. omega arith) ns are.turns;
-      begun = omega arith;
-    }
-
 -- what a walk that has just begun has marked
 pub unmarked : {T : Type 0} (t : ℕ) (ns : List (Node T)) → AllByRecursion (λ n. n.turn < t) ns → (q : ObjectId) → unwrap_or (lookup (same_id q) (map (mark_of t) ns)) None ≡ None
 unmarked t [] all q = refl

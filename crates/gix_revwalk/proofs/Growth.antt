@@ -18,7 +18,7 @@ use Rattle.gix_revwalk.specs.Rows.{AreNumbers}
 use Rattle.gix_revwalk.specs.Nodes.{pair_of, mark_of, node_ids, known_parents, IsRow, AreNodes}
 use Rattle.gix_revwalk.proofs.Ids.{same_id-true}
 use Rattle.gix_revwalk.proofs.Members.{one_of-head, one_of-tail}
-use Rattle.gix_revwalk.proofs.Places.{place-once, item_at-grown, item_at-within, lookup-at, lookup-has, each-map}
+use Rattle.gix_revwalk.proofs.Places.{place-once, item_at-grown, lookup-at, lookup-has, each-map}
 use Rattle.gix_revwalk.proofs.NodeSteps.{node-id, held-at}
 
 -- places are kept where ids come at the end
@@ -50,9 +50,6 @@ item_at-there (x ∷ xs) (suc k) lt = item_at-there xs k (omega arith)
 
 pub named-there : {S T : Type 0} (m : Graphed S T) (k : ℕ) → k < held_len m → (id : ObjectId) × (named m k ≡ Some id)
 named-there m k lt = let len = length-map m.held (λ e. e.0) in item_at-there (held_ids m) k (omega arith)
-
-pub named-within : {S T : Type 0} (m : Graphed S T) (k : ℕ) (id : ObjectId) → named m k ≡ Some id → k < held_len m
-named-within m k id e = let lt = item_at-within (held_ids m) k id e in let len = length-map m.held (λ e. e.0) in omega (arith, lt, len)
 
 pub named-back : {S T : Type 0} (m n : Graphed S T) → Grows m n → (k : ℕ) (id : ObjectId) → k < held_len m → named n k ≡ Some id → named m k ≡ Some id
 named-back m n grows k id lt e =
@@ -98,10 +95,6 @@ pub numbers-skip : {S T : Type 0} (h : History) (m n : Graphed S T) → Grows m 
     → is_some (entry_at h id) ≡ false → AreNumbers h m ps ns → AreNumbers h n (ps ++ id ∷ []) ns
 numbers-skip h m n grows ps id ns hasnt e =
     rw (filter-push (λ p. is_some (entry_at h p)) ps id, hasnt, append-nil (filter (λ p. is_some (entry_at h p)) ps)) (numbers-grown m n grows ns _ e)
-
--- what is held
-pub more-refl : {S T : Type 0} (h : History) (ids : List ObjectId) (m n : Graphed S T) → n.held ≡ m.held → HoldsMore h ids m n
-more-refl h ids m n e q held = inl (subst (λ l. IsTrue (is_some (lookup (same_id q) l))) e held)
 
 pub more-trans : {S T : Type 0} (h : History) (ids xs ys : List ObjectId) (a b c : Graphed S T)
     → ((q : ObjectId) → IsTrue (is_one_of xs q) → IsTrue (is_one_of ids q)) → ((q : ObjectId) → IsTrue (is_one_of ys q) → IsTrue (is_one_of ids q))

@@ -39,21 +39,10 @@ item_at-within [] k x e = cc
 item_at-within (y ∷ xs) zero x e = omega arith
 item_at-within (y ∷ xs) (suc k) x e = let lt = item_at-within xs k x e in omega arith
 
-pub item_at-push : {X : Type 0} (xs : List X) (y : X) → item_at (xs ++ y ∷ []) (length xs) ≡ Some y
-item_at-push [] y = refl
-item_at-push (x ∷ xs) y = item_at-push xs y
-
 pub item_at-grown : {X : Type 0} (xs ys : List X) (k : ℕ) (x : X) → item_at xs k ≡ Some x → item_at (xs ++ ys) k ≡ Some x
 item_at-grown [] ys k x e = cc
 item_at-grown (y ∷ xs) ys zero x e = e
 item_at-grown (y ∷ xs) ys (suc k) x e = item_at-grown xs ys k x e
-
-pub item_at-set_other : {X : Type 0} (xs : List X) (j k : ℕ) (w : X) → (j ≡ k → ⊥) → item_at (set xs k w) j ≡ item_at xs j
-item_at-set_other [] j k w ne = refl
-item_at-set_other (x ∷ xs) zero zero w ne = absurd (ne refl)
-item_at-set_other (x ∷ xs) zero (suc k) w ne = refl
-item_at-set_other (x ∷ xs) (suc j) zero w ne = refl
-item_at-set_other (x ∷ xs) (suc j) (suc k) w ne = item_at-set_other xs j k w (λ e. ne (ap suc e))
 
 -- what holds of each item
 pub each-at : {X : Type 0} (P : X → Type 0) (xs : List X) (k : ℕ) (x : X) → AllByRecursion P xs → item_at xs k ≡ Some x → P x
