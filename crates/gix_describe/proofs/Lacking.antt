@@ -11,9 +11,8 @@ use Rattle.std.proofs.lemmas.Map.Keys.{IsDistinct-tail, IsDistinct-head}
 use Rattle.std.proofs.lemmas.Nat.Bits.{bit_at_or, bit_at-lt}
 use Rattle.gix_base.specs.declared.hash.ObjectId.{ObjectId}
 use Rattle.gix_revwalk.specs.History.{History, same_id, is_one_of}
-use Rattle.gix_revwalk.specs.Graph.{Graphed, held_at}
+use Rattle.gix_revwalk.specs.Graph.{Graphed, held_at, held_ids}
 use Rattle.gix_revwalk.specs.Noted.{noted_at, unnoted_lacks}
-use Rattle.gix_revwalk.specs.Numbers.{held_ids}
 use Rattle.gix_revwalk.proofs.Ids.{same_id-laws, same_id-true, same_id-itself}
 use Rattle.gix_describe.specs.declared.describe.key.Key.{Key}
 use Rattle.gix_describe.specs.declared.describe.met.Met.{Met}

@@ -1,11 +1,10 @@
 -- How calls leave their graph, one after another.
-use Rattle.std.proofs.Common.{ℕ, ap, ◌∙◌, Result, Ok, Err, refl}
+use Rattle.std.proofs.Common.{ℕ, Result, Ok, refl}
 use Rattle.gix_revwalk.specs.History.{History}
 use Rattle.gix_revwalk.specs.Graph.{Graphed}
-use Rattle.gix_revwalk.specs.Faults.{count_after}
 use Rattle.gix_revwalk.specs.declared.graph.commit.Commit.{Commit}
+use Rattle.gix_revwalk.proofs.GraphAfters.{graph_same, graph_as, graph_then}
 use Rattle.gix_merge_base.specs.AfterCall.{AfterCall}
-use Rattle.gix_merge_base.specs.Refusals.{is_source_fault}
 use Rattle.gix_merge_base.specs.declared.merge_base.flags.Flags.{Flags}
 use Rattle.gix_merge_base.specs.declared.merge_base.error.Error.{Error}
 
@@ -16,23 +15,13 @@ AfterCalls history faults before after = AfterCall {T = Unit {0}} history faults
 module _ {S A : Type 0} {history : S → History} {faults : S → ℕ} where
   -- where nothing is asked
   pub after_none : (g : Graphed S (Commit Flags A)) → AfterCalls history faults g g
-  after_none g = record { same_history = refl; cause = tt; count = refl; held = λ q there. there }
+  after_none g = record { graph = graph_same g g (Ok tt) refl refl (λ q there. there); cause = tt }
 
   -- a call after these
   pub after_more : {T : Type 0} (a b c : Graphed S (Commit Flags A)) (r : Result T Error)
       → AfterCalls history faults a b → AfterCall history faults b c r → AfterCall history faults a c r
-  after_more a b c r p q = record {
-    same_history = q.same_history ∙ p.same_history;
-    cause = q.cause;
-    count = q.count ∙ ap (count_after (is_source_fault r)) p.count;
-    held = λ i there. q.held i (p.held i there);
-  }
+  after_more a b c r p q = record { graph = graph_then a b c (Ok tt) r refl p.graph q.graph; cause = q.cause }
 
   -- what a call answered does not matter to those that follow
   pub after_ok : {T : Type 0} (a b : Graphed S (Commit Flags A)) (x : T) → AfterCall history faults a b (Ok x) → AfterCalls history faults a b
-  after_ok a b x p = record { same_history = p.same_history; cause = tt; count = p.count; held = p.held }
-
-  -- a refusal that is passed on
-  pub after_err : {T U : Type 0} (a b : Graphed S (Commit Flags A)) (e : Error) → AfterCall {T = T} history faults a b (Err e)
-      → AfterCall {T = U} history faults a b (Err e)
-  after_err a b e p = record { same_history = p.same_history; cause = p.cause; count = p.count; held = p.held }
+  after_ok a b x p = record { graph = graph_as a b (Ok x) (Ok tt) refl p.graph; cause = tt }

@@ -4,9 +4,9 @@ use Rattle.std.specs.Option.{unwrap_or}
 use Rattle.std.specs.List.{filter}
 use Rattle.gix_base.specs.declared.hash.ObjectId.{ObjectId}
 use Rattle.gix_revwalk.specs.History.{History, Has, entry_at, is_one_of}
-use Rattle.gix_revwalk.specs.Graph.{Graphed}
+use Rattle.gix_revwalk.specs.Graph.{Graphed, held_ids}
 use Rattle.gix_revwalk.specs.Number.{place_in}
-use Rattle.gix_revwalk.specs.Numbers.{number_at, held_ids, Grows}
+use Rattle.gix_revwalk.specs.Numbers.{number_at, Grows}
 use Rattle.gix_revwalk.specs.declared.numbers.Number.{Number}
 use Rattle.gix_revwalk.proofs.Members.{one_of-head, one_of-tail, one_of-cons_cases}
 use Rattle.gix_revwalk.proofs.Places.{number-within, place-item}

@@ -3,9 +3,9 @@ use Rattle.std.proofs.Common.{◌≡◌, ℕ, zero, suc, Bool, true, false, cond
 use Rattle.std.specs.List.{filter}
 use Rattle.gix_base.specs.declared.hash.ObjectId.{ObjectId}
 use Rattle.gix_revwalk.specs.History.{History, Has, entry_at, is_one_of, same_id}
-use Rattle.gix_revwalk.specs.Graph.{Graphed, held_len}
+use Rattle.gix_revwalk.specs.Graph.{Graphed, held_len, held_ids}
 use Rattle.gix_revwalk.specs.Number.{place_in}
-use Rattle.gix_revwalk.specs.Numbers.{held_ids, Grows}
+use Rattle.gix_revwalk.specs.Numbers.{Grows}
 use Rattle.gix_revwalk.specs.declared.numbers.Number.{Number}
 use Rattle.gix_revwalk.proofs.Ids.{same_id-true}
 use Rattle.gix_revwalk.proofs.Growth.{len-grown}

@@ -10,10 +10,10 @@ use Rattle.gix_base.specs.declared.hash.ObjectId.{ObjectId}
 use Rattle.gix_revwalk.specs.History.{History, same_id, is_one_of}
 use Rattle.gix_revwalk.proofs.Ids.{same_id-true}
 use Rattle.gix_revwalk.proofs.Members.{one_of-at}
-use Rattle.gix_revwalk.specs.Graph.{Graphed, held_len}
+use Rattle.gix_revwalk.specs.Graph.{Graphed, held_len, held_ids}
 use Rattle.gix_revwalk.specs.Data.{Marks, mark_at}
 use Rattle.gix_revwalk.specs.Number.{place_in}
-use Rattle.gix_revwalk.specs.Numbers.{item_at, named, held_ids}
+use Rattle.gix_revwalk.specs.Numbers.{item_at, named}
 use Rattle.gix_revwalk.specs.declared.graph.commit.Commit.{Commit}
 use Rattle.gix_revwalk.specs.declared.numbers.Mark.{Mark}
 use Rattle.gix_revwalk.specs.declared.numbers.Number.{Number}

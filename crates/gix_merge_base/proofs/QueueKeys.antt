@@ -5,10 +5,10 @@ use Rattle.std.specs.List.{AllByRecursion}
 use Rattle.std.specs.List.Sorted.{IsPermutation}
 use Rattle.gix_base.specs.declared.hash.ObjectId.{ObjectId}
 use Rattle.gix_revwalk.specs.History.{History, Has, is_one_of, entry_at, parents_in}
-use Rattle.gix_revwalk.specs.Graph.{Graphed, held_len, held_at}
+use Rattle.gix_revwalk.specs.Graph.{Graphed, held_len, held_at, held_ids, KeepsHeld}
 use Rattle.gix_revwalk.specs.Number.{place_in}
-use Rattle.gix_revwalk.specs.Numbers.{item_at, held_ids, number_at, place_of, Grows, HoldsMore}
-use Rattle.gix_revwalk.specs.Walks.{KeepsHeld}
+use Rattle.gix_revwalk.specs.Numbers.{item_at, number_at, place_of, Grows}
+use Rattle.gix_revwalk.specs.Walks.{HoldsMore}
 use Rattle.gix_revwalk.specs.declared.numbers.Number.{Number}
 use Rattle.gix_revwalk.proofs.Places.{lookup-has, number-within, place-item}
 use Rattle.gix_revwalk.proofs.Growth.{named-there, named-grown, number-grown}

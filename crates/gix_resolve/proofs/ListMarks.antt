@@ -2,10 +2,10 @@
 use Rattle.std.proofs.Common.{◌≡◌, ℕ, true, false, cond, refl, ap, sym, subst, ◌∙◌, List, [], ◌∷◌, ◌++◌, ◌||◌, ◌<◌, length, get_or, is_some, Option, Some, IsTrue, Bool, arith}
 use Rattle.gix_base.specs.declared.hash.ObjectId.{ObjectId}
 use Rattle.gix_revwalk.specs.History.{is_one_of, same_id}
-use Rattle.gix_revwalk.specs.Graph.{Graphed, held_len}
+use Rattle.gix_revwalk.specs.Graph.{Graphed, held_len, held_ids}
 use Rattle.gix_revwalk.specs.Data.{Marks, mark_at}
 use Rattle.gix_revwalk.specs.Number.{place_in}
-use Rattle.gix_revwalk.specs.Numbers.{held_ids, Grows}
+use Rattle.gix_revwalk.specs.Numbers.{Grows}
 use Rattle.gix_revwalk.specs.declared.graph.commit.Commit.{Commit}
 use Rattle.gix_revwalk.specs.declared.numbers.Mark.{Mark}
 use Rattle.gix_revwalk.specs.declared.numbers.Number.{Number}

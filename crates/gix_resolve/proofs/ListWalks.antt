@@ -9,10 +9,10 @@ use Rattle.gix_revwalk.specs.History.IsAncestor.{itself, further}
 use Rattle.gix_revwalk.specs.Sizes.{Lists}
 use Rattle.gix_revwalk.specs.Walks.{added, all_added, visited, all_visited}
 use Rattle.std.proofs.lemmas.List.{length-map, take_all, length-drop, drop-map}
-use Rattle.gix_revwalk.specs.Graph.{Graphed}
+use Rattle.gix_revwalk.specs.Graph.{Graphed, held_ids}
 use Rattle.gix_revwalk.specs.Number.{place_in}
 use Rattle.std.specs.Option.{unwrap_or}
-use Rattle.gix_revwalk.specs.Numbers.{held_ids, named}
+use Rattle.gix_revwalk.specs.Numbers.{named}
 use Rattle.gix_revwalk.specs.declared.numbers.Number.{Number}
 use Rattle.gix_merge_base.specs.PaintQueue.{id_at, ids_at}
 use Rattle.gix_merge_base.proofs.Numbered.{id-of-item}

@@ -70,8 +70,7 @@ pub use Rattle.gix_revwalk.specs.Queue
 pub use Rattle.gix_revwalk.specs.Sizes
 pub use Rattle.gix_revwalk.specs.Calls
 pub use Rattle.gix_revwalk.specs.GraphAfter
-pub use Rattle.gix_revwalk.specs.Numbers.{held_ids}
-pub use Rattle.gix_revwalk.specs.Walks.{KeepsHeld, added, all_added}
+pub use Rattle.gix_revwalk.specs.Walks.{added, all_added}
 pub use Rattle.gix_merge_base.specs.Bases
 pub use Rattle.gix_merge_base.specs.Octopus
 pub use Rattle.gix_merge_base.specs.Keys

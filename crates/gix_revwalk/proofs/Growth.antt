@@ -10,10 +10,11 @@ use Rattle.gix_revwalk.specs.declared.graph.Row.{Row}
 use Rattle.gix_revwalk.specs.declared.numbers.Number.{Number}
 use Rattle.gix_revwalk.specs.declared.graph.commit.Commit.{Commit}
 use Rattle.gix_revwalk.specs.History.{History, Has, entry_at, same_id, is_one_of}
-use Rattle.gix_revwalk.specs.Graph.{Graphed, held_at, held_len}
+use Rattle.gix_revwalk.specs.Graph.{Graphed, held_at, held_len, held_ids}
 use Rattle.gix_revwalk.specs.Data.{data_at, mark_at, mark_with, TakesIn}
 use Rattle.gix_revwalk.specs.Number.{place_in}
-use Rattle.gix_revwalk.specs.Numbers.{place_of, item_at, number_at, named, held_ids, Grows, HoldsMore}
+use Rattle.gix_revwalk.specs.Numbers.{place_of, item_at, number_at, named, Grows}
+use Rattle.gix_revwalk.specs.Walks.{HoldsMore}
 use Rattle.gix_revwalk.specs.Rows.{AreNumbers}
 use Rattle.gix_revwalk.specs.Nodes.{pair_of, mark_of, node_ids, known_parents, IsRow, AreNodes}
 use Rattle.gix_revwalk.proofs.Ids.{same_id-true}

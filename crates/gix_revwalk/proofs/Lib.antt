@@ -15,3 +15,4 @@ pub mod Ancestors
 pub mod Walk
 pub mod WalkFrom
 pub mod Calls
+pub mod GraphAfters

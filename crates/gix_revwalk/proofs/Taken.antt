@@ -8,9 +8,9 @@ use Rattle.gix_revwalk.specs.declared.graph.Node.{Node}
 use Rattle.gix_revwalk.specs.declared.numbers.Number.{Number}
 use Rattle.gix_revwalk.specs.declared.graph.commit.Commit.{Commit}
 use Rattle.gix_revwalk.specs.History.{History, entry_at, same_id}
-use Rattle.gix_revwalk.specs.Graph.{Graphed, held_at, held_len}
+use Rattle.gix_revwalk.specs.Graph.{Graphed, held_at, held_len, held_ids}
 use Rattle.gix_revwalk.specs.Data.{data_at, TakesIn, len_after}
-use Rattle.gix_revwalk.specs.Numbers.{place_of, number_at, held_ids, Grows}
+use Rattle.gix_revwalk.specs.Numbers.{place_of, number_at, Grows}
 use Rattle.gix_revwalk.specs.Nodes.{pair_of, AreNodes}
 use Rattle.gix_revwalk.proofs.Ids.{same_id-true, same_id-itself}
 use Rattle.gix_revwalk.proofs.Kept.{Agree, has_held, data_taken}

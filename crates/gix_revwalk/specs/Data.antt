@@ -3,8 +3,8 @@ use Rattle.std.specs.Prelude.{◌≡◌, ℕ, ◌+◌, Option, Some, None, is_so
 use Rattle.std.specs.Option.{option_map, unwrap_or}
 use Rattle.std.specs.Map.{lookup}
 use Rattle.gix_revwalk.specs.History.{History, entry_at, same_id}
-use Rattle.gix_revwalk.specs.Graph.{Graphed, held_at, held_len}
-use Rattle.gix_revwalk.specs.Numbers.{held_ids, named}
+use Rattle.gix_revwalk.specs.Graph.{Graphed, held_at, held_len, held_ids}
+use Rattle.gix_revwalk.specs.Numbers.{named}
 use Rattle.gix_base.specs.declared.hash.ObjectId.{ObjectId}
 use Rattle.gix_revwalk.specs.declared.graph.commit.Commit.{Commit}
 use Rattle.gix_revwalk.specs.declared.numbers.Mark.{Mark}

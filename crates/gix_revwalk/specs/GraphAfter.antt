@@ -1,8 +1,7 @@
 -- How a call leaves its graph.
 use Rattle.std.specs.Prelude.{◌≡◌, ℕ, Bool}
 use Rattle.gix_revwalk.specs.History.{History}
-use Rattle.gix_revwalk.specs.Graph.{Graphed}
-use Rattle.gix_revwalk.specs.Walks.{KeepsHeld}
+use Rattle.gix_revwalk.specs.Graph.{Graphed, KeepsHeld}
 use Rattle.gix_revwalk.specs.Faults.{count_after}
 
 -- `is_fault` says of an answer whether it is a refusal since the source failed

@@ -7,8 +7,7 @@ ghost use Rattle.gix_base.specs.declared.hash.ObjectId.{ObjectId};
 ghost use Rattle.gix_revwalk.specs.Faults.{count_after, is_source_fault};
 ghost use Rattle.gix_revwalk.specs.Held.{entry_of};
 ghost use Rattle.gix_revwalk.specs.History.{entry_at, same_id};
-ghost use Rattle.gix_revwalk.specs.Graph.{held_at, held_len};
-ghost use Rattle.gix_revwalk.specs.Numbers.{held_ids};
+ghost use Rattle.gix_revwalk.specs.Graph.{held_at, held_len, held_ids};
 
 mod commit;
 mod find;

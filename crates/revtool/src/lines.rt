@@ -65,12 +65,23 @@ pub(crate) fn read_line<'t, A: Allocator + Copy>(
             let (id, name) = read_name(fields)?;
             Ok(Line::Ref(id, name))
         }
-        b"base" => Ok(Line::Command(Command::Base(read_heads(alloc, fields)?))),
-        b"octopus" => Ok(Line::Command(Command::Octopus(read_heads(alloc, fields)?))),
-        b"describe" => Ok(Line::Command(Command::Describe(read_only_id(fields)?))),
-        b"parse" => Ok(Line::Command(Command::Parse(fields.rest().unwrap_or(&[])))),
-        b"spec" => Ok(Line::Command(Command::Spec(fields.rest().unwrap_or(&[])))),
-        b"list" => Ok(Line::Command(Command::List(fields.rest().unwrap_or(&[])))),
+        word => Ok(Line::Command(read_command(alloc, word, fields)?)),
+    }
+}
+
+// The command of this word, with the fields behind it.
+fn read_command<'t, A: Allocator + Copy>(
+    alloc: A,
+    word: &[u8],
+    fields: Fields<'t>,
+) -> Result<Command<'t, A>, LineFault> {
+    match word {
+        b"base" => Ok(Command::Base(read_heads(alloc, fields)?)),
+        b"octopus" => Ok(Command::Octopus(read_heads(alloc, fields)?)),
+        b"describe" => Ok(Command::Describe(read_only_id(fields)?)),
+        b"parse" => Ok(Command::Parse(fields.rest().unwrap_or(&[]))),
+        b"spec" => Ok(Command::Spec(fields.rest().unwrap_or(&[]))),
+        b"list" => Ok(Command::List(fields.rest().unwrap_or(&[]))),
         _ => Err(LineFault::Unreadable),
     }
 }

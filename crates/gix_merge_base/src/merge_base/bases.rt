@@ -6,7 +6,7 @@ ghost use Rattle.gix_base.specs.declared.hash.ObjectId.{ObjectId};
 ghost use Rattle.gix_revwalk.specs.History.{Has, IsAcyclic, GenerationsNeverRise, same_id, is_one_of};
 ghost use Rattle.gix_revwalk.specs.Faults.{count_after};
 ghost use Rattle.gix_revwalk.specs.Sizes.{AtMost, HasSize};
-ghost use Rattle.gix_revwalk.specs.Walks.{KeepsHeld};
+ghost use Rattle.gix_revwalk.specs.Graph.{KeepsHeld};
 ghost use Rattle.gix_merge_base.specs.AfterCall.{AfterCall};
 ghost use Rattle.gix_merge_base.specs.Bases.{IsCommon, IsMaximal, IsBase, AreBases, CoverBases, ids_of, is_trivial};
 ghost use Rattle.gix_merge_base.specs.Keys.{KeysFall, IsInOrder};

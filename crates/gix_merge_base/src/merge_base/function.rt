@@ -10,7 +10,7 @@ ghost use Rattle.gix_merge_base.specs.Painting.{MayBeTaken};
 ghost use Rattle.gix_merge_base.specs.PaintQueue.{IsHeld};
 ghost use Rattle.gix_merge_base.specs.Refusals.{HasInsertText, is_source_fault};
 ghost use Rattle.gix_revwalk.specs.Faults.{count_after};
-ghost use Rattle.gix_revwalk.specs.Walks.{KeepsHeld};
+ghost use Rattle.gix_revwalk.specs.Graph.{KeepsHeld};
 
 use crate::merge_base::bases::counted;
 use crate::merge_base::error::Error;

@@ -1,10 +1,9 @@
 //! The taking in of a commit from the source.
 
 ghost use Rattle.std.specs.Prelude.{◌≡◌, IfOk, is_some};
-ghost use Rattle.gix_revwalk.specs.Graph.{held_at};
+ghost use Rattle.gix_revwalk.specs.Graph.{held_at, KeepsHeld};
 ghost use Rattle.gix_revwalk.specs.History.{entry_at};
 ghost use Rattle.gix_revwalk.specs.Faults.{count_after, is_source_fault};
-ghost use Rattle.gix_revwalk.specs.Walks.{KeepsHeld};
 
 use crate::merge_base::flags::Flags;
 use bitflags::Flags as BitFlags;

@@ -4,14 +4,13 @@ ghost use Rattle.std.specs.Prelude.{◌≡◌, ◌<◌, ◌≤◌, ◌-◌, ◌^
 ghost use Rattle.std.specs.List.Sorted.{IsPermutation};
 ghost use Rattle.gix_base.specs.declared.hash.ObjectId.{ObjectId};
 ghost use Rattle.gix_revwalk.specs.declared.numbers.Number.{Number};
-ghost use Rattle.gix_revwalk.specs.Graph.{held_len};
+ghost use Rattle.gix_revwalk.specs.Graph.{held_len, held_ids, KeepsHeld};
 ghost use Rattle.gix_revwalk.specs.Number.{place_in};
-ghost use Rattle.gix_revwalk.specs.Numbers.{held_ids, HoldsMore};
 ghost use Rattle.gix_revwalk.specs.History.{Has, same_id, is_one_of, entry_at, parents_in};
 ghost use Rattle.gix_merge_base.specs.PaintSteps.{Hands, Notes, Steps, results_after};
 ghost use Rattle.gix_merge_base.specs.Marks.{marks_of, joined, handed_on};
 ghost use Rattle.gix_revwalk.specs.Faults.{count_after, is_source_fault};
-ghost use Rattle.gix_revwalk.specs.Walks.{KeepsHeld};
+ghost use Rattle.gix_revwalk.specs.Walks.{HoldsMore};
 ghost use Rattle.gix_merge_base.specs.Keys.{KeyAtMost};
 ghost use Rattle.gix_merge_base.specs.Counting.{Counts, open_then, unstale};
 ghost use Rattle.gix_merge_base.specs.PaintQueue.{marks_at, queued_at, queued_ids, id_at, ids_at, AreIn, AreHeld, Keyed, mark_or};

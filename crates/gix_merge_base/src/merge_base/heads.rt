@@ -4,7 +4,8 @@ ghost use Rattle.std.specs.Prelude.{◌≡◌, Some, IfOk, OnOk, Ok, IfErr, IsTr
 ghost use Rattle.std.specs.List.{list_all};
 ghost use Rattle.gix_revwalk.specs.History.{same_id, IsAcyclic, GenerationsNeverRise};
 ghost use Rattle.gix_revwalk.specs.Faults.{count_after};
-ghost use Rattle.gix_revwalk.specs.Walks.{KeepsHeld, all_added};
+ghost use Rattle.gix_revwalk.specs.Walks.{all_added};
+ghost use Rattle.gix_revwalk.specs.Graph.{KeepsHeld};
 ghost use Rattle.gix_merge_base.specs.Bases.{ids_of};
 ghost use Rattle.gix_merge_base.specs.Octopus.{IsOctopusBase, IsCommonToAll};
 ghost use Rattle.gix_merge_base.specs.OctopusSteps.{AddsBases, CoversEach, IsStep};

@@ -3,10 +3,10 @@
 ghost use Rattle.std.specs.Prelude.{◌≡◌, ◌<◌, ◌++◌, ◌∷◌, [], is_some, ◌↔◌, IsTrue, OnOk, IfOk, IfErr};
 ghost use Rattle.std.specs.List.{filter};
 ghost use Rattle.gix_base.specs.declared.hash.ObjectId.{ObjectId};
-ghost use Rattle.gix_revwalk.specs.Graph.{held_len};
+ghost use Rattle.gix_revwalk.specs.Graph.{held_len, KeepsHeld};
 ghost use Rattle.gix_revwalk.specs.Number.{place_in};
 ghost use Rattle.gix_revwalk.specs.History.{IsAcyclic, is_one_of, entry_at, GenerationsNeverRise};
-ghost use Rattle.gix_revwalk.specs.Walks.{parents_of_all, KeepsHeld};
+ghost use Rattle.gix_revwalk.specs.Walks.{parents_of_all};
 ghost use Rattle.gix_revwalk.specs.Faults.{count_after};
 ghost use Rattle.gix_merge_base.specs.AfterCall.{AfterCall};
 ghost use Rattle.gix_merge_base.specs.Marks.{met};

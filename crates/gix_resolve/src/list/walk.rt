@@ -6,11 +6,10 @@
 
 ghost use Rattle.std.specs.Prelude.{◌≡◌, ◌<◌, ◌∷◌, [], OnOk, IfOk};
 ghost use Rattle.gix_revwalk.specs.Faults.{is_source_fault};
-ghost use Rattle.gix_revwalk.specs.Graph.{held_len};
+ghost use Rattle.gix_revwalk.specs.Graph.{held_len, held_ids};
 ghost use Rattle.gix_revwalk.specs.GraphAfter.{GraphAfter};
 ghost use Rattle.gix_revwalk.specs.History.{entry_at, parents_in, IsAncestorOfOne};
 ghost use Rattle.gix_revwalk.specs.Number.{place_in};
-ghost use Rattle.gix_revwalk.specs.Numbers.{held_ids};
 ghost use Rattle.gix_revwalk.specs.Sizes.{Lists};
 ghost use Rattle.gix_revwalk.specs.Walks.{added, all_added, visited, all_visited};
 ghost use Rattle.gix_merge_base.specs.PaintQueue.{id_at, ids_at, AreIn};

@@ -21,24 +21,28 @@ pub(super) fn answer_parse<W: Write, A: Allocator + Copy>(
     output: &mut W,
 ) -> io::Result<Outcome> {
     let mut recorder = Recorder::new(alloc, refusals);
-    let parsed = parse(alloc, text, NOW, &mut recorder);
+    let refusal = match parse(alloc, text, NOW, &mut recorder) {
+        Ok(()) => None,
+        Err(error) => Some(number_of(error)),
+    };
+    print_parsed(recorder.calls(), refusal, output)
+}
+
+// The calls, and the number of the refusal that they ended in.
+fn print_parsed<W: Write>(
+    calls: &[u8],
+    refusal: Option<u8>,
+    output: &mut W,
+) -> io::Result<Outcome> {
     output.write_all(b"parse ")?;
-    output.write_all(recorder.calls())?;
-    match parsed {
-        Ok(()) => {
-            output.write_all(b"\n")?;
-            Ok(Outcome::Answered)
-        }
-        Err(error) => {
-            let between = if recorder.calls().is_empty() {
-                ""
-            } else {
-                "; "
-            };
-            writeln!(output, "{between}refused P{}", number_of(error))?;
-            Ok(Outcome::Refused)
-        }
-    }
+    output.write_all(calls)?;
+    let Some(number) = refusal else {
+        output.write_all(b"\n")?;
+        return Ok(Outcome::Answered);
+    };
+    let between = if calls.is_empty() { "" } else { "; " };
+    writeln!(output, "{between}refused P{number}")?;
+    Ok(Outcome::Refused)
 }
 
 /// The number of a refusal, 0 for want of memory.

@@ -23,10 +23,7 @@ pub(super) fn answer_spec<W: Write, A: Allocator + Copy>(
             writeln!(output, "spec {spec}")?;
             Ok(Outcome::Answered)
         }
-        Err(error) => {
-            writeln!(output, "spec refused P{}", number_of(error))?;
-            Ok(Outcome::Refused)
-        }
+        Err(error) => print_unread("spec", number_of(error), output),
     }
 }
 
@@ -41,15 +38,18 @@ pub(super) fn answer_list<W: Write, A: Allocator + Copy>(
 ) -> io::Result<Outcome> {
     let spec = match resolve(alloc, refusals, text, NOW, table, graph) {
         Ok(spec) => spec,
-        Err(error) => {
-            writeln!(output, "list refused P{}", number_of(error))?;
-            return Ok(Outcome::Refused);
-        }
+        Err(error) => return print_unread("list", number_of(error), output),
     };
     match commits(alloc, &spec, graph) {
         Ok(ids) => print_list(&ids, output),
         Err(error) => print_refusal(error, output),
     }
+}
+
+// The number of the refusal of a text.
+fn print_unread<W: Write>(word: &str, number: u8, output: &mut W) -> io::Result<Outcome> {
+    writeln!(output, "{word} refused P{number}")?;
+    Ok(Outcome::Refused)
 }
 
 fn print_list<W: Write>(ids: &[ObjectId], output: &mut W) -> io::Result<Outcome> {
@@ -63,7 +63,7 @@ fn print_list<W: Write>(ids: &[ObjectId], output: &mut W) -> io::Result<Outcome>
     Ok(Outcome::Answered)
 }
 
-// The number of the refusal.
+// The number of the refusal of a list.
 fn print_refusal<W: Write>(error: ListError, output: &mut W) -> io::Result<Outcome> {
     let number = match error {
         ListError::Source => 1,

@@ -2,7 +2,8 @@ use Rattle.std.proofs.Common.{◌≡◌, Some, take}
 use Rattle.gix_base.specs.declared.hash.ObjectId.{ObjectId}
 use Rattle.gix_revwalk.specs.History.{entry_at, parents_in}
 use Rattle.gix_revwalk.specs.Number.{place_in}
-use Rattle.gix_revwalk.specs.Numbers.{named, Grows, HoldsMore}
+use Rattle.gix_revwalk.specs.Numbers.{named, Grows}
+use Rattle.gix_revwalk.specs.Walks.{HoldsMore}
 use Rattle.gix_revwalk.specs.Rows.{AreNumbers}
 use Rattle.gix_revwalk.proofs.numbers.take_parents.Given as goal
 

@@ -31,6 +31,15 @@ pub(crate) fn fault<'a>(fault: Fault, input: Option<&'a [u8]>, error: &mut Error
     Stopped
 }
 
+// Keeps that memory was wanting.
+#[cold]
+fn without_memory(error: &mut Error<'_>) -> Stopped
+    ensures { error.new ≡ Error.OutOfMemory }
+{
+    *error = Error::OutOfMemory;
+    Stopped
+}
+
 // Keeps what the refusal of a call that has to be accepted is to the parse.
 #[cold]
 fn refused<'a>(
@@ -42,14 +51,27 @@ fn refused<'a>(
     ensures { TellsOf refusal fault (slice_of input.entry) error.new }
 {
     if refusal.out_of_memory {
-        *error = Error::OutOfMemory;
-        return Stopped;
+        return without_memory(error);
     }
     *error = Error::Refused {
         fault,
         input,
         first: Some(refusal),
         second: None,
+    };
+    Stopped
+}
+
+// Keeps what the refusals of both attempts at a name are to the parse.
+#[cold]
+fn refused_twice<'a>(first: Exn, second: Exn, whole: &'a [u8], error: &mut Error<'a>) -> Stopped
+    ensures { error.new ≡ Error.Refused Fault.NameRefused (Some whole.entry) (Some first) (Some second) }
+{
+    *error = Error::Refused {
+        fault: Fault::NameRefused,
+        input: Some(whole),
+        first: Some(first),
+        second: Some(second),
     };
     Stopped
 }
@@ -123,8 +145,7 @@ fn call_prefix<'a, D: Delegate>(
         return Ok(());
     };
     if first.out_of_memory {
-        context.error = Error::OutOfMemory;
-        return Err(Stopped);
+        return Err(without_memory(&mut context.error));
     }
     let Err(second) = delegate.find_ref(text) else {
         context.anchor = Some(Anchor::Reference(text));
@@ -132,16 +153,9 @@ fn call_prefix<'a, D: Delegate>(
         return Ok(());
     };
     if second.out_of_memory {
-        context.error = Error::OutOfMemory;
-        return Err(Stopped);
+        return Err(without_memory(&mut context.error));
     }
-    context.error = Error::Refused {
-        fault: Fault::NameRefused,
-        input: Some(whole),
-        first: Some(first),
-        second: Some(second),
-    };
-    Err(Stopped)
+    Err(refused_twice(first, second, whole, &mut context.error))
 }
 
 /// A regex, as it is written and as it is looked for.

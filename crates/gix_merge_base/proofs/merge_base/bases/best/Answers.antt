@@ -74,10 +74,12 @@ returns-in_err-ordered-clause-taken g c acyclic falls alike =
 
 pub returns-clause-after : goal.returns-clause-after
 returns-clause-after g c = record {
-  same_history = c.in_ok-ordered.ensures.after.same_history ∙ c.in_ok-left.ensures.history ∙ c.in_ok-painted.ensures.history;
+  graph = record {
+    same_history = c.in_ok-ordered.ensures.after.graph.same_history ∙ c.in_ok-left.ensures.history ∙ c.in_ok-painted.ensures.history;
+    count = c.in_ok-ordered.ensures.after.graph.count ∙ c.in_ok-left.ensures.count ∙ c.in_ok-painted.ensures.count;
+    held = λ q k. c.in_order.ensures.after.graph.held q (c.reduce.ensures.held q (c.paint.ensures.held q k));
+  };
   cause = tt;
-  count = c.in_ok-ordered.ensures.after.count ∙ c.in_ok-left.ensures.count ∙ c.in_ok-painted.ensures.count;
-  held = λ q k. c.in_order.ensures.after.held q (c.reduce.ensures.held q (c.paint.ensures.held q k));
 }
 
 pub returns-then-len-le1-clause-most : goal.returns-then-len-le1-clause-most

@@ -1,6 +1,6 @@
 use Rattle.std.proofs.Common.{◌≡◌, take, IsTrue}
 use Rattle.gix_base.specs.declared.hash.ObjectId.{ObjectId}
-use Rattle.gix_revwalk.specs.Numbers.{held_ids}
+use Rattle.gix_revwalk.specs.Graph.{held_ids}
 use Rattle.gix_revwalk.specs.History.{Has, is_one_of}
 use Rattle.gix_merge_base.specs.Marks.{marks_of}
 use Rattle.gix_merge_base.specs.PaintSteps.{Hands}

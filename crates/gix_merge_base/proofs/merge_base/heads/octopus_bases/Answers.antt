@@ -13,7 +13,7 @@ pub loop-other-preserved : goal.loop-other-preserved
 loop-other-preserved g c =
     let test : c.loop-other.other-index < length c.args.others.now = omega arith in
     let next = c.in_ok-left-2.ensures in
-    let step = rw (c.loop-other.invariant.after.same_history, c.deref.ensures.value) at next.step in
+    let step = rw (c.loop-other.invariant.after.graph.same_history, c.deref.ensures.value) at next.step in
     record {
       stand = λ acyclic. stand_next _ _ _ _ _ _ _ test (c.loop-other.invariant.stand acyclic) (step acyclic);
       after = after_more _ _ _ _ c.loop-other.invariant.after (after_ok _ _ _ next.after);

@@ -1,5 +1,5 @@
 use Rattle.std.proofs.Common.{◌≡◌, ◌+◌, ◌*◌, ◌-◌, length}
-use Rattle.gix_revwalk.specs.Walks.{KeepsHeld}
+use Rattle.gix_revwalk.specs.Graph.{KeepsHeld}
 use Rattle.gix_merge_base.specs.Counting.{Counts}
 use Rattle.gix_merge_base.specs.PaintQueue.{marks_at, queued_at, queued_ids, AreHeld, Keyed, IsHeld}
 use Rattle.gix_merge_base.proofs.PaintWalk.{Walk}

@@ -2,7 +2,7 @@ use Rattle.std.proofs.Common.{◌≡◌, ◌⊎◌, take}
 use Rattle.gix_base.specs.declared.hash.ObjectId.{ObjectId}
 use Rattle.gix_merge_base.specs.PaintSteps.{Begun}
 use Rattle.gix_merge_base.specs.Painting.{IsHandedIn}
-use Rattle.gix_revwalk.specs.Walks.{KeepsHeld}
+use Rattle.gix_revwalk.specs.Graph.{KeepsHeld}
 use Rattle.gix_merge_base.specs.Counting.{Counts}
 use Rattle.gix_merge_base.specs.PaintQueue.{marks_at, queued_at, queued_ids, AreHeld, Keyed, IsHeld}
 use Rattle.gix_merge_base.proofs.merge_base.painting.start.Given as goal

@@ -14,10 +14,12 @@ returns-in-Ok g c =
       };
       unchanged = λ p. (trivial p).1;
       after = record {
-        same_history = c.merge_base.ensures.history;
+        graph = record {
+          same_history = c.merge_base.ensures.history;
+          count = says.count;
+          held = c.merge_base.ensures.held;
+        };
         cause = tt;
-        count = says.count;
-        held = c.merge_base.ensures.held;
       };
     }
 
@@ -33,9 +35,11 @@ returns-in-Ok-octopus g c =
       };
       unchanged = λ p. (trivial p).1;
       after = record {
-        same_history = c.octopus.ensures.history;
+        graph = record {
+          same_history = c.octopus.ensures.history;
+          count = says.count;
+          held = c.octopus.ensures.held;
+        };
         cause = tt;
-        count = says.count;
-        held = c.octopus.ensures.held;
       };
     }

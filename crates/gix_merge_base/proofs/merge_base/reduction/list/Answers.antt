@@ -18,10 +18,12 @@ loop-id-init g c =
       ids = ap (ids_at mid) c.new-numbers.ensures.items;
       unmarked = λ q. (ap (λ (z : MarkSet). z.one) (none q), ap (λ (z : MarkSet). z.two) (none q), ap (λ (z : MarkSet). z.stale) (none q));
       after = record {
-        same_history = ap g.S.Find.history c.begin_walk.ensures.source;
+        graph = record {
+          same_history = ap g.S.Find.history c.begin_walk.ensures.source;
+          count = ap g.S.Find.fault_count c.begin_walk.ensures.source;
+          held = kept-held c.args.graph.now mid c.begin_walk.ensures.held;
+        };
         cause = tt;
-        count = ap g.S.Find.fault_count c.begin_walk.ensures.source;
-        held = kept-held c.args.graph.now mid c.begin_walk.ensures.held;
       };
     }
 
@@ -29,7 +31,7 @@ pub loop-id-preserved : goal.loop-id-preserved
 loop-id-preserved g c =
     let h = g.S.Find.history c.args.graph.now.source in
     let below : c.loop-id.id-index < length c.args.ids.now = omega arith in
-    let one = rw c.loop-id.invariant.after.same_history at c.in_ok-list_one.ensures.listed in
+    let one = rw c.loop-id.invariant.after.graph.same_history at c.in_ok-list_one.ensures.listed in
     let listed = one c.loop-id.invariant.inside in
     record {
       inside = listed.0;

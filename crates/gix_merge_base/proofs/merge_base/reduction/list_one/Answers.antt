@@ -62,13 +62,15 @@ pub returns-clause-after : goal.returns-clause-after
 returns-clause-after g c =
     let taken = rw c.in-Ok-Some.field-0-is at c.in-Ok-Some.ensures in
     record {
-      same_history = ap g.S.Find.history c.set_mark.ensures.source ∙ taken.history;
+      graph = record {
+        same_history = ap g.S.Find.history c.set_mark.ensures.source ∙ taken.history;
+        count = ap g.S.Find.fault_count c.set_mark.ensures.source ∙ taken.count;
+        held = λ q k. kept-same c.take.new.graph c.set_mark.new.graph c.set_mark.ensures.ids q (kept-grown c.args.graph.now c.take.new.graph taken.grows q k);
+      };
       cause = tt;
-      count = ap g.S.Find.fault_count c.set_mark.ensures.source ∙ taken.count;
-      held = λ q k. kept-same c.take.new.graph c.set_mark.new.graph c.set_mark.ensures.ids q (kept-grown c.args.graph.now c.take.new.graph taken.grows q k);
     }
 
 pub returns-in-Ok-None-clause-after : goal.returns-in-Ok-None-clause-after
 returns-in-Ok-None-clause-after g c =
     let taken = rw c.in-Ok-None.field-0-is at c.in-Ok-None.ensures in
-    record { same_history = taken.history; cause = tt; count = taken.count; held = kept-grown c.args.graph.now c.take.new.graph taken.grows }
+    record { graph = record { same_history = taken.history; count = taken.count; held = kept-grown c.args.graph.now c.take.new.graph taken.grows }; cause = tt }

@@ -40,7 +40,7 @@ loop-key-smaller-then-key-left g c =
 pub loop-key-preserved-then-key-left : goal.loop-key-preserved-then-key-left
 loop-key-preserved-then-key-left g c =
     let h = g.S.Find.history c.args.graph.now.source in
-    let same = c.loop-key.invariant.after.same_history in
+    let same = c.loop-key.invariant.after.graph.same_history in
     let graph = c.loop-key.graph in
     let ids = ids_at c.args.graph.now c.args.numbers.now in
     let m = marks_at graph in
@@ -67,7 +67,7 @@ loop-key-preserved-then-key-left g c =
 pub loop-key-preserved : goal.loop-key-preserved
 loop-key-preserved g c =
     let h = g.S.Find.history c.args.graph.now.source in
-    let same = c.loop-key.invariant.after.same_history in
+    let same = c.loop-key.invariant.after.graph.same_history in
     let graph = c.loop-key.graph in
     let ids = ids_at c.args.graph.now c.args.numbers.now in
     let m = marks_at graph in
@@ -90,13 +90,13 @@ loop-key-preserved g c =
       valid = c.in_default-hand_parents.ensures.valid;
       keyed = keyed (keyed-popped h graph graph refl c.in-Some.key c.in-Some.number c.loop-key.queue rs c.in-Some.ensures.taken c.loop-key.invariant.keyed);
       after = after_more _ _ _ _ c.loop-key.invariant.after
-          record { same_history = c.in_default-hand_parents.ensures.history; cause = tt; count = c.in_default-hand_parents.ensures.count; held = c.in_default-hand_parents.ensures.kept };
+          record { graph = record { same_history = c.in_default-hand_parents.ensures.history; count = c.in_default-hand_parents.ensures.count; held = c.in_default-hand_parents.ensures.kept }; cause = tt };
     }
 
 pub loop-key-smaller : goal.loop-key-smaller
 loop-key-smaller g c =
     let h = g.S.Find.history c.args.graph.now.source in
-    let same = c.loop-key.invariant.after.same_history in
+    let same = c.loop-key.invariant.after.graph.same_history in
     let graph = c.loop-key.graph in
     let ids = ids_at c.args.graph.now c.args.numbers.now in
     let m = marks_at graph in
@@ -115,8 +115,10 @@ pub returns-in-Err-clause-after : goal.returns-in-Err-clause-after
 returns-in-Err-clause-after g c =
     let count = λ (fault : Bool). count_after fault (g.S.Find.fault_count c.loop-key.graph.source) in
     after_more _ _ _ _ c.loop-key.invariant.after record {
-      same_history = c.hand_parents.ensures.history;
+      graph = record {
+        same_history = c.hand_parents.ensures.history;
+        count = c.in-Err.ensures.count ∙ ap count (sym c.parent_refused.ensures.same);
+        held = c.hand_parents.ensures.kept;
+      };
       cause = c.parent_refused.ensures.cause;
-      count = c.in-Err.ensures.count ∙ ap count (sym c.parent_refused.ensures.same);
-      held = c.hand_parents.ensures.kept;
     }

@@ -37,8 +37,8 @@ loop-number-preserved g c =
     let below : c.loop-number.number-index < length ns = omega arith in
     let m = marks_at c.loop-number.graph in
     let q = queued_ids c.loop-number.graph c.loop-number.queue in
-    let handed = rw c.loop-number.invariant.after.same_history at c.in_default.ensures.handed in
-    let keyed = rw c.loop-number.invariant.after.same_history at c.in_default.ensures.keyed in
+    let handed = rw c.loop-number.invariant.after.graph.same_history at c.in_default.ensures.handed in
+    let keyed = rw c.loop-number.invariant.after.graph.same_history at c.in_default.ensures.keyed in
     let listed = c.in_default.ensures.listed c.args.numbers.now c.loop-number.invariant.inside in
     record {
       handed = meets-next h ns c.loop-number.number-index _ (marks_at c.args.graph.now) m (marks_at c.hand_parents.new.graph) [] q (queued_ids c.hand_parents.new.graph c.hand_parents.new.queue) below
@@ -49,17 +49,19 @@ loop-number-preserved g c =
       ids = listed.1 ∙ c.loop-number.invariant.ids;
       valid = c.in_default.ensures.valid;
       keyed = keyed c.loop-number.invariant.keyed;
-      after = after_more _ _ _ _ c.loop-number.invariant.after record { same_history = c.in_default.ensures.history; cause = tt; count = c.in_default.ensures.count; held = c.in_default.ensures.kept };
+      after = after_more _ _ _ _ c.loop-number.invariant.after record { graph = record { same_history = c.in_default.ensures.history; count = c.in_default.ensures.count; held = c.in_default.ensures.kept }; cause = tt };
     }
 
 pub returns-in-Err-clause-after : goal.returns-in-Err-clause-after
 returns-in-Err-clause-after g c =
     let count = λ (fault : Bool). count_after fault (g.S.Find.fault_count c.loop-number.graph.source) in
     after_more _ _ _ _ c.loop-number.invariant.after record {
-      same_history = c.hand_parents.ensures.history;
+      graph = record {
+        same_history = c.hand_parents.ensures.history;
+        count = c.in-Err.ensures.count ∙ ap count (sym c.parent_refused.ensures.same);
+        held = c.hand_parents.ensures.kept;
+      };
       cause = c.parent_refused.ensures.cause;
-      count = c.in-Err.ensures.count ∙ ap count (sym c.parent_refused.ensures.same);
-      held = c.hand_parents.ensures.kept;
     }
 
 pub returns-clause-handed : goal.returns-clause-handed

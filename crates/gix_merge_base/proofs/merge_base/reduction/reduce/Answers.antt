@@ -20,7 +20,7 @@ meet-requires-clause-begun g c =
     let h = g.S.Find.history listed.source in
     let is : c.deref-3.result.now ≡ c.deref-2.result.now = c.deref-3.ensures.value ∙ sym c.deref-2.ensures.value in
     let ids : ids_at new c.deref-3.result.now ≡ ids_at listed c.deref-2.result.now = ap (ids_at new) is ∙ c.in_ok-meet_parents.ensures.same.1 in
-    subst (λ z. Reducing z (ids_at new c.deref-3.result.now) (marks_at new) (queued_ids new c.meet_parents.new.queue)) (sym c.in_ok-meet_parents.ensures.after.same_history)
+    subst (λ z. Reducing z (ids_at new c.deref-3.result.now) (marks_at new) (queued_ids new c.meet_parents.new.queue)) (sym c.in_ok-meet_parents.ensures.after.graph.same_history)
     (subst (λ l. Reducing h l (marks_at new) (queued_ids new c.meet_parents.new.queue)) (sym ids)
     (reduce_begins h (ids_at listed c.deref-2.result.now) (marks_at listed) (marks_at new) (queued_ids new c.meet_parents.new.queue) c.in_ok-numbers.ensures.unmarked c.in_ok-meet_parents.ensures.handed))
 
@@ -40,7 +40,7 @@ returns-clause-kept g c acyclic c' max =
     let known : ns ≡ filter (λ p. is_some (entry_at h p)) (firsts ids) =
     ap (ids_at mid) three ∙ c.in_ok-meet_parents.ensures.same.1 ∙ ap (ids_at listed) c.deref-2.ensures.value ∙ c.in_ok-numbers.ensures.ids
     ∙ ap (filter (λ p. is_some (entry_at h p))) (c.deref.ensures.value ∙ c.in_ok-left.ensures) in
-    let chain = c.in_ok-meet_parents.ensures.after.same_history ∙ c.in_ok-numbers.ensures.after.same_history in
+    let chain = c.in_ok-meet_parents.ensures.after.graph.same_history ∙ c.in_ok-numbers.ensures.after.graph.same_history in
     let reduced : Reduced h ns (marks_at new) = subst (λ z. Reduced z ns (marks_at new)) chain c.in_ok-meet.ensures.met in
     rw ((returns-clause-some g c).1) (reduced_keeps h ids ns (marks_at new) acyclic reduced (known-inside h ids ns known) (known-every h ids ns known) c' max)
 
@@ -57,6 +57,6 @@ returns-clause-independent g c acyclic never c' =
     let known : ns ≡ filter (λ p. is_some (entry_at h p)) (firsts ids) =
     ap (ids_at mid) three ∙ c.in_ok-meet_parents.ensures.same.1 ∙ ap (ids_at listed) c.deref-2.ensures.value ∙ c.in_ok-numbers.ensures.ids
     ∙ ap (filter (λ p. is_some (entry_at h p))) (c.deref.ensures.value ∙ c.in_ok-left.ensures) in
-    let chain = c.in_ok-meet_parents.ensures.after.same_history ∙ c.in_ok-numbers.ensures.after.same_history in
+    let chain = c.in_ok-meet_parents.ensures.after.graph.same_history ∙ c.in_ok-numbers.ensures.after.graph.same_history in
     let reduced : Reduced h ns (marks_at new) = subst (λ z. Reduced z ns (marks_at new)) chain c.in_ok-meet.ensures.met in
     rw ((returns-clause-some g c).1) (reduced_exactly h ids ns (marks_at new) acyclic reduced (known-inside h ids ns known) (known-every h ids ns known) never c')

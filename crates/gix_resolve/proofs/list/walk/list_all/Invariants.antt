@@ -1,5 +1,5 @@
 use Rattle.std.proofs.Common.{◌≡◌, take}
-use Rattle.gix_revwalk.specs.Numbers.{held_ids}
+use Rattle.gix_revwalk.specs.Graph.{held_ids}
 use Rattle.gix_revwalk.specs.Walks.{all_added}
 use Rattle.gix_merge_base.specs.PaintQueue.{ids_at}
 use Rattle.gix_resolve.specs.ListWalk.{AreMarked}
