@@ -9,7 +9,7 @@ use gix_base::date::Time;
 use gix_base::hash::Prefix;
 
 /// The prefix or reference call that was accepted last.
-#[derive(Clone, Copy, Debug)]
+#[derive(Clone, Copy)]
 pub(crate) enum Anchor<'a> {
     Head,
     Reference(&'a [u8]),
@@ -18,12 +18,12 @@ pub(crate) enum Anchor<'a> {
 
 /// The parse has stopped. Its context says why, so that no function hands on what is as large as an
 /// `Error`.
-#[derive(Clone, Copy, Debug)]
+#[derive(Clone, Copy)]
 pub(crate) struct Stopped;
 
 /// The moment that dates are read at, the anchor, whether this revision's own name was accepted as a
 /// prefix, and why the parse has stopped, once it has.
-#[derive(Debug, Drop)]
+#[derive(Drop)]
 pub(crate) struct Context<'a> {
     pub(crate) now: Time,
     pub(crate) anchor: Option<Anchor<'a>>,

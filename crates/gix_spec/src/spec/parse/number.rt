@@ -21,7 +21,7 @@ pub(crate) fn number(text: &[u8]) -> Option<usize>
 }
 
 /// A number with a minus before it, or with none, by its digits.
-#[derive(Clone, Copy, Debug)]
+#[derive(Clone, Copy)]
 pub(crate) enum Signed {
     Minus(usize),
     Plain(usize),

@@ -10,7 +10,7 @@ use crate::spec::Kind;
 use gix_base::hash::Prefix;
 
 /// The way on behind a part of a text.
-#[derive(Clone, Copy, Debug, PartialEq, Eq)]
+#[derive(Clone, Copy)]
 pub(crate) enum Way {
     /// Reading goes on.
     Onward,
@@ -19,7 +19,7 @@ pub(crate) enum Way {
 }
 
 /// The prefix call that is tried first on a name.
-#[derive(Clone, Copy, Debug)]
+#[derive(Clone, Copy)]
 pub(crate) struct Attempt<'a> {
     pub(crate) prefix: Prefix,
     pub(crate) hint: Option<PrefixHint<'a>>,
@@ -31,7 +31,7 @@ pub(crate) struct Attempt<'a> {
 ///
 /// A regex and a date in braces are not among these: what they call for, where an escape is taken
 /// out, is no part of the text.
-#[derive(Clone, Copy, Debug)]
+#[derive(Clone, Copy)]
 pub(crate) enum Piece<'a> {
     /// `^` in front of the whole text.
     Exclude,
@@ -101,7 +101,7 @@ pub(crate) enum Piece<'a> {
 }
 
 /// A fault of the text, and the part that it names.
-#[derive(Clone, Copy, Debug)]
+#[derive(Clone, Copy)]
 pub(crate) struct Refusal<'a> {
     pub(crate) fault: Fault,
     pub(crate) input: Option<&'a [u8]>,
@@ -111,7 +111,7 @@ pub(crate) struct Refusal<'a> {
 pub(crate) type Found<'a> = Result<Part<'a>, Refusal<'a>>;
 
 /// What stands at the front of a text: a piece or none, what is left behind it, and the way on.
-#[derive(Clone, Copy, Debug)]
+#[derive(Clone, Copy)]
 pub(crate) struct Part<'a> {
     pub(crate) piece: Option<Piece<'a>>,
     pub(crate) rest: &'a [u8],
@@ -161,7 +161,7 @@ impl<'a> Part<'a> {
 }
 
 /// What is left of a text behind a part that was read well, and the way on.
-#[derive(Clone, Copy, Debug)]
+#[derive(Clone, Copy)]
 pub(crate) struct Behind<'a> {
     pub(crate) rest: &'a [u8],
     pub(crate) way: Way,

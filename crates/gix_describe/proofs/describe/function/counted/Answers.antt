@@ -37,6 +37,9 @@ returns-then-is_idle-clause-described g c =
     (min c.args.options.max_candidates 32) c.args.options.fallback_to_oid (option_map description_of c.without_name.result)
     (unnamed_from c.args.options.name_by_oid.entries c.args.commit.now (sym c.contains_key.ensures ∙ c.if-contains_key.false)) (sym c.is_idle.ensures ∙ c.if-is_idle.true) c.without_name.ensures.answer
 
+pub returns-then-is_idle-clause-untouched : goal.returns-then-is_idle-clause-untouched
+returns-then-is_idle-clause-untouched g c = λ no. refl
+
 pub find_name-requires-clause-unnamed : goal.find_name-requires-clause-unnamed
 find_name-requires-clause-unnamed g c = unnamed_from c.args.options.name_by_oid.entries c.args.commit.now (sym c.contains_key.ensures ∙ c.if-contains_key.false)
 

@@ -4,8 +4,14 @@ use Rattle.gix_spec.proofs.Runs.{runs_whole, beginning_of_parts}
 use Rattle.gix_spec.proofs.Memory.{memory_of_delegate}
 use Rattle.gix_spec.proofs.spec.parse.function.parse.Goals as goal
 
+pub returns-in-Ok-clause-run : goal.returns-in-Ok-clause-run
+returns-in-Ok-clause-run g c = runs_whole g.D.Listener.step (rw c.new-context.ensures at c.in-Ok.ensures)
+
 pub returns-in-Ok-clause-beginning : goal.returns-in-Ok-clause-beginning
 returns-in-Ok-clause-beginning g c = beginning_of_parts g.D.Listener.step (rw c.new-context.ensures at c.in-Ok.ensures)
+
+pub returns-in-Ok-clause-memory : goal.returns-in-Ok-clause-memory
+returns-in-Ok-clause-memory g c frugal wanting = absurd (let no = wanting in cc)
 
 pub returns-clause-beginning : goal.returns-clause-beginning
 returns-clause-beginning g c = beginning_of_parts g.D.Listener.step (rw c.new-context.ensures at c.in-Err.ensures)
