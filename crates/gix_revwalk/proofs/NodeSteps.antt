@@ -1,9 +1,9 @@
 -- What stands in a graph, over one more node and over the change of one.
-use Rattle.std.proofs.Common.{◌≡◌, ℕ, zero, suc, true, false, cond, refl, ap, sym, subst, ◌∙◌, List, [], ◌∷◌, ◌++◌, Option, Some, None, is_some, map, set, length, get_or, ◌<◌, ◌≤◌, arith}
+use Rattle.std.proofs.Common.{◌≡◌, ℕ, zero, suc, true, false, cond, refl, ap, sym, subst, ◌∙◌, List, [], ◌∷◌, ◌++◌, Option, Some, None, is_some, map, set, take, length, get_or, ◌+◌, ◌-◌, ◌<◌, ◌≤◌, Result, Ok, Err, is_err, OnErr, arith}
 use Rattle.std.specs.Option.{option_map}
 use Rattle.std.specs.List.{AllByRecursion}
 use Rattle.std.specs.Map.{lookup}
-use Rattle.std.proofs.lemmas.List.{length-map, length-set, map-append, map-set}
+use Rattle.std.proofs.lemmas.List.{length-map, length-set, map-append, map-set, take_all, take-append-le}
 use Rattle.gix_base.specs.declared.hash.ObjectId.{ObjectId}
 use Rattle.gix_revwalk.specs.declared.graph.Node.{Node}
 use Rattle.gix_revwalk.specs.declared.graph.Row.{Row}
@@ -109,6 +109,16 @@ pub map-kept : {X Y : Type 0} (f : X → Y) (xs : List X) (k : ℕ) (x w : X) �
 map-kept f [] k x w e same = refl
 map-kept f (y ∷ xs) zero x w e same = let is : y ≡ x = cc in ap (λ z. z ∷ map f xs) (same ∙ ap f (sym is))
 map-kept f (y ∷ xs) (suc k) x w e same = ap (λ l. f y ∷ l) (map-kept f xs k x w e same)
+
+-- what was put at the end and taken off again
+pub popped : {X : Type 0} (xs : List X) (x : X) (n : ℕ) → n ≡ length xs + 1 → take (n - 1) (xs ++ x ∷ []) ≡ xs
+popped xs x n e =
+    let len : n - 1 ≡ length xs = omega arith in
+    ap (λ k. take k (xs ++ x ∷ [])) len ∙ take-append-le (length xs) xs (x ∷ []) (omega arith) ∙ take_all (length xs) xs (omega arith)
+
+pub on_err : {X E P : Type 0} (r : Result X E) → is_err r ≡ true → OnErr r P → P
+on_err (Ok x) e p = cc
+on_err (Err y) e p = p
 
 -- values that agree with a history, over the change of one
 pub agree-put : {T : Type 0} (agrees : T → Option Entry → Type 0) (h : History) (k : ObjectId) (w : T) (m n : ObjectId → Option T)

@@ -1,11 +1,12 @@
-use Rattle.std.proofs.Common.{rules, ◌≡◌, ◌++◌, ◌∷◌, [], cond, Some, None, refl, length, arith, ◌≤◌, ◌∙◌, sym}
+use Rattle.std.proofs.Common.{rules, ◌≡◌, ◌++◌, ◌∷◌, [], cond, Some, None, refl, length, map, take, arith, ◌≤◌, ◌+◌, ◌-◌, ◌∙◌, sym, ap}
 use Rattle.std.specs.Map.{lookup}
 use Rattle.std.proofs.lemmas.List.{length-map}
-use Rattle.gix_revwalk.specs.Nodes.{pair_of}
+use Rattle.gix_revwalk.specs.Nodes.{pair_of, mark_of}
 use Rattle.gix_revwalk.specs.History.{same_id}
 use Rattle.gix_base.specs.declared.hash.ObjectId.{ObjectId}
-use Rattle.gix_revwalk.proofs.NodeSteps.{nodes-push, agree-push}
+use Rattle.gix_revwalk.proofs.NodeSteps.{nodes-push, agree-push, popped, on_err}
 use Rattle.gix_revwalk.proofs.Noted.{unheld-noted}
+use Rattle.gix_revwalk.proofs.Growth.{same-view}
 use Rattle.gix_revwalk.proofs.numbers.add.Goals as goal
 
 pub invariant_of-graph-else-is_err : goal.invariant_of-graph-else-is_err
@@ -23,3 +24,16 @@ returns-clause-number g c = rw (← c.graph.view_is) (c.in_ok-number.ensures ∙
 
 pub returns-clause-unnoted : goal.returns-clause-unnoted
 returns-clause-unnoted g c q none = rw (← c.graph.view_is) (unheld-noted c.graph.inside.turn c.graph.inside.nodes.items q (rw (← c.graph.view_is) at none))
+
+pub invariant_of-graph-then-is_err : goal.invariant_of-graph-then-is_err
+invariant_of-graph-then-is_err g c =
+    let ns = c.graph.inside.nodes.items in
+    let items = c.pop.ensures.rest ∙ ap (take (c.push.new.self.len - 1)) c.in_ok-push.ensures.items ∙ popped ns _ _ (c.in_ok-push.ensures.len ∙ ap (λ n. n + 1) c.graph.inside.nodes.ok.0) in
+    let index = on_err c.insert.result (sym c.is_err.ensures.value ∙ c.if-is_err.true) c.insert.ensures.err in
+    rw (items, index) c.graph.invariant
+
+pub returns-then-is_err-clause-refused : goal.returns-then-is_err-clause-refused
+returns-then-is_err-clause-refused g c =
+    let ns = c.graph.inside.nodes.items in
+    let items = c.pop.ensures.rest ∙ ap (take (c.push.new.self.len - 1)) c.in_ok-push.ensures.items ∙ popped ns _ _ (c.in_ok-push.ensures.len ∙ ap (λ n. n + 1) c.graph.inside.nodes.ok.0) in
+    same-view _ _ refl (ap (map pair_of) items) (ap (map (mark_of c.graph.inside.turn)) items) ∙ c.graph.view_is

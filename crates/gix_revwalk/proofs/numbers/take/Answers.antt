@@ -14,7 +14,7 @@ pub returns-in-Some-clause-len : goal.returns-in-Some-clause-len
 returns-in-Some-clause-len g c = len-held _ c.args.graph.now c.args.id (numbered-held c.args.graph.now c.args.id _ c.in-Some.ensures.number)
 
 pub returns-in_default-2-clause-grows : goal.returns-in_default-2-clause-grows
-returns-in_default-2-clause-grows g c = grows-same c.args.graph.now c.ask.new.self c.in_ok-found.ensures.held c.in_ok-found.ensures.marked
+returns-in_default-2-clause-grows g c = rw (c.in_ok-found.ensures.held, c.in_ok-found.ensures.marked) (grows-same c.args.graph.now c.args.graph.now refl refl)
 
 pub returns-clause-number : goal.returns-clause-number
 returns-clause-number g c =
@@ -58,7 +58,7 @@ returns-clause-found g c =
     lookup-has c.add.new.graph.held c.args.id ∙ ap is_some (added-number c.args.graph.now c.add.new.graph c.args.id c.copy_of.result held (sym c.in_default.ensures.number)) ∙ ap is_some found
 
 pub returns-in_default-2-clause-marks : goal.returns-in_default-2-clause-marks
-returns-in_default-2-clause-marks g c = grows-marks c.args.graph.now c.ask.new.self (grows-same c.args.graph.now c.ask.new.self c.in_ok-found.ensures.held c.in_ok-found.ensures.marked) c.known.ensures.ids
+returns-in_default-2-clause-marks g c q = rw (c.in_ok-found.ensures.held, c.in_ok-found.ensures.marked) refl
 
 pub returns-clause-marks : goal.returns-clause-marks
 returns-clause-marks g c =
@@ -80,3 +80,12 @@ returns-in_err-add-clause-held g c held = absurd (not_held c.args.graph.now c.ar
 
 pub returns-clause-held : goal.returns-clause-held
 returns-clause-held g c held = absurd (not_held c.args.graph.now c.args.id c.in_default.ensures.number held)
+
+pub returns-in-Some-clause-number : goal.returns-in-Some-clause-number
+returns-in-Some-clause-number g c = c.in-Some.ensures.number
+
+pub returns-in-Some-clause-marks : goal.returns-in-Some-clause-marks
+returns-in-Some-clause-marks g c q = refl
+
+pub returns-in-Some-clause-count : goal.returns-in-Some-clause-count
+returns-in-Some-clause-count g c = refl

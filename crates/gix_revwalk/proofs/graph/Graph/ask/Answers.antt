@@ -1,0 +1,10 @@
+use Rattle.gix_revwalk.proofs.graph.Graph.ask.Goals as goal
+use Rattle.gix_revwalk.proofs.graph.Graph.ask.Goals.{in-Ok, in-Err-Failed, in-Err-OutOfMemory}
+
+pub returns-clause-count : goal.returns-clause-count
+returns-clause-count g c =
+    elim c.match-find.branch [
+      | in-Ok w ↦ rw (w.result-is, ← c.self.view_is) w.in-Ok.ensures.count
+      | in-Err-Failed w ↦ rw (w.result-is, ← c.self.view_is) (rw w.in-Err-Failed.field-0-is at w.in-Err-Failed.ensures.count)
+      | in-Err-OutOfMemory w ↦ rw (w.result-is, ← c.self.view_is) (rw w.in-Err-OutOfMemory.field-0-is at w.in-Err-OutOfMemory.ensures.count)
+    ]
