@@ -1,4 +1,4 @@
-use Rattle.std.proofs.Common.{◌≡◌, ◌<◌, ◌≤◌, ◌+◌, ◌∙◌, sym, ap, true, false, [], ◌∷◌, ◌++◌, length, arith}
+use Rattle.std.proofs.Common.{◌≡◌, ◌<◌, ◌≤◌, ◌+◌, ◌∙◌, refl, sym, ap, true, false, [], ◌∷◌, ◌++◌, length, arith}
 use Rattle.std.proofs.lemmas.List.{length_push}
 use Rattle.gix_revwalk.specs.Followed.{followed}
 use Rattle.gix_revwalk.specs.Graph.{held_at}
@@ -90,3 +90,9 @@ returns-clause-admitted g c =
       going = t.going;
       has = t.at.has;
     }
+
+pub returns-clause-seen : goal.returns-clause-seen
+returns-clause-seen g c = refl
+
+pub returns-then-is_err-clause-seen : goal.returns-then-is_err-clause-seen
+returns-then-is_err-clause-seen g c = refl
