@@ -44,3 +44,6 @@ returns-in_err-found-clause-taken g c acyclic falls alike =
 
 pub returns-clause-most : goal.returns-clause-most
 returns-clause-most g c = c.in_ok-found.ensures.most
+
+pub returns-clause-least : goal.returns-clause-least
+returns-clause-least g c acyclic trivial = c.in_ok-found.ensures.least acyclic

@@ -1,4 +1,4 @@
-use Rattle.std.proofs.Common.{◌≡◌, ◌∙◌, ◌-◌, ◌<◌, sym, ap, subst, cond, rules}
+use Rattle.std.proofs.Common.{◌≡◌, ◌∙◌, ◌-◌, ◌<◌, sym, ap, subst, cond, rules, arith}
 use Rattle.gix_revwalk.specs.History.{same_id}
 use Rattle.gix_revwalk.specs.Graph.{held_len}
 use Rattle.gix_revwalk.specs.Number.{place_in}
@@ -58,3 +58,6 @@ returns-clause-keyed g c t keyed = keyed-popped (g.S.Find.history c.args.graph.n
 pub returns-clause-valid : goal.returns-clause-valid
 returns-clause-valid g c t =
     rw (same-len c.args.graph.now c.set_mark.new.graph c.set_mark.ensures.ids) (held-permutation (λ p. place_in p.1 < held_len c.args.graph.now) c.args.queue.now _ c.in_ok-number.ensures.taken c.requires.held).1
+
+pub returns-clause-some : goal.returns-clause-some
+returns-clause-some g c t = omega (arith, c.requires.counts.unstale)
