@@ -53,3 +53,15 @@ pub returns-clause-read : goal.returns-clause-read
 returns-clause-read c =
     let digits = (c.in_ok-id.ensures.read.0 refl).1 in
     (λ _. (omega arith, omega arith, digits_from_padded c.args.text.now (rw (c.fill_up.ensures.value) at digits)), λ _. refl)
+
+pub returns-then-text-gt40-clause-too_long : goal.returns-then-text-gt40-clause-too_long
+returns-then-text-gt40-clause-too_long c = (λ _. omega arith, λ _. refl)
+
+pub returns-then-text-gt40-clause-not_hex : goal.returns-then-text-gt40-clause-not_hex
+returns-then-text-gt40-clause-not_hex c = (λ h. cc h, λ h. absurd (omega (arith, h.1)))
+
+pub returns-then-text-gt40-clause-only : goal.returns-then-text-gt40-clause-only
+returns-then-text-gt40-clause-only c = λ e. cc e
+
+pub returns-then-text-gt40-clause-too_short : goal.returns-then-text-gt40-clause-too_short
+returns-then-text-gt40-clause-too_short c = (λ h. cc h, λ h. absurd (omega (arith, h)))

@@ -37,3 +37,6 @@ returns-in-Err-clause-value c =
     let day = c.in-Ok.ensures.value ∙ to_z-of_z w64 c.args.day c.ranges.day in
     let made = c.in-Err.ensures.succeeds in
     months_before-unshiftable c.in-Ok.date c.args.day c.args.months _ day (backward_is c.args.months c.backward.result c.backward.ensures.value c.backward.ensures.bound) (λ h. let e = made.1 h in cc)
+
+pub returns-in-Ok-add_months-clause-bound : goal.returns-in-Ok-add_months-clause-bound
+returns-in-Ok-add_months-clause-bound c = rw (day_is _ c.epoch_day.ensures.bound) c.epoch_day.ensures.bound
