@@ -19,7 +19,7 @@ use std::alloc::{Allocator, Global};
 use std::io::{self, BufWriter, Write};
 
 /// Whether a command was answered; of several, whether each was.
-#[derive(Clone, Copy, Debug, PartialEq, Eq)]
+#[derive(Clone, Copy)]
 pub(crate) enum Outcome {
     Answered,
     Refused,
@@ -73,13 +73,24 @@ pub(crate) fn answer_all<W: Write, A: Allocator + Copy>(
         bases: Graph::new(alloc, &source),
         descriptions: Descriptions::new(alloc, &source),
     };
-    let answered = match answer_held(alloc, refusals, &commands, known, &mut graphs, output) {
-        Some(answered) => answered,
-        None => answer_each(alloc, refusals, &commands, known, &mut graphs, output),
-    };
-    match answered {
+    match answer_commands(alloc, refusals, &commands, known, &mut graphs, output) {
         Ok(outcome) => Ok(outcome),
         Err(_) => Err(Stop::UnwritableOutput),
+    }
+}
+
+// Each answer, by way of a buffer where there is memory for one.
+fn answer_commands<'t, W: Write, A: Allocator + Copy>(
+    alloc: A,
+    refusals: Global,
+    commands: &[Command<'_, A>],
+    known: Known<'_, 't, A>,
+    graphs: &mut Graphs<'_, 't, A>,
+    output: &mut W,
+) -> io::Result<Outcome> {
+    match answer_held(alloc, refusals, commands, known, graphs, output) {
+        Some(answered) => answered,
+        None => answer_each(alloc, refusals, commands, known, graphs, output),
     }
 }
 

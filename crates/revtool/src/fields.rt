@@ -13,7 +13,7 @@ use gix_revision::hash::ObjectId;
 use std::alloc::{AllocError, AllocFailed, Allocator};
 
 /// Why a line was not read.
-#[derive(Clone, Copy, Debug, PartialEq, Eq)]
+#[derive(Clone, Copy)]
 pub(crate) enum LineFault {
     Unreadable,
     OutOfMemory,

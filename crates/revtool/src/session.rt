@@ -24,38 +24,55 @@ pub(crate) struct Session<'t, A: Allocator> {
     pub(crate) commands: Vec<Command<'t, A>, A>,
 }
 
+impl<'t, A: Allocator + Copy> Session<'t, A> {
+    // What no line says.
+    fn new(alloc: A) -> Session<'t, A> {
+        Session {
+            source: MemorySource::new(alloc),
+            options: Options::new(alloc),
+            table: Table {
+                names: BTreeMap::new(alloc),
+                ids: BTreeSet::new(alloc),
+            },
+            commands: Vec::new(alloc),
+        }
+    }
+}
+
 /// Reads each line. The first that is unreadable, or repeats an id or a reference, is named by its
 /// number.
 pub(crate) fn read_lines<'t, A: Allocator + Copy>(
     alloc: A,
     text: &'t [u8],
 ) -> Result<Session<'t, A>, Stop> {
-    let mut session = Session {
-        source: MemorySource::new(alloc),
-        options: Options::new(alloc),
-        table: Table {
-            names: BTreeMap::new(alloc),
-            ids: BTreeSet::new(alloc),
-        },
-        commands: Vec::new(alloc),
-    };
+    let mut session = Session::new(alloc);
+    add_lines(alloc, text, &mut session)?;
+    // No other command asks which ids there are, and a set of them is large.
+    if session.commands.iter().any(|command| command.is_resolved()) {
+        add_ids(text, &mut session.table)?;
+    }
+    Ok(session)
+}
+
+// All lines of a text, but for the ids of its commits.
+fn add_lines<'t, A: Allocator + Copy>(
+    alloc: A,
+    text: &'t [u8],
+    session: &mut Session<'t, A>,
+) -> Result<(), Stop> {
     let mut number: usize = 0;
     for line in text.split(|byte| *byte == b'\n') {
         number = number.saturating_add(1);
         if line.is_empty() {
             continue;
         }
-        match add_line(alloc, line, &mut session) {
+        match add_line(alloc, line, session) {
             Ok(()) => {}
             Err(LineFault::Unreadable) => return Err(Stop::UnreadableLine(number)),
             Err(LineFault::OutOfMemory) => return Err(Stop::OutOfMemory),
         }
     }
-    // No other command asks which ids there are, and a set of them is large.
-    if session.commands.iter().any(|command| command.is_resolved()) {
-        add_ids(text, &mut session.table)?;
-    }
-    Ok(session)
+    Ok(())
 }
 
 // The ids of all commits of a text. Each line of it was read before.

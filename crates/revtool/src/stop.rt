@@ -7,7 +7,7 @@ use std::alloc::{AllocError, AllocFailed};
 use std::io::Write;
 
 /// What ended the program before its last answer.
-#[derive(Clone, Copy, Debug, PartialEq, Eq)]
+#[derive(Clone, Copy)]
 pub(crate) enum Stop {
     /// The input could not be read, or had not ended after the last read that is made.
     UnreadableInput,
