@@ -109,27 +109,11 @@ fn memory_is_wanted_for_escapes_alone(rt: HostRuntime) -> Result<(), Fail> {
     Ok(())
 }
 
-// Whether braces hold this text and leave that rest, and whether the text is borrowed.
-fn holds<A: Allocator + Copy>(
-    alloc: A,
-    text: &[u8],
-    (inner, left): (&[u8], &[u8]),
-    borrows: bool,
-) -> bool {
-    match parens(alloc, text) {
-        Ok(Some((held, rest, taken))) => {
-            held.as_ref() == inner
-                && rest == left
-                && taken.saturating_add(rest.len()) == text.len()
-                && matches!(held, CowSlice::Borrowed(_)) == borrows
-        }
-        _ => false,
-    }
-}
+/// A text that begins with braces, what they hold, what is left, and whether what they hold is borrowed: where no escape
+/// is taken out.
+type Row = (&'static [u8], &'static [u8], &'static [u8], bool);
 
-// A text that begins with braces, what they hold, what is left, and whether what they hold is borrowed: where no escape
-// is taken out.
-const BRACED: [(&[u8], &[u8], &[u8], bool); 6] = [
+const BRACED: [Row; 6] = [
     (b"{}", b"", b"", true),
     (b"{a{b}c}d}", b"a{b}c", b"d}", true),
     (b"{\\a}", b"\\a", b"", true),
@@ -138,16 +122,54 @@ const BRACED: [(&[u8], &[u8], &[u8], bool); 6] = [
     (b"{\\{\\}{\\\\}}^", b"{}{\\}", b"^", false),
 ];
 
+// Whether what was read is that of the row: what the braces hold, what is left, and how long they are.
+fn is_of<A: Allocator>(
+    (held, rest, taken): &(CowSlice<'_, u8, A>, &[u8], usize),
+    (text, inner, left, borrows): Row,
+) -> bool {
+    held.as_ref() == inner
+        && *rest == left
+        && taken.saturating_add(rest.len()) == text.len()
+        && matches!(held, CowSlice::Borrowed(_)) == borrows
+}
+
+/// What comes of reading the braces that a text begins with.
+#[derive(Clone, Copy, PartialEq)]
+enum Came {
+    /// What the row says.
+    Held,
+    /// It begins with none.
+    Nothing,
+    Unclosed,
+    OutOfMemory,
+    Otherwise,
+}
+
+fn came_of<A: Allocator + Copy>(alloc: A, row: Row) -> Came {
+    match &parens(alloc, row.0) {
+        Ok(Some(read)) if is_of(read, row) => Came::Held,
+        Ok(None) => Came::Nothing,
+        Err(Error::OutOfMemory) => Came::OutOfMemory,
+        Err(
+            Error::Refused {
+                fault: Fault::UnclosedBrace,
+                ..
+            },
+        ) => Came::Unclosed,
+        _ => Came::Otherwise,
+    }
+}
+
 // Whether each request for memory that is refused in turn refuses a braced text, which is then held; there is such a
 // request just where nothing is borrowed.
-fn is_held(alloc: Global, (text, inner, left, borrows): (&[u8], &[u8], &[u8], bool)) -> bool {
+fn is_held(alloc: Global, row: Row) -> bool {
     for before in 0..100u64 {
         let refusing = Refusing::new(alloc, before);
-        let refuses = matches!(parens(&refusing, text), Err(Error::OutOfMemory));
+        let came = came_of(&refusing, row);
         if !refusing.has_refused() {
-            return (before == 0) == borrows && holds(alloc, text, (inner, left), borrows);
+            return (before == 0) == row.3 && came == Came::Held;
         }
-        if !refuses || !holds(&refusing, text, (inner, left), borrows) {
+        if came != Came::OutOfMemory || came_of(&refusing, row) != Came::Held {
             return false;
         }
     }
@@ -159,23 +181,17 @@ fn first_unheld(alloc: Global) -> Option<usize> {
     BRACED.iter().position(|row| !is_held(alloc, *row))
 }
 
-fn never_closes(alloc: Global, text: &[u8]) -> bool {
-    matches!(
-        parens(alloc, text),
-        Err(Error::Refused {
-            fault: Fault::UnclosedBrace,
-            ..
-        })
-    )
-}
+/// Texts that begin with no brace, and ones whose first brace never closes.
+const UNBRACED: [(&[u8], Came); 5] = [
+    (b"a{b}", Came::Nothing),
+    (b"", Came::Nothing),
+    (b"{", Came::Unclosed),
+    (b"{a\\}", Came::Unclosed),
+    (b"{{}", Came::Unclosed),
+];
 
-// Texts that begin with no brace, and ones whose first brace never closes, are told so.
 fn are_refused(alloc: Global) -> bool {
-    matches!(parens(alloc, b"a{b}"), Ok(None))
-        && matches!(parens(alloc, b""), Ok(None))
-        && never_closes(alloc, b"{")
-        && never_closes(alloc, b"{a\\}")
-        && never_closes(alloc, b"{{}")
+    UNBRACED.iter().all(|(text, came)| came_of(alloc, (text, b"", b"", true)) == *came)
 }
 
 #[test]
@@ -187,30 +203,32 @@ fn braces_are_read_alone(rt: HostRuntime) {
 // `main^{/`, so many opening braces, as many closing ones, and perhaps the last one.
 fn nested(alloc: Global, depth: usize, closed: bool) -> Result<Vec<u8>, AllocError> {
     let mut text = b"main^{/".to_vec(alloc)?;
-    for _ in 0..depth {
-        text.push(b'{')?;
-    }
-    for _ in 0..depth {
-        text.push(b'}')?;
-    }
-    if closed {
-        text.push(b'}')?;
-    }
+    text.extend_from_slice(&b"{".repeat(alloc, depth)?)?;
+    text.extend_from_slice(&b"}".repeat(alloc, depth.saturating_add(closed as usize))?)?;
     Ok(text)
+}
+
+// Whether a text makes these calls, between whose first and last words a part of it stands.
+fn tells(
+    alloc: Global,
+    text: &[u8],
+    part: Option<&[u8]>,
+    (first, last): (&[u8], &[u8]),
+) -> Result<bool, AllocError> {
+    let mut want = first.to_vec(alloc)?;
+    want.extend_from_slice(part.unwrap_or(&[]))?;
+    want.extend_from_slice(last)?;
+    makes(alloc, text, &want)
 }
 
 // The regex that they hold is told, or the pair never closes.
 fn nests(alloc: Global, depth: usize) -> Result<bool, AllocError> {
     let closed = nested(alloc, depth, true)?;
     let open = nested(alloc, depth, false)?;
-    let mut want = b"find_ref(main); find(".to_vec(alloc)?;
-    let inner = closed.get(7..closed.len().saturating_sub(1));
-    want.extend_from_slice(inner.unwrap_or(&[]))?;
-    want.extend_from_slice(b"); done")?;
-    let mut refused = b"find_ref(main); refused P14 (".to_vec(alloc)?;
-    refused.extend_from_slice(open.get(5..).unwrap_or(&[]))?;
-    refused.extend_from_slice(b")")?;
-    Ok(makes(alloc, &closed, &want)? && makes(alloc, &open, &refused)?)
+    let regex = closed.get(7..closed.len().saturating_sub(1));
+    let found = (b"find_ref(main); find(".as_slice(), b"); done".as_slice());
+    let refused = (b"find_ref(main); refused P14 (".as_slice(), b")".as_slice());
+    Ok(tells(alloc, &closed, regex, found)? && tells(alloc, &open, open.get(5..), refused)?)
 }
 
 #[test]

@@ -8,7 +8,7 @@ use refusing::Refusing;
 use std::alloc::{AllocError, Allocator, Global};
 
 /// How a call was answered.
-#[derive(Clone, Copy, Debug, PartialEq)]
+#[derive(Clone, Copy, PartialEq)]
 pub enum Answered {
     AsWanted,
     SourceFailed,
@@ -31,7 +31,7 @@ pub trait Asks {
 }
 
 /// What came of a call: the answer, the faults counted then, and whether what is held is the source's.
-#[derive(Clone, Copy, Debug, PartialEq)]
+#[derive(Clone, Copy, PartialEq)]
 struct Came {
     answered: Answered,
     faults: u64,
@@ -64,14 +64,27 @@ fn asked<C: Asks, S: Find, A: Allocator + Copy>(
     })
 }
 
+/// A call that is answered as it wants, over a source that has not failed.
+const WELL: Came = Came {
+    answered: Answered::AsWanted,
+    faults: 0,
+    agrees: true,
+};
+
+/// A call that is refused for want of memory, over such a source.
+const LACKING: Came = Came {
+    answered: Answered::OutOfMemory,
+    faults: 0,
+    agrees: true,
+};
+
 // Whether a call is answered twice as it wants, on one graph, with at most so many look-ups.
 fn is_answered<C: Asks>(alloc: Global, call: &C, most: u64) -> Result<bool, AllocError> {
     let source = Counting::new(source_of(alloc, call.history())?);
     let mut graph = Graph::new(alloc, source);
     let first = asked(alloc, alloc, call, &mut graph)?;
     let again = asked(alloc, alloc, call, &mut graph)?;
-    let well = Came::of(Answered::AsWanted, 0);
-    Ok(first == well && again == well && graph.source().questions() <= most)
+    Ok(first == WELL && again == WELL && graph.source().questions() <= most)
 }
 
 /// The number of the first call of a table that is not answered so.
@@ -100,6 +113,18 @@ const FAULTS: [(FindFault, u64, Answered, u64); 3] = [
     (FindFault::OutOfMemory, 5, Answered::OutOfMemory, 5),
 ];
 
+// A call twice on a new graph.
+fn asked_twice<C: Asks, S: Find, A: Allocator + Copy>(
+    to: Global,
+    alloc: A,
+    call: &C,
+    source: S,
+) -> Result<(Came, Came), AllocError> {
+    let mut graph = Graph::new(alloc, source);
+    let first = asked(to, alloc, call, &mut graph)?;
+    Ok((first, asked(to, alloc, call, &mut graph)?))
+}
+
 // A call twice on one graph, whose source refuses the look-up after that many and begins its count at `faults`.
 fn with_failure<C: Asks>(
     alloc: Global,
@@ -109,9 +134,7 @@ fn with_failure<C: Asks>(
 ) -> Result<(Came, Came), AllocError> {
     let inner = source_of(alloc, call.history())?;
     let source = Failing::new(inner, Turn::After(turn), fault, faults);
-    let mut graph = Graph::new(alloc, source);
-    let first = asked(alloc, alloc, call, &mut graph)?;
-    Ok((first, asked(alloc, alloc, call, &mut graph)?))
+    asked_twice(alloc, alloc, call, source)
 }
 
 // How many look-ups of a call can be refused. None where a refused one does not refuse the call, or is not counted as
@@ -134,43 +157,38 @@ fn refused_look_ups<C: Asks>(
     Ok(None)
 }
 
-// A call twice on one graph with one request for memory refused, and whether that was in the first one. None where it
-// was in the making of its arguments.
+// A call twice on one graph with one request for memory refused, and whether there was such a request. None where it was
+// in the making of its arguments.
 fn with_refusal<C: Asks>(
     alloc: Global,
     call: &C,
     before: u64,
-) -> Result<Option<(Came, Came, bool)>, AllocError> {
+) -> Result<(Option<(Came, Came)>, bool), AllocError> {
+    let source = source_of(alloc, call.history())?;
     let refusing = Refusing::new(alloc, before);
-    let mut graph = Graph::new(&refusing, source_of(alloc, call.history())?);
-    let Ok(first) = asked(alloc, &refusing, call, &mut graph) else {
-        return Ok(None);
-    };
-    let has_refused = refusing.has_refused();
-    let Ok(again) = asked(alloc, &refusing, call, &mut graph) else {
-        return Ok(None);
-    };
-    Ok(Some((first, again, has_refused)))
+    let both = asked_twice(alloc, &refusing, call, source).ok();
+    Ok((both, refusing.has_refused()))
 }
 
-// How many requests of a call for memory refuse it. None where a refused one has something else come than want of
-// memory or the answer, where something else than the source's is held then, or where the same call on the same graph
-// is not answered then. Room to remember the parents of a commit is not needed.
+// How many requests of a call for memory refuse it, where each is refused in turn, and each of the same call behind it on
+// the same graph. None where a refused one has something else come than want of memory or the answer, where something
+// else than the source's is held then, or where the other call is not answered. Room to remember the parents of a commit
+// is not needed.
 fn refused_requests<C: Asks>(alloc: Global, call: &C) -> Result<Option<u64>, AllocError> {
-    let well = Came::of(Answered::AsWanted, 0);
-    let lacking = Came::of(Answered::OutOfMemory, 0);
     let mut refusals: u64 = 0;
     for before in 0..1000u64 {
-        let Some((first, again, has_refused)) = with_refusal(alloc, call, before)? else {
+        let (both, has_refused) = with_refusal(alloc, call, before)?;
+        let Some(both) = both else {
             continue;
         };
-        if (first != lacking && first != well) || (has_refused && again != well) {
+        if !has_refused {
+            return Ok((both == (WELL, WELL)).then_some(refusals));
+        }
+        if both == (LACKING, WELL) {
+            refusals = refusals.saturating_add(1);
+        } else if both != (WELL, LACKING) && both != (WELL, WELL) {
             return Ok(None);
         }
-        if !has_refused {
-            return Ok(if first == well { Some(refusals) } else { None });
-        }
-        refusals = refusals.saturating_add((first == lacking) as u64);
     }
     Ok(None)
 }

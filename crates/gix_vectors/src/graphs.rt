@@ -6,8 +6,10 @@ use crate::sources::{Counting, Failing, Turn};
 use gix_revision::graph::{
     Commit, Error, Find, FindFault, Graph, InsertError, MemorySource, SourceCommit,
 };
+use gix_revision::hash::ObjectId;
 use refusing::Refusing;
 use std::alloc::{AllocError, Allocator, Global};
+use std::mem::replace;
 use std::test::Fail;
 
 /// [3] of [2], [2] of [1], [1] of a commit that the source lacks.
@@ -26,7 +28,7 @@ fn is_row<A: Allocator>(commit: &SourceCommit<A>, row: Row<'_>) -> bool {
 }
 
 /// What became of a commit that was put into a source.
-#[derive(Clone, Copy, Debug, PartialEq)]
+#[derive(Clone, Copy, PartialEq)]
 enum Put {
     In,
     /// It came back: its id is there already.
@@ -119,29 +121,40 @@ enum Step {
 
 type CountedCommits = Graph<Counting<MemorySource>, Commit<u8>>;
 
+/// The data of a commit that is taken in with this.
+fn taken(
+    alloc: Global,
+    graph: &mut CountedCommits,
+    digit: u8,
+    data: u8,
+) -> Result<Option<u8>, Error> {
+    let place = graph.get_or_insert_full_commit(alloc, id(digit), data)?;
+    Ok(place.data().copied())
+}
+
+/// The data of a held commit that this was written to.
+fn written(graph: &mut CountedCommits, digit: u8, data: u8) -> Option<u8> {
+    let place = graph.data_mut(&id(digit))?;
+    *place = data;
+    Some(*place)
+}
+
+/// The data of a held commit.
+fn held(graph: &CountedCommits, digit: u8) -> Option<u8> {
+    let commit = graph.get(&id(digit))?;
+    Some(*commit.data())
+}
+
 /// What is read by a step.
 fn read_by(alloc: Global, graph: &mut CountedCommits, step: Step) -> Result<Option<u8>, Error> {
     match step {
-        Step::Take(digit, data) => {
-            let place = graph.get_or_insert_full_commit(alloc, id(digit), data)?;
-            Ok(place.data().map(|data| *data))
-        }
-        Step::Write(digit, data) => Ok(
-            graph.data_mut(&id(digit)).map(|old| {
-                *old = data;
-                data
-            }),
-        ),
-        Step::Read(digit) => Ok(graph.get(&id(digit)).map(|commit| *commit.data())),
-        Step::Fill(data) => {
-            graph.clear_commit_data(data);
-            Ok(None)
-        }
-        Step::Clear => {
-            graph.clear();
-            Ok(None)
-        }
+        Step::Take(digit, data) => return taken(alloc, graph, digit, data),
+        Step::Write(digit, data) => return Ok(written(graph, digit, data)),
+        Step::Read(digit) => return Ok(held(graph, digit)),
+        Step::Fill(data) => graph.clear_commit_data(data),
+        Step::Clear => graph.clear(),
     }
+    Ok(None)
 }
 
 /// A step, what it reads, and how many are held and were looked up then.
@@ -184,21 +197,22 @@ fn steps_are_done(alloc: Global) -> Result<bool, AllocError> {
     Ok(graph.into_source().questions() == 4 && done)
 }
 
+/// The number that is held for an id, in whose place this one is written.
+fn replaced(graph: &mut Graph<MemorySource, u32>, id: ObjectId, number: u32) -> Option<u32> {
+    Some(replace(graph.get_mut(&id)?, number))
+}
+
 /// Whether numbers are held whatever the source has.
 fn hold_numbers(graph: &mut Graph<MemorySource, u32>) -> Result<bool, Error> {
     let first = graph.insert(id(9), 1)?;
     let second = graph.insert(id(9), 2)?;
-    let written = graph.get_mut(&id(9)).map(|value| {
-        let old = *value;
-        *value = 4;
-        old
-    });
+    let third = replaced(graph, id(9), 4);
     Ok(
         first == None
             && second == Some(1)
-            && written == Some(2)
+            && third == Some(2)
             && graph.get(&id(9)).copied() == Some(4)
-            && graph.get_mut(&id(1)).is_none()
+            && replaced(graph, id(1), 4) == None
             && graph.len() == 1,
     )
 }
@@ -227,7 +241,7 @@ fn take_all<S: Find, A: Allocator + Copy>(
 }
 
 /// What came of taking all in, with what is held and the faults counted then.
-#[derive(Clone, Copy, Debug, PartialEq)]
+#[derive(Clone, Copy, PartialEq)]
 struct Round {
     came: Result<(), Error>,
     held: usize,
@@ -248,6 +262,13 @@ fn take_round<S: Find, A: Allocator + Copy>(
     }
 }
 
+/// Two rounds on a new graph.
+fn two_rounds<S: Find, A: Allocator + Copy>(alloc: A, source: S) -> (Round, Round) {
+    let mut graph = Graph::new(alloc, source);
+    let first = take_round(alloc, &mut graph);
+    (first, take_round(alloc, &mut graph))
+}
+
 /// Two rounds over a source that fails so.
 fn with_failure(
     alloc: Global,
@@ -255,10 +276,8 @@ fn with_failure(
     fault: FindFault,
     faults: u64,
 ) -> Result<(Round, Round), AllocError> {
-    let source = Failing::new(source_of(alloc, &LINE)?, turn, fault, faults);
-    let mut graph = Graph::new(alloc, source);
-    let first = take_round(alloc, &mut graph);
-    Ok((first, take_round(alloc, &mut graph)))
+    let line = source_of(alloc, &LINE)?;
+    Ok(two_rounds(alloc, Failing::new(line, turn, fault, faults)))
 }
 
 /// The fault, its answer, and the faults counted before and after it.
@@ -317,13 +336,13 @@ fn a_failing_look_up_is_counted_and_leaves_the_graph(rt: HostRuntime) -> Result<
     Ok(())
 }
 
-/// Two rounds with one request for memory refused, and whether that was in the first round.
+/// Two rounds with one request for memory refused, and whether there was such a request. The second round of a whole
+/// first one makes none.
 fn with_refusal(alloc: Global, before: u64) -> Result<(Round, Round, bool), AllocError> {
+    let line = source_of(alloc, &LINE)?;
     let refusing = Refusing::new(alloc, before);
-    let mut graph = Graph::new(&refusing, source_of(alloc, &LINE)?);
-    let first = take_round(&refusing, &mut graph);
-    let has_refused = refusing.has_refused();
-    Ok((first, take_round(&refusing, &mut graph), has_refused))
+    let (first, again) = two_rounds(&refusing, line);
+    Ok((first, again, refusing.has_refused()))
 }
 
 #[test]

@@ -90,6 +90,11 @@ pub fn source_of<A: Allocator + Copy>(
     Ok(source)
 }
 
+/// Whether a held commit is that of the row.
+fn is_of<D: Drop, A: Allocator>(commit: &Commit<D, A>, row: &Row<'_>) -> bool {
+    commit.commit_time() == row.1 && commit.generation() == row.2 && are(commit.parents(), row.3)
+}
+
 /// Whether each held commit is the one that the rows have under its id.
 pub fn agrees<S: Find, D: Drop, A: Allocator + Copy>(
     graph: &Graph<S, Commit<D, A>, A>,
@@ -98,8 +103,7 @@ pub fn agrees<S: Find, D: Drop, A: Allocator + Copy>(
     let mut held: usize = 0;
     for row in rows {
         if let Some(commit) = graph.get(&id(row.0)) {
-            let same = commit.commit_time() == row.1 && commit.generation() == row.2;
-            if !same || !are(commit.parents(), row.3) {
+            if !is_of(commit, row) {
                 return false;
             }
             held = held.saturating_add(1);

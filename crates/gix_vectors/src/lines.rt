@@ -262,7 +262,7 @@ fn an_input_may_fail_or_not_end(rt: HostRuntime) -> Result<(), Fail> {
 
 /// What is left of a run whose output fails: its status, whether the output failed, how often it was
 /// written to after that, and whether no fault was written.
-#[derive(Clone, Copy, Debug, PartialEq)]
+#[derive(Clone, Copy, PartialEq)]
 struct Unwritten {
     status: u8,
     has_failed: bool,
@@ -369,7 +369,7 @@ fn are_rows_or_refusals(lines: &[u8], rows: &[u8]) -> bool {
 }
 
 /// What came of a run where one request for memory may be refused.
-#[derive(Clone, Copy, Debug, PartialEq)]
+#[derive(Clone, Copy, PartialEq)]
 enum Came {
     /// It ended as it should.
     Answered,
@@ -398,7 +398,7 @@ fn judged(ran: &Run, (status, written): (u8, &[u8])) -> Came {
 
 /// How often a run could not read its input, how often some lines lacked memory, and how often none did, where each
 /// request is refused in turn.
-#[derive(Clone, Copy, Debug, PartialEq)]
+#[derive(Clone, Copy)]
 struct Tally {
     unread: u64,
     lacking: u64,
@@ -467,10 +467,10 @@ fn lacks(tally: Option<Tally>, least: u64, most: u64) -> bool {
 #[test]
 fn each_request_for_memory_is_refused_in_turn(rt: HostRuntime) -> Result<(), Fail> {
     let commands = tally_of(rt.alloc(), CRISS_CROSS, COMMANDS)?;
-    assert!(rt; lacks(commands, 60, 16), "{commands:?}");
+    assert!(rt; lacks(commands, 60, 16), "the commands");
     let crossed = tally_of(rt.alloc(), CRISS_CROSS, AFTER_CRISS_CROSS)?;
-    assert!(rt; lacks(crossed, 100, 60), "{crossed:?}");
+    assert!(rt; lacks(crossed, 100, 60), "the crossed rows");
     let alone = tally_of(rt.alloc(), "", ALONE)?;
-    assert!(rt; lacks(alone, 20, 20), "{alone:?}");
+    assert!(rt; lacks(alone, 20, 20), "rows alone");
     Ok(())
 }

@@ -50,7 +50,7 @@ fn queries<A: Allocator + Copy>(
 
 /// What a list of calls came to: how many answers there are, how many are those of the questions in their
 /// order, which one was refused for the source, and how many for memory.
-#[derive(Clone, Copy, Debug, PartialEq)]
+#[derive(Clone, Copy, PartialEq)]
 struct Tally {
     answers: usize,
     right: usize,
@@ -160,7 +160,7 @@ fn a_refused_query_does_not_end_the_list(rt: HostRuntime) -> Result<(), Fail> {
 }
 
 /// What a list came to where one request for memory is refused.
-#[derive(Clone, Copy, Debug, PartialEq)]
+#[derive(Clone, Copy, PartialEq)]
 enum Came {
     /// The list could not be made.
     Unmade,

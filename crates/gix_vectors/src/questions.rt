@@ -9,7 +9,7 @@ use gix_revision::merge_base::{Error, Flags, counted, merge_base, octopus, paint
 use std::alloc::{AllocError, Allocator, Global};
 
 /// Which function is called.
-#[derive(Clone, Copy, Debug, PartialEq)]
+#[derive(Clone, Copy, PartialEq)]
 pub enum Call {
     Bases,
     Counted,

@@ -7,7 +7,7 @@ use gix_revision::hash::ObjectId;
 use std::alloc::Allocator;
 
 /// Which look-up is refused.
-#[derive(Clone, Copy, Debug, PartialEq, Eq)]
+#[derive(Clone, Copy)]
 pub enum Turn {
     /// The one that comes after that many, and no other.
     After(u64),

@@ -6,10 +6,22 @@ use crate::histories::source_of;
 use crate::sources::{Failing, Turn};
 use gix_revision::graph::{Find, FindFault, Graph};
 use refusing::Refusing;
-use std::alloc::{AllocError, Global};
+use std::alloc::{AllocError, Allocator, Global};
 use std::test::Fail;
 
-/// Two calls of a case, where one look-up of the first is refused so, and the count of faults.
+/// Two calls of a case on one graph, and the count of faults.
+fn two_calls<S: Find, A: Allocator + Copy>(
+    alloc: A,
+    case: &Case,
+    source: S,
+) -> Result<(Met, Met, u64), AllocError> {
+    let mut graph = Graph::new(alloc, source);
+    let first = answered(alloc, &mut graph, case)?;
+    let again = answered(alloc, &mut graph, case)?;
+    Ok((first, again, graph.source().faults()))
+}
+
+/// Two calls of a case, where one look-up of the first is refused so.
 fn with_one_failed(
     alloc: Global,
     case: &Case,
@@ -18,10 +30,7 @@ fn with_one_failed(
 ) -> Result<(Met, Met, u64), AllocError> {
     let history = source_of(alloc, case.0)?;
     let source = Failing::new(history, Turn::After(before), fault, 0);
-    let mut graph = Graph::new(alloc, source);
-    let first = answered(alloc, &mut graph, case)?;
-    let again = answered(alloc, &mut graph, case)?;
-    Ok((first, again, graph.source().faults()))
+    two_calls(alloc, case, source)
 }
 
 /// How a look-up is refused, what comes of the call then, and how many faults are counted.
@@ -59,35 +68,34 @@ fn survives_faults(alloc: Global, case: &Case) -> Result<bool, AllocError> {
     Ok(true)
 }
 
-/// A call of a case where one request for memory is refused, and the next one; `None` where the refused
-/// one came before the call.
+/// Two calls of a case, where one request for memory is refused, and whether there was such a request; no calls where it
+/// came before one of them.
 fn with_one_refused(
     alloc: Global,
     case: &Case,
     before: u64,
-) -> Result<Option<(Met, Met)>, AllocError> {
+) -> Result<(Option<(Met, Met, u64)>, bool), AllocError> {
+    let history = source_of(alloc, case.0)?;
     let refusing = Refusing::new(alloc, before);
-    let mut graph = Graph::new(&refusing, source_of(alloc, case.0)?);
-    let Ok(first) = answered(&refusing, &mut graph, case) else {
-        return Ok(None);
-    };
-    let again = if refusing.has_refused() {
-        answered(&refusing, &mut graph, case)?
-    } else {
-        first
-    };
-    Ok(Some((first, again)))
+    let both = two_calls(&refusing, case, history).ok();
+    Ok((both, refusing.has_refused()))
 }
 
-/// Whether a case is refused where each of its requests for memory is refused in turn, and answered by
-/// the next call.
+/// Whether a case is refused where each of its requests for memory is refused in turn, on a new graph and on one that
+/// has answered it, and answered by the next call.
 fn is_answered_after_each_refusal(alloc: Global, case: &Case) -> Result<bool, AllocError> {
-    for before in 0..500u64 {
-        match with_one_refused(alloc, case, before)? {
-            None => {}
-            Some((Met::Right, Met::Right)) => return Ok(true),
-            Some((Met::RefusedForMemory, Met::Right)) => {}
-            _ => return Ok(false),
+    for before in 0..1000u64 {
+        let (both, has_refused) = with_one_refused(alloc, case, before)?;
+        let Some(both) = both else {
+            continue;
+        };
+        if !has_refused {
+            return Ok(both == (Met::Right, Met::Right, 0));
+        }
+        if both != (Met::RefusedForMemory, Met::Right, 0)
+            && both != (Met::Right, Met::RefusedForMemory, 0)
+        {
+            return Ok(false);
         }
     }
     Ok(false)

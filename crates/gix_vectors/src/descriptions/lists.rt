@@ -1,7 +1,7 @@
 //! Lists of descriptions on one graph, over a failing source, and with memory refused in turn: one query of the list is
 //! refused, and the others are answered.
 
-use super::cases::{LINE, PLAIN, Want, options_of, says};
+use super::cases::{LINE, Met, PLAIN, Want, options_of, says};
 use crate::histories::{id, source_of};
 use crate::sources::{Failing, Turn};
 use gix_base::error::Message;
@@ -32,7 +32,7 @@ fn queries_of<A: Allocator + Copy>(alloc: A) -> Result<Vec<Query<'static, A>, A>
 
 /// How many answers of a list were refused for the source, how many for want of memory, and how many
 /// are wrong.
-#[derive(Clone, Copy, Debug, PartialEq, Eq)]
+#[derive(Clone, Copy, PartialEq)]
 struct Tally(u8, u8, u8);
 
 const ALL_RIGHT: Tally = Tally(0, 0, 0);
@@ -40,6 +40,29 @@ const ALL_RIGHT: Tally = Tally(0, 0, 0);
 const ONE_FOR_THE_SOURCE: Tally = Tally(1, 0, 0);
 
 const ONE_FOR_MEMORY: Tally = Tally(0, 1, 0);
+
+/// What came of a query.
+fn met_by<A: Allocator>(answer: &Answer<'static, A>, digit: u8, want: Want) -> Met {
+    match answer {
+        Answer::Described(Some(outcome)) if says(outcome, digit, want) => Met::Right,
+        Answer::Refused(Message::ParentsOf(_)) => Met::RefusedForTheSource,
+        Answer::Refused(Message::OutOfMemory) => Met::RefusedForMemory,
+        _ => Met::Wrong,
+    }
+}
+
+impl Tally {
+    /// Counts one more answer.
+    fn add(&mut self, met: Met) {
+        let count = match met {
+            Met::Right => return,
+            Met::RefusedForTheSource => &mut self.0,
+            Met::RefusedForMemory => &mut self.1,
+            Met::Wrong => &mut self.2,
+        };
+        *count = count.saturating_add(1);
+    }
+}
 
 /// Makes the calls. A list that is refused as a whole counts as one answer.
 fn tally_of<S: Find, A: Allocator + Copy>(
@@ -52,25 +75,28 @@ fn tally_of<S: Find, A: Allocator + Copy>(
     };
     let mut tally = ALL_RIGHT;
     for (answer, (digit, want)) in answers.iter().zip(&LISTED) {
-        match answer {
-            Answer::Described(Some(outcome)) if says(outcome, *digit, *want) => {}
-            Answer::Refused(Message::ParentsOf(_)) => tally.0 = tally.0.saturating_add(1),
-            Answer::Refused(Message::OutOfMemory) => tally.1 = tally.1.saturating_add(1),
-            _ => tally.2 = tally.2.saturating_add(1),
-        }
+        tally.add(met_by(answer, *digit, *want));
     }
     tally
 }
 
-/// Two lists of calls, where one look-up of the first fails, and the count of faults.
-fn list_with_one_failed(alloc: Global, before: u64) -> Result<(Tally, Tally, u64), AllocError> {
-    let line = source_of(alloc, LINE)?;
-    let source = Failing::new(line, Turn::After(before), FindFault::Failed, 0);
-    let mut graph = Graph::new(alloc, source);
+/// Two lists of calls on one graph, and the count of faults.
+fn two_lists<S: Find, A: Allocator + Copy>(
+    alloc: A,
+    source: S,
+) -> Result<(Tally, Tally, u64), AllocError> {
     let queries = queries_of(alloc)?;
+    let mut graph = Graph::new(alloc, source);
     let first = tally_of(alloc, &mut graph, &queries);
     let again = tally_of(alloc, &mut graph, &queries);
     Ok((first, again, graph.source().faults()))
+}
+
+/// Two lists of calls, where one look-up of the first fails.
+fn list_with_one_failed(alloc: Global, before: u64) -> Result<(Tally, Tally, u64), AllocError> {
+    let line = source_of(alloc, LINE)?;
+    let source = Failing::new(line, Turn::After(before), FindFault::Failed, 0);
+    two_lists(alloc, source)
 }
 
 /// Whether one query of a list is refused where each look-up fails in turn, and the others are answered.
@@ -87,34 +113,31 @@ fn is_list_answered_after_each_fault(alloc: Global) -> Result<bool, AllocError> 
     Ok(false)
 }
 
-/// Two lists of calls, where one request for memory of the first is refused, and whether it was; `None`
-/// where that came before the calls.
+/// Two lists of calls, where one request for memory is refused, and whether there was such a request; no lists where it
+/// came before the calls.
 fn list_with_one_refused(
     alloc: Global,
     before: u64,
-) -> Result<Option<(Tally, Tally, bool)>, AllocError> {
+) -> Result<(Option<(Tally, Tally, u64)>, bool), AllocError> {
+    let line = source_of(alloc, LINE)?;
     let refusing = Refusing::new(alloc, before);
-    let mut graph = Graph::new(&refusing, source_of(alloc, LINE)?);
-    let Ok(queries) = queries_of(&refusing) else {
-        return Ok(None);
-    };
-    let first = tally_of(&refusing, &mut graph, &queries);
-    let has_refused = refusing.has_refused();
-    let again = tally_of(&refusing, &mut graph, &queries);
-    Ok(Some((first, again, has_refused)))
+    let both = two_lists(&refusing, line).ok();
+    Ok((both, refusing.has_refused()))
 }
 
 /// Whether one query of a list is refused where each request for memory is refused in turn, and the
 /// others are answered.
 fn is_list_answered_after_each_refusal(alloc: Global) -> Result<bool, AllocError> {
-    for before in 0..500u64 {
-        if let Some((first, again, has_refused)) = list_with_one_refused(alloc, before)? {
-            if !has_refused {
-                return Ok(before > 20 && first == ALL_RIGHT);
-            }
-            if first != ONE_FOR_MEMORY || again != ALL_RIGHT {
-                return Ok(false);
-            }
+    for before in 0..1000u64 {
+        let (both, has_refused) = list_with_one_refused(alloc, before)?;
+        let Some(both) = both else {
+            continue;
+        };
+        if !has_refused {
+            return Ok(before > 20 && both == (ALL_RIGHT, ALL_RIGHT, 0));
+        }
+        if both != (ONE_FOR_MEMORY, ALL_RIGHT, 0) && both != (ALL_RIGHT, ONE_FOR_MEMORY, 0) {
+            return Ok(false);
         }
     }
     Ok(false)
