@@ -1,14 +1,15 @@
--- The count of queued entries whose commit is not stale, over one more entry and over one less.
-use Rattle.std.proofs.Common.{◌≡◌, ℕ, true, false, cond, refl, ap, sym, subst, ◌∙◌, List, [], ◌∷◌, not, ◌+◌, ◌-◌, arith, IsTrue}
+-- The count of queued entries whose commit is not stale, over one more entry and over one less, and that of
+-- ids which are not stale.
+use Rattle.std.proofs.Common.{◌≡◌, ℕ, Bool, true, false, cond, refl, ap, sym, subst, ◌∙◌, List, [], ◌∷◌, ◌++◌, length, not, ◌+◌, ◌-◌, arith, IsTrue}
 use Rattle.std.specs.List.{sum_by}
 use Rattle.std.specs.List.Sorted.{IsPermutation}
 use Rattle.std.proofs.lemmas.List.Sums.{sum_by-cons}
-use Rattle.std.proofs.lemmas.List.Sorted.{sum_by_pushed, sum_by_popped}
+use Rattle.std.proofs.lemmas.List.Sorted.{IsPermutation-sym, IsPermutation-to_front, sum_by_pushed, sum_by_popped}
 use Rattle.gix_base.specs.declared.hash.ObjectId.{ObjectId}
 use Rattle.gix_revwalk.specs.History.{same_id}
 use Rattle.gix_revwalk.proofs.Ids.{same_id-true, same_id-itself}
 use Rattle.gix_merge_base.specs.Marks.{MarkSet, level}
-use Rattle.gix_merge_base.specs.Counting.{times, unstale, Counts}
+use Rattle.gix_merge_base.specs.Counting.{times, unstale, Counts, CountsUnmet}
 
 same_sum : (f g : ObjectId → ℕ) → ((c : ObjectId) → g c ≡ f c) → (q : List ObjectId) → sum_by g q ≡ sum_by f q
 same_sum f g e [] = refl
@@ -35,72 +36,87 @@ less_sum id f g one none e (x ∷ xs) =
           omega arith
     ] refl
 
--- a commit gets marks and an entry; n is how often it was queued
-module _ (m m' : ObjectId → MarkSet) (n n' : ObjectId → ℕ) (q q' : List ObjectId) (id : ObjectId) (w : MarkSet)
-    (marks : (c : ObjectId) → m' c ≡ cond (same_id id c) w (m c)) (queued : (c : ObjectId) → n' c ≡ cond (same_id id c) (n id + 1) (n c)) (perm : IsPermutation (id ∷ q) q') where
-  counted : (o : ℕ) → Counts m n q o → (c : ObjectId) → n' c ≡ times c q'
-  counted o k c =
-      let pushed = sum_by_pushed (λ x. level (same_id c x)) id q q' perm in
-      let old = k.times in
-      elim (same_id id c) as (λ s. same_id id c ≡ s → n' c ≡ cond s (n id + 1) (n c) → n' c ≡ times c q') [
-        | true ↦ λ same is.
-            let eq = same_id-true id c same in
-            let at : n c ≡ n id = ap n (sym eq) in
-            let one : level (same_id c id) ≡ 1 = ap (λ z. level (same_id c z)) eq ∙ ap level (same_id-itself c) in
-            let here = old c in
-            omega arith
-        | false ↦ λ apart is.
-            let none : level (same_id c id) ≡ 0 = ap level (apart_sym c id apart) in
-            let here = old c in
-            omega arith
-      ] refl (queued c)
-    where
-      apart_sym : (a b : ObjectId) → same_id b a ≡ false → same_id a b ≡ false
-      apart_sym a b e = elim (same_id a b) as (λ s. same_id a b ≡ s → s ≡ false) [
-        | false ↦ λ _. refl
-        | true ↦ λ t. let is = same_id-true a b t in let eq : same_id b a ≡ true = subst (λ z. same_id z a ≡ true) is (same_id-itself a) in cc
-      ] refl
+same_id-turned : (a b : ObjectId) → same_id b a ≡ false → same_id a b ≡ false
+same_id-turned a b e = elim (same_id a b) as (λ s. same_id a b ≡ s → s ≡ false) [
+  | false ↦ λ _. refl
+  | true ↦ λ t. let is = same_id-true a b t in let eq : same_id b a ≡ true = subst (λ z. same_id z a ≡ true) is (same_id-itself a) in cc
+] refl
 
+-- how often each commit stands in a list that gets id, where n is how often it stood there
+times_more : (n n' : ObjectId → ℕ) (id : ObjectId) (q q' : List ObjectId) → ((c : ObjectId) → n' c ≡ cond (same_id id c) (n id + 1) (n c)) → IsPermutation (id ∷ q) q'
+    → ((c : ObjectId) → n c ≡ times c q) → (c : ObjectId) → n' c ≡ times c q'
+times_more n n' id q q' queued perm old c =
+    let pushed = sum_by_pushed (λ x. level (same_id c x)) id q q' perm in
+    let here = old c in
+    elim (same_id id c) as (λ s. same_id id c ≡ s → n' c ≡ cond s (n id + 1) (n c) → n' c ≡ times c q') [
+      | true ↦ λ same is.
+          let eq = same_id-true id c same in
+          let at : n c ≡ n id = ap n (sym eq) in
+          let one : level (same_id c id) ≡ 1 = ap (λ z. level (same_id c z)) eq ∙ ap level (same_id-itself c) in
+          omega arith
+      | false ↦ λ apart is.
+          let none : level (same_id c id) ≡ 0 = ap level (same_id-turned c id apart) in
+          omega arith
+    ] refl (queued c)
+
+pub times_pushed : (n n' : ObjectId → ℕ) (id : ObjectId) (ids : List ObjectId) → ((c : ObjectId) → n' c ≡ cond (same_id id c) (n id + 1) (n c)) → ((c : ObjectId) → n c ≡ times c ids)
+    → (c : ObjectId) → n' c ≡ times c (ids ++ id ∷ [])
+times_pushed n n' id ids queued old = times_more n n' id ids (ids ++ id ∷ []) queued (IsPermutation-sym (ids ++ id ∷ []) (id ∷ ids) (IsPermutation-to_front ids id)) old
+
+-- a commit gets marks
+module _ (m m' : ObjectId → MarkSet) (id : ObjectId) (w : MarkSet) (marks : (c : ObjectId) → m' c ≡ cond (same_id id c) w (m c)) where
   at_id : m' id ≡ w
   at_id = marks id ∙ ap (λ b. cond b w (m id)) (same_id-itself id)
 
   off : (c : ObjectId) → same_id id c ≡ false → m' c ≡ m c
   off c e = marks c ∙ ap (λ b. cond b w (m c)) e
 
+  -- it is stale as it was: as many of a list are not
+  as_many : w.stale ≡ (m id).stale → (q : List ObjectId) → unstale m' q ≡ unstale m q
+  as_many is = same_sum (λ x. level (not (m x).stale)) (λ x. level (not (m' x).stale)) (λ c. elim (same_id id c) as (λ s. same_id id c ≡ s → level (not (m' c).stale) ≡ level (not (m c).stale)) [
+    | true ↦ λ e. subst (λ z. level (not (m' z).stale) ≡ level (not (m z).stale)) (same_id-true id c e) (ap (λ z. level (not z)) (ap (λ (z : MarkSet). z.stale) at_id ∙ is))
+    | false ↦ λ e. ap (λ (z : MarkSet). level (not z.stale)) (off c e)
+  ] refl)
+
+  -- it turns stale: it leaves the count wherever it stands
+  as_less : (m id).stale ≡ false → w.stale ≡ true → (q : List ObjectId) → unstale m' q + times id q ≡ unstale m q
+  as_less was is =
+      less_sum id (λ x. level (not (m x).stale)) (λ x. level (not (m' x).stale)) (ap (λ z. level (not z)) was) (ap (λ z. level (not z)) (ap (λ (z : MarkSet). z.stale) at_id ∙ is))
+      (λ c e. ap (λ (z : MarkSet). level (not z.stale)) (off c e))
+
+-- a commit gets marks and an entry; n is how often it was queued
+module _ (m m' : ObjectId → MarkSet) (n n' : ObjectId → ℕ) (q q' : List ObjectId) (id : ObjectId) (w : MarkSet)
+    (marks : (c : ObjectId) → m' c ≡ cond (same_id id c) w (m c)) (queued : (c : ObjectId) → n' c ≡ cond (same_id id c) (n id + 1) (n c)) (perm : IsPermutation (id ∷ q) q') where
+  now_counts : (b : Bool) → w.stale ≡ b → level (not (m' id).stale) ≡ level (not b)
+  now_counts b is = ap (λ z. level (not z)) (ap (λ (z : MarkSet). z.stale) (at_id m m' id w marks) ∙ is)
+
   -- it was not stale, and is not: one entry more
   pub counts_open : (o : ℕ) → Counts m n q o → (m id).stale ≡ false → w.stale ≡ false → Counts m' n' q' (o + 1)
   counts_open o k was is =
-      let now : level (not (m' id).stale) ≡ 1 = ap (λ z. level (not z)) (ap (λ (z : MarkSet). z.stale) at_id ∙ is) in
+      let now : level (not (m' id).stale) ≡ 1 = now_counts false is in
       let pushed = sum_by_pushed (λ x. level (not (m' x).stale)) id q q' perm in
-      let same = same_sum (λ x. level (not (m x).stale)) (λ x. level (not (m' x).stale)) (λ c. elim (same_id id c) as (λ s. same_id id c ≡ s → level (not (m' c).stale) ≡ level (not (m c).stale)) [
-        | true ↦ λ e. let eq = same_id-true id c e in subst (λ z. level (not (m' z).stale) ≡ level (not (m z).stale)) eq (now ∙ sym (ap (λ z. level (not z)) was))
-        | false ↦ λ e. ap (λ (z : MarkSet). level (not z.stale)) (off c e)
-      ] refl) q in
+      let same = as_many m m' id w marks (is ∙ sym was) q in
       let old = k.unstale in
-      record { unstale = omega arith; times = counted o k }
+      record { unstale = omega arith; times = times_more n n' id q q' queued perm k.times }
 
   -- it was stale, and is: nothing is counted
   pub counts_stale : (o : ℕ) → Counts m n q o → (m id).stale ≡ true → w.stale ≡ true → Counts m' n' q' o
   counts_stale o k was is =
-      let now : level (not (m' id).stale) ≡ 0 = ap (λ z. level (not z)) (ap (λ (z : MarkSet). z.stale) at_id ∙ is) in
+      let now : level (not (m' id).stale) ≡ 0 = now_counts true is in
       let pushed = sum_by_pushed (λ x. level (not (m' x).stale)) id q q' perm in
-      let same = same_sum (λ x. level (not (m x).stale)) (λ x. level (not (m' x).stale)) (λ c. elim (same_id id c) as (λ s. same_id id c ≡ s → level (not (m' c).stale) ≡ level (not (m c).stale)) [
-        | true ↦ λ e. let eq = same_id-true id c e in subst (λ z. level (not (m' z).stale) ≡ level (not (m z).stale)) eq (now ∙ sym (ap (λ z. level (not z)) was))
-        | false ↦ λ e. ap (λ (z : MarkSet). level (not z.stale)) (off c e)
-      ] refl) q in
+      let same = as_many m m' id w marks (is ∙ sym was) q in
       let old = k.unstale in
-      record { unstale = omega arith; times = counted o k }
+      record { unstale = omega arith; times = times_more n n' id q q' queued perm k.times }
 
   -- it turns stale: all its entries leave the count
   pub counts_turned : (o : ℕ) → Counts m n q o → (m id).stale ≡ false → w.stale ≡ true → Counts m' n' q' (o - n id)
   counts_turned o k was is =
-      let now : level (not (m' id).stale) ≡ 0 = ap (λ z. level (not z)) (ap (λ (z : MarkSet). z.stale) at_id ∙ is) in
-      let before : level (not (m id).stale) ≡ 1 = ap (λ z. level (not z)) was in
+      let now : level (not (m' id).stale) ≡ 0 = now_counts true is in
       let pushed = sum_by_pushed (λ x. level (not (m' x).stale)) id q q' perm in
-      let less = less_sum id (λ x. level (not (m x).stale)) (λ x. level (not (m' x).stale)) before now (λ c e. ap (λ (z : MarkSet). level (not z.stale)) (off c e)) q in
+      let less = as_less m m' id w marks was is q in
       let old = k.unstale in
       let own = k.times id in
-      record { unstale = omega arith; times = counted o k }
+      record { unstale = omega arith; times = times_more n n' id q q' queued perm k.times }
 
   -- whichever it is
   pub counts_hand : (o : ℕ) → Counts m n q o → (IsTrue (m id).stale → IsTrue w.stale) → Counts m' n' q' (cond (not w.stale) (o + 1) (cond (m id).stale o (o - n id)))
@@ -139,16 +155,10 @@ counts_popped m m' n n' q q' id o marks queued perm k =
                 let one : level (same_id c id) ≡ 1 = ap (λ z. level (same_id c z)) eq ∙ ap level (same_id-itself c) in
                 omega arith
             | false ↦ λ e is.
-                let none : level (same_id c id) ≡ 0 = ap level (apart c id e) in
+                let none : level (same_id c id) ≡ 0 = ap level (same_id-turned c id e) in
                 omega arith
           ] refl (queued c);
     }
-  where
-    apart : (a b : ObjectId) → same_id b a ≡ false → same_id a b ≡ false
-    apart a b e = elim (same_id a b) as (λ s. same_id a b ≡ s → s ≡ false) [
-      | false ↦ λ _. refl
-      | true ↦ λ t. let is = same_id-true a b t in let eq : same_id b a ≡ true = subst (λ z. same_id z a ≡ true) is (same_id-itself a) in cc
-    ] refl
 
 -- the same marks and counts
 pub counts_same : (m m' : ObjectId → MarkSet) (n n' : ObjectId → ℕ) (q q' : List ObjectId) (o : ℕ) → ((c : ObjectId) → m' c ≡ m c) → ((c : ObjectId) → n' c ≡ n c) → q' ≡ q → Counts m n q o → Counts m' n' q' o
@@ -163,3 +173,40 @@ counts_noted m m' n n' q q' o marks queued is k = rw is record {
   unstale = k.unstale ∙ sym (same_sum (λ x. level (not (m x).stale)) (λ x. level (not (m' x).stale)) (λ c. ap (λ z. level (not z)) (marks c)) q);
   times = λ c. queued c ∙ k.times c;
 }
+
+-- a commit gets marks that make it stale, and an entry: the ids that are not stale
+pub unmet_hand : (m m' : ObjectId → MarkSet) (n n' : ObjectId → ℕ) (ids : List ObjectId) (id : ObjectId) (w : MarkSet) (o : ℕ)
+    → ((c : ObjectId) → m' c ≡ cond (same_id id c) w (m c)) → ((c : ObjectId) → n' c ≡ cond (same_id id c) (n id + 1) (n c)) → w.stale ≡ true
+    → CountsUnmet m n ids o → CountsUnmet m' n' ids (cond (not w.stale) (o + 1) (cond (m id).stale o (o - n id)))
+unmet_hand m m' n n' ids id w o marks queued is k = record {
+  unstale = ap (λ b. cond (not b) (o + 1) (cond (m id).stale o (o - n id))) is ∙ elim (m id).stale as (λ b. (m id).stale ≡ b → cond b o (o - n id) ≡ unstale m' ids) [
+    | true ↦ λ was. k.unstale ∙ sym (as_many m m' id w marks (is ∙ sym was) ids)
+    | false ↦ λ was.
+        let less = as_less m m' id w marks was is ids in
+        let old = k.unstale in
+        let own = k.times id was in
+        omega arith
+  ] refl;
+  times = λ c out. elim (same_id id c) as (λ s. same_id id c ≡ s → n' c ≡ times c ids) [
+    | true ↦ λ e. let there : (m' c).stale ≡ true = subst (λ z. (m' z).stale ≡ true) (same_id-true id c e) (ap (λ (z : MarkSet). z.stale) (at_id m m' id w marks) ∙ is) in cc
+    | false ↦ λ e. queued c ∙ ap (λ b. cond b (n id + 1) (n c)) e ∙ k.times c (sym (ap (λ (z : MarkSet). z.stale) (off m m' id w marks c e)) ∙ out)
+  ] refl;
+}
+
+pub unmet_same : (m m' : ObjectId → MarkSet) (n n' : ObjectId → ℕ) (ids : List ObjectId) (o : ℕ) → ((c : ObjectId) → m' c ≡ m c) → ((c : ObjectId) → n' c ≡ n c) → CountsUnmet m n ids o → CountsUnmet m' n' ids o
+unmet_same m m' n n' ids o marks queued k = record {
+  unstale = k.unstale ∙ sym (same_sum (λ x. level (not (m x).stale)) (λ x. level (not (m' x).stale)) (λ c. ap (λ (z : MarkSet). level (not z.stale)) (marks c)) ids);
+  times = λ c out. queued c ∙ k.times c (sym (ap (λ (z : MarkSet). z.stale) (marks c)) ∙ out);
+}
+
+-- nothing is stale yet
+pub unmet_first : (m : ObjectId → MarkSet) (n : ObjectId → ℕ) (ids : List ObjectId) → ((c : ObjectId) → (m c).stale ≡ false) → ((c : ObjectId) → n c ≡ times c ids) → CountsUnmet m n ids (length ids)
+unmet_first m n ids none counted = record { unstale = all_of ids; times = λ c out. counted c }
+  where
+    all_of : (xs : List ObjectId) → length xs ≡ unstale m xs
+    all_of [] = refl
+    all_of (x ∷ xs) =
+        let c = sum_by-cons (λ y. level (not (m y).stale)) x xs in
+        let l : level (not (m x).stale) ≡ 1 = ap (λ z. level (not z)) (none x) in
+        let r = all_of xs in
+        omega arith

@@ -1,5 +1,4 @@
 pub mod Maximal
-pub mod Added
 pub mod Above
 pub mod Octopus
 pub mod AmongOnes
@@ -8,8 +7,6 @@ pub mod Least
 pub mod Choice
 pub mod Sorting
 pub mod Orders
-pub mod Unreached
-pub mod Heads
 pub mod AfterCalls
 pub mod BaseCalls
 pub mod OctopusLaws
@@ -29,8 +26,9 @@ pub mod PaintBegins
 pub mod Unheld
 pub mod ParentsOf
 pub mod Reduction
+pub mod Heads
 pub mod Listed
-pub mod Surveys
+pub mod Unmet
 pub mod Alone
 pub mod Best
 pub mod Answered

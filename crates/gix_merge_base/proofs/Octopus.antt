@@ -1,4 +1,4 @@
--- The step of an octopus: below the bases of each of a list with one more id lies what is below the list and that id.
+-- Below the best common ancestors lies all that is common.
 use Rattle.std.proofs.Common.{◌≡◌, ℕ, zero, suc, true, false, refl, subst, List, [], ◌∷◌, ◌⊎◌, inl, inr, ◌<◌, ◌≤◌, ◌+◌, length, get_or, IsTrue, ◌↔◌, arith}
 use Rattle.std.specs.List.{filter}
 use Rattle.std.specs.Bool.{MatchBool}
@@ -8,17 +8,16 @@ use Rattle.gix_revwalk.specs.History.{History, entry_at, is_one_of, parents_in, 
 use Rattle.gix_merge_base.specs.Bases.{IsCommon, IsMaximal, IsBase}
 use Rattle.gix_revwalk.specs.Walks.{all_visited}
 use Rattle.gix_revwalk.proofs.Members.{one_of-single, one_of-head}
-use Rattle.gix_revwalk.specs.History.IsAncestor.{further}
 use Rattle.gix_revwalk.proofs.Walk.{Walked, walk_starts, walk_goes, walk_bounded, walk_ends}
 use Rattle.gix_merge_base.proofs.Maximal.{common_goes_down, common_has, common_ones}
 use Rattle.gix_merge_base.proofs.Above.{base_above}
-use Rattle.gix_revwalk.proofs.Ancestors.{anc-trans, has_ancestor}
+use Rattle.gix_revwalk.proofs.Ancestors.{anc-trans}
 
 -- the ancestors of some ids make a list
 unfoldable pub Listed : (h : History) (starts : List ObjectId) → Type 0
 Listed h starts = (xs : List ObjectId) × ((c : ObjectId) → IsTrue (is_one_of xs c) ↔ IsAncestorOfOne h starts c)
 
-le_cases : (a b : ℕ) → (a < b) ⊎ (b ≤ a)
+pub le_cases : (a b : ℕ) → (a < b) ⊎ (b ≤ a)
 le_cases a zero = inr (omega arith)
 le_cases zero (suc b) = inl (omega arith)
 le_cases (suc a) (suc b) = elim (le_cases a b) as (λ _. (suc a < suc b) ⊎ (suc b ≤ suc a)) [ inl l ↦ inl (omega arith) | inr r ↦ inr (omega arith) ]
@@ -42,14 +41,6 @@ best_above h f os acyclic c s =
     let ours = listed h (f ∷ []) f in
     let theirs = listed h os f in
     base_above h (IsCommon h f os) (filter (is_one_of theirs.0) ours.0) acyclic (common_goes_down h f os) (common_has h f os) (common_ones h f os ours.0 theirs.0 ours.1 theirs.1) c s
-
--- each ancestor of one of ids lies below a best one
-pub one_above_all : (h : History) (ids : List ObjectId) → IsAcyclic h → (c : ObjectId) → IsAncestorOfOne h ids c
-    → (m : ObjectId) × IsMaximal h (IsAncestorOfOne h ids) m × IsAncestor h m c
-unfolding Listed
-one_above_all h ids acyclic c a =
-    let all = listed h ids c in
-    base_above h (IsAncestorOfOne h ids) all.0 acyclic (λ x y s e. (s.0, s.1, further x y s.2 e)) (λ x s. (has_ancestor h s.0 x s.2).0) all.1 c a
 
 -- below the bases of b and o lies what is below both
 pub bases_cover : (h : History) (b o : ObjectId) → IsAcyclic h → (c : ObjectId) → ((x : ObjectId) × IsBase h b (o ∷ []) x × IsAncestor h x c) ↔ (IsAncestor h b c × IsAncestor h o c)

@@ -9,6 +9,7 @@ use Rattle.gix_revwalk.specs.History.{History, same_id, is_one_of, IsAncestorOfA
 use Rattle.gix_merge_base.specs.Bases.{IsMaximal}
 use Rattle.gix_merge_base.specs.Octopus.{IsOctopusBase}
 use Rattle.gix_merge_base.specs.Keys.{choice}
+use Rattle.gix_merge_base.specs.OctopusSteps.{AreOctopusBases}
 use Rattle.gix_revwalk.proofs.Ids.{same_id-true, same_id-equal}
 use Rattle.gix_revwalk.proofs.Members.{one_of-head, one_of-tail, one_of-cons_cases}
 use Rattle.gix_merge_base.proofs.Choice.{choice-unique}
@@ -51,6 +52,13 @@ module _ (h : History) (f g : ObjectId) (os ps : List ObjectId) (same : (i : Obj
 
   maximal_back : (c : ObjectId) → IsMaximal h (IsAncestorOfAll h (g ∷ ps)) c → IsMaximal h (IsAncestorOfAll h (f ∷ os)) c
   maximal_back c m = (back c m.0, λ t s a. m.1 t (over t s) a)
+
+  pub bases_same : (ids : List ObjectId) → AreOctopusBases h f os ids → AreOctopusBases h g ps ids
+  bases_same ids are = record {
+    each = λ c m. over c (are.each c m);
+    cover = λ c all. are.cover c (back c all);
+    maximal = λ never c. (λ m. maximal_over c ((are.maximal never c).0 m), λ s. (are.maximal never c).1 (maximal_back c s));
+  }
 
   -- what is said where not all are equal
   abbrev IsChosenOne : ObjectId → List ObjectId → Option ObjectId → Type 0

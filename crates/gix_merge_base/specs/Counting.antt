@@ -1,5 +1,5 @@
 -- The count of queued entries whose commit is not stale.
-use Rattle.std.specs.Prelude.{◌≡◌, ℕ, List, not, cond, ◌+◌, ◌-◌}
+use Rattle.std.specs.Prelude.{◌≡◌, ℕ, List, not, cond, false, ◌+◌, ◌-◌}
 use Rattle.std.specs.List.{sum_by}
 use Rattle.gix_base.specs.declared.hash.ObjectId.{ObjectId}
 use Rattle.gix_revwalk.specs.History.{same_id}
@@ -19,6 +19,12 @@ unstale m q = sum_by (λ x. level (not (m x).stale)) q
 pub record Counts (m : ObjectId → MarkSet) (n : ObjectId → ℕ) (q : List ObjectId) (open_entries : ℕ) : Type 0 where
   pub unstale : open_entries ≡ unstale m q
   pub times : (c : ObjectId) → n c ≡ times c q
+
+-- unmet is how many of ids are not stale, and a commit that is not stale counts as queued as often as it
+-- stands in ids
+pub record CountsUnmet (m : ObjectId → MarkSet) (n : ObjectId → ℕ) (ids : List ObjectId) (unmet : ℕ) : Type 0 where
+  pub unstale : unmet ≡ unstale m ids
+  pub times : (c : ObjectId) → (m c).stale ≡ false → n c ≡ times c ids
 
 -- the count once one entry more is queued, of a commit that had a and has the marks w now
 abbrev pub open_then : ℕ → Mark Flags → Flags → ℕ

@@ -1,42 +1,20 @@
 -- How an octopus goes from head to head: with each head it follows every base that it has.
-use Rattle.std.specs.Prelude.{◌≡◌, ◌↔◌, ◌⊎◌, List, [], ◌∷◌, IsTrue, MatchBool, MatchOption, Option}
+use Rattle.std.specs.Prelude.{◌≡◌, ◌↔◌, List, ◌∷◌, IsTrue, MatchOption, Option}
 use Rattle.std.specs.Ordering.{is_gt}
 use Rattle.gix_base.specs.declared.hash.ObjectId.{ObjectId}
 use Rattle.gix_revwalk.specs.History.{History, Has, is_one_of, IsAncestor, IsAncestorOfOne, IsAncestorOfAll, GenerationsNeverRise}
-use Rattle.gix_merge_base.specs.Bases.{IsCommon, IsMaximal, is_trivial}
+use Rattle.gix_merge_base.specs.Bases.{IsCommon, IsMaximal}
 use Rattle.gix_merge_base.specs.Keys.{choice}
-use Rattle.gix_merge_base.specs.Reducing.{IsIndependent}
-
--- c may be answered for b and o: it is b where they are equal, else it is common to both
-abbrev pub IsCommonWith : History → ObjectId → ObjectId → ObjectId → Type 0
-IsCommonWith h b o c = MatchBool (is_trivial b (o ∷ [])) (c ≡ b) (IsCommon h b (o ∷ []) c)
-
--- ys is xs and ids common to b and o, below which lies all that is below both
-pub record AddsBases (h : History) (b o : ObjectId) (xs ys : List ObjectId) : Type 0 where
-  pub kept : (c : ObjectId) → IsTrue (is_one_of xs c) → IsTrue (is_one_of ys c)
-  pub from : (c : ObjectId) → IsTrue (is_one_of ys c) → IsTrue (is_one_of xs c) ⊎ IsCommonWith h b o c
-  pub below : (c : ObjectId) → IsAncestor h b c → IsAncestor h o c → IsAncestorOfOne h ys c
-
--- ys are common to some of bs and o, and below them lies all that is below one of bs and below o
-pub record CoversEach (h : History) (bs : List ObjectId) (o : ObjectId) (ys : List ObjectId) : Type 0 where
-  pub from : (c : ObjectId) → IsTrue (is_one_of ys c) → (b : ObjectId) × IsTrue (is_one_of bs b) × IsCommonWith h b o c
-  pub below : (c : ObjectId) → IsAncestorOfOne h bs c → IsAncestor h o c → IsAncestorOfOne h ys c
 
 -- no one of ids is reached from another
 abbrev pub AreApart : History → List ObjectId → Type 0
 AreApart h ids = (c d : ObjectId) → IsTrue (is_one_of ids c) → IsTrue (is_one_of ids d) → IsAncestor h c d → c ≡ d
 
--- kept are some of ids, with each that no other one reaches, and these alone where no parent's
--- generation exceeds its child's
-pub record IsReduced (h : History) (ids kept : List ObjectId) : Type 0 where
-  pub some : (c : ObjectId) → IsTrue (is_one_of kept c) → IsTrue (is_one_of ids c)
-  pub every : (c : ObjectId) → IsIndependent h ids c → IsTrue (is_one_of kept c)
-  pub alone : GenerationsNeverRise h → (c : ObjectId) → IsTrue (is_one_of kept c) → IsIndependent h ids c
-
--- ys are common to some of bs and o, below them lies what is below one of bs and below o,
--- and no one of them is reached from another where no parent's generation exceeds its child's
+-- ys are ancestors of o below one of bs, all of these ancestors lie below them, and no one of them is
+-- reached from another where no parent's generation exceeds its child's
 pub record IsStep (h : History) (bs : List ObjectId) (o : ObjectId) (ys : List ObjectId) : Type 0 where
-  pub covers : CoversEach h bs o ys
+  pub common : (c : ObjectId) → IsTrue (is_one_of ys c) → IsCommon h o bs c
+  pub below : (c : ObjectId) → IsCommon h o bs c → IsAncestorOfOne h ys c
   pub apart : GenerationsNeverRise h → AreApart h ys
 
 -- ids are ancestors common to f and all of os, all of these ancestors lie below them, and as a set

@@ -1,8 +1,14 @@
 -- The steps of the reduction.
 use Rattle.std.specs.Prelude.{◌≡◌, ◌⊎◌, ◌<◌, ◌≤◌, ℕ, List, [], IsTrue, false}
-use Rattle.gix_revwalk.specs.History.{History, Has, IsEdge, IsAncestor, is_one_of, generation_of}
-use Rattle.gix_merge_base.specs.Marks.{MarkSet, marks_in}
+use Rattle.std.specs.List.{All, AllWithin}
+use Rattle.std.specs.List.Sorted.{IsNonDecreasingBy}
 use Rattle.gix_base.specs.declared.hash.ObjectId.{ObjectId}
+use Rattle.gix_revwalk.specs.History.{History, Has, IsEdge, IsAncestor, is_one_of, generation_of}
+use Rattle.gix_revwalk.specs.Graph.{Graphed, held_len}
+use Rattle.gix_revwalk.specs.Number.{place_in}
+use Rattle.gix_revwalk.specs.declared.numbers.Number.{Number}
+use Rattle.gix_merge_base.specs.Marks.{MarkSet, marks_in}
+use Rattle.gix_merge_base.specs.PaintQueue.{id_at}
 
 -- between two pops of the reduction
 pub record Reducing (h : History) (ids : List ObjectId) (m : ObjectId → MarkSet) (q : List ObjectId) : Type 0 where
@@ -23,16 +29,24 @@ Alike ids m = (a b : ObjectId) → IsTrue (is_one_of ids a) → (m a).stale ≡ 
 abbrev pub Reduced : History → List ObjectId → (ObjectId → MarkSet) → Type 0
 Reduced h ids m = Reducing h ids m [] ⊎ ((q : List ObjectId) × Reducing h ids m q × Alike ids m)
 
--- n has the marks of m, but for those of results
-abbrev pub SameMarks : (ObjectId → MarkSet) → (ObjectId → MarkSet) → Type 0
-SameMarks m n = (c : ObjectId) → ((n c).one ≡ (m c).one) × ((n c).two ≡ (m c).two) × ((n c).stale ≡ (m c).stale)
-
--- nothing is marked, but as a result
+-- nothing is marked
 abbrev pub Unmarked : (ObjectId → MarkSet) → Type 0
 Unmarked m = (c : ObjectId) → ((m c).one ≡ false) × ((m c).two ≡ false) × ((m c).stale ≡ false)
 
--- of the ids that were not met there is at most one where `unmet` says so, and none has a generation
--- below `bound`
-pub record IsSurvey (h : History) (ids : List ObjectId) (m : ObjectId → MarkSet) (unmet bound : ℕ) : Type 0 where
-  pub alike : unmet ≤ 1 → Alike ids m
+-- a generation and a number of the graph whose commit has it
+abbrev pub IsRanked : {S T : Type 0} → History → Graphed S T → ℕ × Number → Type 0
+IsRanked h g p = (place_in p.1 < held_len g) × (p.0 ≡ generation_of h (id_at g (place_in p.1)))
+
+-- ps are numbers of the graph by rising generation, each beside that of its commit
+pub record IsOrder {S T : Type 0} (h : History) (g : Graphed S T) (ps : List (ℕ × Number)) : Type 0 where
+  pub ranked : All (IsRanked h g) ps
+  pub rising : IsNonDecreasingBy (λ p. p.0) ps
+
+-- all of ids before the place were met
+abbrev pub AreMetBefore : (ObjectId → MarkSet) → List ObjectId → ℕ → Type 0
+AreMetBefore m ids place = AllWithin (λ c. IsTrue (m c).stale) ids 0 place
+
+-- all of ids before the place were met, and none that was not has a generation below `bound`
+pub record IsLeft (h : History) (m : ObjectId → MarkSet) (ids : List ObjectId) (place bound : ℕ) : Type 0 where
+  pub before : AreMetBefore m ids place
   pub least : (r : ObjectId) → IsTrue (is_one_of ids r) → (m r).stale ≡ false → bound ≤ generation_of h r

@@ -10,7 +10,7 @@
 //! ```
 
 use crate::faults::{first_lost, first_wrong};
-use crate::histories::{CRISS_CROSS, Row};
+use crate::histories::{CRISS_CROSS, OLDER_CHILD, Row};
 use crate::questions::Call::Octopus;
 use crate::questions::Question;
 use std::test::Fail;
@@ -73,6 +73,14 @@ const ALL_EQUAL: [Row<'static>; 4] = [
     FOURTH,
 ];
 
+/// [1] and [2] have a parent that the source lacks, and so have the two merges of [1].
+const PARENT_LACKED: [Row<'static>; 4] = [
+    Row(1, 1, None, &[9]),
+    Row(2, 1, None, &[9]),
+    Row(3, 2, None, &[9, 1]),
+    Row(4, 2, None, &[1, 9]),
+];
+
 /// All ids are equal, so nothing is looked up.
 static TRIVIAL: [Question; 4] = [
     Question(Octopus, &CRISS_CROSS, 4, &[4, 4], &[4]),
@@ -81,7 +89,7 @@ static TRIVIAL: [Question; 4] = [
     Question(Octopus, &CRISS_CROSS, 9, &[], &[9]),
 ];
 
-static WORKED: [Question; 16] = [
+static WORKED: [Question; 22] = [
     Question(Octopus, &CRISS_CROSS, 4, &[5], &[2]),
     Question(Octopus, &CRISS_CROSS, 4, &[5, 4], &[2]),
     Question(Octopus, &YOUNGER_THIRD, 4, &[5], &[3]),
@@ -100,14 +108,25 @@ static WORKED: [Question; 16] = [
     Question(Octopus, &ABSENT_IS_GREATEST, 3, &[4], &[1]),
     Question(Octopus, &TIMES_FALL, 3, &[4], &[1]),
     Question(Octopus, &ALL_EQUAL, 3, &[4], &[1]),
+    // Heads that come again, and one that is among the bases of the others.
+    Question(Octopus, &THREE_HEADS, 5, &[3, 3, 5, 4, 3], &[2]),
+    Question(Octopus, &CRISS_CROSS, 4, &[5, 3], &[3]),
+    Question(Octopus, &CRISS_CROSS, 3, &[5, 4, 3], &[3]),
+    // Heads in a chain, also where times rise along it, and bases in one.
+    Question(Octopus, &CRISS_CROSS, 1, &[2, 4], &[1]),
+    Question(Octopus, &OLDER_CHILD, 1, &[3, 2], &[1]),
+    Question(Octopus, &OLDER_CHILD, 3, &[4], &[2]),
 ];
 
-/// One of the ids is not in the source.
-static LACKED: [Question; 4] = [
+/// One of the ids is not in the source, or a parent that they have in common is not.
+static LACKED: [Question; 7] = [
     Question(Octopus, &CRISS_CROSS, 4, &[9], &[]),
     Question(Octopus, &CRISS_CROSS, 9, &[4], &[]),
     Question(Octopus, &CRISS_CROSS, 9, &[9, 4], &[]),
     Question(Octopus, &CRISS_CROSS, 4, &[4, 9, 5], &[]),
+    Question(Octopus, &THREE_HEADS, 1, &[2, 9], &[]),
+    Question(Octopus, &PARENT_LACKED, 1, &[2], &[]),
+    Question(Octopus, &PARENT_LACKED, 3, &[4], &[1]),
 ];
 
 #[test]

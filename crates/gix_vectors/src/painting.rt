@@ -37,6 +37,15 @@ const BY_GENERATION: [Row<'static>; 5] = [
     Row(5, 4, Some(4), &[2, 3]),
 ];
 
+/// The line with its generations.
+const NEAR_BY_GENERATION: [Row<'static>; 5] = [
+    Row(1, 1, Some(1), &[]),
+    Row(2, 2, Some(2), &[1]),
+    Row(3, 3, Some(3), &[2]),
+    Row(4, 4, Some(4), &[3]),
+    Row(5, 4, Some(4), &[3]),
+];
+
 /// Between 3 and 1, which are found as common ones, lies 2, which is older than both; a third one has
 /// a greater generation.
 const SKEWED: [Row<'static>; 6] = [
@@ -129,12 +138,22 @@ fn painting_and_reduction_by_themselves(rt: HostRuntime) -> Result<(), Fail> {
 }
 
 /// Each call by itself, where each look-up and each request for memory is refused in turn.
-static HOSTILE: [Question; 5] = [
+static HOSTILE: [Question; 13] = [
     Question(Counted, &CRISS_CROSS, 4, &[5], &[2, 3]),
     Question(Counted, &SKEWED, 5, &[6], &[4, 3]),
     Question(Paint, &CRISS_CROSS, 4, &[5], &[2, 3]),
     Question(Paint, &OLDER_CHILD, 3, &[4], &[1, 2]),
     Question(Reduce, &OLDER_CHILD, 9, &[1, 2, 9], &[2, 9]),
+    // The ends of a line, all of it, and two of one generation with one below both.
+    Question(Reduce, &NEAR, 9, &[1, 4], &[4]),
+    Question(Reduce, &NEAR, 9, &[2, 4, 1, 3, 4], &[4]),
+    Question(Reduce, &NEAR, 9, &[5, 2, 4], &[5, 4]),
+    Question(Reduce, &NEAR_BY_GENERATION, 9, &[1, 4], &[4]),
+    Question(Reduce, &NEAR_BY_GENERATION, 9, &[2, 4, 1, 3, 4], &[4]),
+    Question(Reduce, &NEAR_BY_GENERATION, 9, &[5, 2, 4], &[5, 4]),
+    // One generation for a line, and a greater one for a root.
+    Question(Reduce, &SKEWED, 9, &[1, 4, 3], &[4, 3]),
+    Question(Reduce, &SKEWED, 9, &[4, 2, 6, 5], &[6, 5]),
 ];
 
 #[test]

@@ -48,7 +48,7 @@ impl Flags {
     }
 
     /// Whether it was found as a common ancestor.
-    pub(crate) fn is_result(self) -> bool
+    fn is_result(self) -> bool
         ensures { result ≡ (marks_of self).result }
     {
         self.contains(Flags::RESULT)

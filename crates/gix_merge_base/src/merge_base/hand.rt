@@ -1,4 +1,6 @@
-//! Handing marks to commits, by their numbers, with a count of the entries that are not stale.
+//! Handing marks to commits, by their numbers, with a count of the entries that are not stale. The
+//! reduction, which hands on that mark alone, has it count the ids that are not stale: each of them
+//! counts as queued once, without an entry.
 
 ghost use Rattle.std.specs.Prelude.{◌≡◌, ◌<◌, ◌≤◌, ◌-◌, ◌^◌, ◌∷◌, [], List, Some, IsTrue, OnOk, IfOk, IfSome, IsNone, IsSome, cond, Ok, Err, not};
 ghost use Rattle.std.specs.List.Sorted.{IsPermutation};
@@ -12,7 +14,7 @@ ghost use Rattle.gix_merge_base.specs.Marks.{marks_of, joined, handed_on};
 ghost use Rattle.gix_revwalk.specs.Faults.{count_after, is_source_fault};
 ghost use Rattle.gix_revwalk.specs.Walks.{HoldsMore};
 ghost use Rattle.gix_merge_base.specs.Keys.{KeyAtMost};
-ghost use Rattle.gix_merge_base.specs.Counting.{Counts, open_then, unstale};
+ghost use Rattle.gix_merge_base.specs.Counting.{Counts, CountsUnmet, open_then, unstale};
 ghost use Rattle.gix_merge_base.specs.PaintQueue.{marks_at, queued_at, queued_ids, id_at, ids_at, AreIn, AreHeld, Keyed, mark_or};
 
 use crate::merge_base::flags::Flags;
@@ -69,6 +71,9 @@ pub(crate) fn enter<S: Find, A: Allocator + Copy>(
     requires had { old ≡ mark_or graph.old (id_at graph.old (place_in number)) }
     ensures counts { OnOk result (Counts (marks_at graph.old) (queued_at graph.old) (queued_ids graph.old queue.old) open_entries.old
         → Counts (marks_at graph.new) (queued_at graph.new) (queued_ids graph.new queue.new) open_entries.new) }
+    ensures unmet { OnOk result (IsTrue (marks_of marks).stale → (ids : List ObjectId)
+        → CountsUnmet (marks_at graph.old) (queued_at graph.old) ids open_entries.old
+        → CountsUnmet (marks_at graph.new) (queued_at graph.new) ids open_entries.new) }
     ensures gives { OnOk result ((c : ObjectId) → marks_at graph.new c ≡ cond (same_id (id_at graph.old (place_in number)) c) (joined (marks_of marks) (marks_at graph.old c)) (marks_at graph.old c)) }
     ensures queued { OnOk result (IsPermutation (id_at graph.old (place_in number) ∷ queued_ids graph.old queue.old) (queued_ids graph.new queue.new)) }
     ensures valid { OnOk result (AreHeld graph.old queue.old → AreHeld graph.new queue.new) }
@@ -105,6 +110,9 @@ pub(crate) fn hand<S: Find, A: Allocator + Copy>(
     requires { place_in number < held_len graph.old }
     ensures counts { OnOk result (Counts (marks_at graph.old) (queued_at graph.old) (queued_ids graph.old queue.old) open_entries.old
         → Counts (marks_at graph.new) (queued_at graph.new) (queued_ids graph.new queue.new) open_entries.new) }
+    ensures unmet { OnOk result (IsTrue (marks_of marks).stale → (ids : List ObjectId)
+        → CountsUnmet (marks_at graph.old) (queued_at graph.old) ids open_entries.old
+        → CountsUnmet (marks_at graph.new) (queued_at graph.new) ids open_entries.new) }
     ensures handed { OnOk result (Has (S.history graph.old.source) (id_at graph.old (place_in number))
         → Hands (S.history graph.old.source) (marks_of marks) (id_at graph.old (place_in number) ∷ []) (marks_at graph.old) (queued_ids graph.old queue.old) (marks_at graph.new) (queued_ids graph.new queue.new)) }
     ensures valid { OnOk result (AreHeld graph.old queue.old → AreHeld graph.new queue.new) }
@@ -131,6 +139,9 @@ pub(crate) fn hand_all<S: Find, A: Allocator + Copy>(
     requires { AreIn graph.old numbers.now }
     ensures counts { OnOk result (Counts (marks_at graph.old) (queued_at graph.old) (queued_ids graph.old queue.old) open_entries.old
         → Counts (marks_at graph.new) (queued_at graph.new) (queued_ids graph.new queue.new) open_entries.new) }
+    ensures unmet { OnOk result (IsTrue (marks_of marks).stale → (ids : List ObjectId)
+        → CountsUnmet (marks_at graph.old) (queued_at graph.old) ids open_entries.old
+        → CountsUnmet (marks_at graph.new) (queued_at graph.new) ids open_entries.new) }
     ensures handed { OnOk result (((c : ObjectId) → IsTrue (is_one_of (ids_at graph.old numbers.now) c) → Has (S.history graph.old.source) c)
         → Hands (S.history graph.old.source) (marks_of marks) (ids_at graph.old numbers.now) (marks_at graph.old) (queued_ids graph.old queue.old) (marks_at graph.new) (queued_ids graph.new queue.new)) }
     ensures valid { OnOk result (AreHeld graph.old queue.old → AreHeld graph.new queue.new) }
@@ -207,6 +218,9 @@ pub(crate) fn hand_parents<S: Find, A: Allocator + Copy>(
     requires valid { AreHeld graph.old queue.old }
     ensures counts { OnOk result (Counts (marks_at graph.old) (queued_at graph.old) (queued_ids graph.old queue.old) open_entries.old
         → Counts (marks_at graph.new) (queued_at graph.new) (queued_ids graph.new queue.new) open_entries.new) }
+    ensures unmet { OnOk result (IsTrue (marks_of marks).stale → (ids : List ObjectId)
+        → CountsUnmet (marks_at graph.old) (queued_at graph.old) ids open_entries.old
+        → CountsUnmet (marks_at graph.new) (queued_at graph.new) ids open_entries.new) }
     ensures handed { OnOk result (Hands (S.history graph.old.source) (marks_of marks)
         (parents_in (entry_at (S.history graph.old.source) (id_at graph.old (place_in number))))
         (marks_at graph.old) (queued_ids graph.old queue.old) (marks_at graph.new) (queued_ids graph.new queue.new)) }

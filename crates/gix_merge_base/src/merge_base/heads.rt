@@ -1,24 +1,21 @@
 //! The best commit that all of several heads go back to.
 
-ghost use Rattle.std.specs.Prelude.{◌≡◌, Some, IfOk, OnOk, Ok, IfErr, IsTrue, false};
+ghost use Rattle.std.specs.Prelude.{◌≡◌, ◌∷◌, Some, IfOk, Ok, IfErr, IsTrue, false};
 ghost use Rattle.std.specs.List.{list_all};
-ghost use Rattle.gix_revwalk.specs.History.{same_id, IsAcyclic, GenerationsNeverRise};
+ghost use Rattle.gix_base.specs.declared.hash.ObjectId.{ObjectId};
+ghost use Rattle.gix_revwalk.specs.History.{same_id, is_one_of, Has, IsAcyclic, GenerationsNeverRise};
 ghost use Rattle.gix_revwalk.specs.Faults.{count_after};
-ghost use Rattle.gix_revwalk.specs.Walks.{all_added};
 ghost use Rattle.gix_revwalk.specs.Graph.{KeepsHeld};
-ghost use Rattle.gix_merge_base.specs.Bases.{ids_of};
 ghost use Rattle.gix_merge_base.specs.Octopus.{IsOctopusBase, IsCommonToAll};
-ghost use Rattle.gix_merge_base.specs.OctopusSteps.{AddsBases, CoversEach, IsStep};
-ghost use Rattle.gix_merge_base.specs.OctopusSteps.{AreOctopusBases, IsBestOf};
+ghost use Rattle.gix_merge_base.specs.OctopusSteps.{IsStep, AreOctopusBases, IsBestOf};
+ghost use Rattle.gix_merge_base.specs.Reducing.{firsts};
 ghost use Rattle.gix_merge_base.specs.Refusals.{HasInsertText, is_source_fault};
 ghost use Rattle.gix_merge_base.specs.AfterCall.{AfterCall};
 
+use crate::merge_base::bases::{best, stands_in};
 use crate::merge_base::error::Error;
 use crate::merge_base::flags::Flags;
-use crate::merge_base::function::merge_base;
-use crate::merge_base::order::{Candidate, candidate_of};
-use crate::merge_base::reduction::reduce;
-use gix_base::error::NonEmpty;
+use crate::merge_base::order::{Candidate, candidate_of, in_order};
 use gix_base::hash::ObjectId;
 use gix_revwalk::graph::{Commit, Find, Graph};
 use gix_revwalk::seen::Seen;
@@ -32,53 +29,18 @@ fn all_are(ids: &[ObjectId], id: ObjectId) -> bool
     ids.iter().all(|other| id == *other)
 }
 
-/// Adds the ids that a call of [`merge_base`] found.
-fn add_found<A: Allocator + Copy>(
-    found: &Option<NonEmpty<ObjectId, A>>,
-    all: &mut Seen<A>,
-) -> Result<(), AllocError>
-    ensures { OnOk result (all.new ≡ all_added all.old (ids_of found.now)) }
-{
-    if let Some(ids) = found {
-        all.add(ids.head)?;
-        all.add_all(&ids.tail)?;
-    }
-    Ok(())
-}
-
-/// Adds the bases of `base` and `other` to `all`.
-fn add_bases<S: Find, A: Allocator + Copy>(
+/// Each of `first` and `others` once.
+fn distinct<A: Allocator + Copy>(
     alloc: A,
-    base: ObjectId,
-    other: ObjectId,
-    all: &mut Seen<A>,
-    graph: &mut Graph<S, Commit<Flags, A>, A>,
-) -> Result<(), Error>
-    ensures added { IsAcyclic (S.history graph.old.source)
-        → OnOk result (AddsBases (S.history graph.old.source) base other all.old all.new) }
-    ensures after { AfterCall S.history S.fault_count graph.old graph.new result }
+    first: ObjectId,
+    others: &[ObjectId],
+) -> Result<Vec<ObjectId, A>, AllocError>
+    ensures { IfOk result (λ heads. heads.items ≡ firsts (first ∷ others.now)) }
 {
-    let found = merge_base(alloc, base, &[other], graph)?;
-    add_found(&found, all)?;
-    Ok(())
-}
-
-/// The bases of each of `bases` with `other`.
-fn bases_with<S: Find, A: Allocator + Copy>(
-    alloc: A,
-    bases: &[ObjectId],
-    other: ObjectId,
-    graph: &mut Graph<S, Commit<Flags, A>, A>,
-) -> Result<Seen<A>, Error>
-    ensures all { IsAcyclic (S.history graph.old.source)
-        → IfOk result (CoversEach (S.history graph.old.source) bases.now other) }
-    ensures after { AfterCall S.history S.fault_count graph.old graph.new result }
-{
-    let mut all = Seen::new(alloc);
-    for base in bases {
-        add_bases(alloc, *base, other, &mut all, graph)?;
-    }
-    Ok(all)
+    let mut heads = Seen::new(alloc);
+    heads.add(first)?;
+    heads.add_all(others)?;
+    Ok(heads.into_vec())
 }
 
 /// The one of `ids` that is chosen before all others; `None` where the source has none of them.
@@ -100,32 +62,39 @@ fn best_of<S: Find, A: Allocator + Copy>(
     }
 }
 
-/// What is left of `bases` with one head more: their bases with it that no other one reaches.
+/// What is left of `bases` with one head more, which the source has: the best of its ancestors that
+/// lie below one of them.
 fn step<S: Find, A: Allocator + Copy>(
     alloc: A,
     bases: &[ObjectId],
-    other: ObjectId,
+    head: ObjectId,
     graph: &mut Graph<S, Commit<Flags, A>, A>,
 ) -> Result<Vec<ObjectId, A>, Error>
-    ensures step { IsAcyclic (S.history graph.old.source)
-        → IfOk result (λ left. IsStep (S.history graph.old.source) bases.now other left.items) }
+    ensures step { IsAcyclic (S.history graph.old.source) → Has (S.history graph.old.source) head
+        → IfOk result (λ left. IsStep (S.history graph.old.source) bases.now head left.items) }
     ensures after { AfterCall S.history S.fault_count graph.old graph.new result }
 {
-    let found = bases_with(alloc, bases, other, graph)?;
-    let left = reduce(alloc, found.as_slice(), graph)?;
+    if bases.is_empty() {
+        return Ok(Vec::new(alloc));
+    }
+    if stands_in(bases, head) {
+        let alone = [head].to_vec(alloc)?;
+        return Ok(alone);
+    }
+    let (left, _pops) = best(alloc, head, bases, graph)?;
     Ok(left)
 }
 
-/// Ancestors common to `first` and all of `others`, with all maximal ones, and these alone where no
-/// parent has a greater generation than its child.
-fn octopus_bases<S: Find, A: Allocator + Copy>(
+/// Goes from head to head, of which the source has each: as [`octopus_bases`], in the order given.
+fn steps<S: Find, A: Allocator + Copy>(
     alloc: A,
     first: ObjectId,
     others: &[ObjectId],
     graph: &mut Graph<S, Commit<Flags, A>, A>,
 ) -> Result<Vec<ObjectId, A>, Error>
     ensures bases { IsAcyclic (S.history graph.old.source)
-        → list_all (same_id first) others.now ≡ false
+        → ((c : ObjectId) → IsTrue (is_one_of (first ∷ others.now) c)
+        → Has (S.history graph.old.source) c)
         → IfOk result (λ left.
         AreOctopusBases (S.history graph.old.source) first others.now left.items) }
     ensures after { AfterCall S.history S.fault_count graph.old graph.new result }
@@ -135,6 +104,29 @@ fn octopus_bases<S: Find, A: Allocator + Copy>(
         left = step(alloc, &left, *other, graph)?;
     }
     Ok(left)
+}
+
+/// Ancestors common to `first` and all of `others`, with all maximal ones, and these alone where no
+/// parent has a greater generation than its child. Each head is looked up, and then followed once at
+/// most, the newest first: along a chain each walk goes on where the one before it ended.
+fn octopus_bases<S: Find, A: Allocator + Copy>(
+    alloc: A,
+    first: ObjectId,
+    others: &[ObjectId],
+    graph: &mut Graph<S, Commit<Flags, A>, A>,
+) -> Result<Vec<ObjectId, A>, Error>
+    ensures bases { IsAcyclic (S.history graph.old.source) → IfOk result (λ left.
+        AreOctopusBases (S.history graph.old.source) first others.now left.items) }
+    ensures after { AfterCall S.history S.fault_count graph.old graph.new result }
+{
+    let heads = distinct(alloc, first, others)?;
+    let known = in_order(alloc, &heads, graph)?;
+    if known.len() < heads.len() {
+        return Ok(Vec::new(alloc));
+    }
+    // At its own step the newest is the only base, which costs no walk.
+    let newest = known[0];
+    steps(alloc, newest, &known, graph)
 }
 
 /// The octopus base of `first` and `others` together: git-merge-base, "--octopus".

@@ -1,19 +1,20 @@
 //! The reduction of ids to those that cannot be reached from any other of them.
 
-ghost use Rattle.std.specs.Prelude.{◌≡◌, ◌<◌, ◌++◌, ◌∷◌, [], is_some, ◌↔◌, IsTrue, OnOk, IfOk, IfErr};
+ghost use Rattle.std.specs.Prelude.{◌≡◌, ◌++◌, ◌∷◌, [], length, is_some, ◌↔◌, IsTrue, OnOk, IfOk, IfErr};
+ghost use Rattle.std.specs.List.Sorted.{IsPermutation};
 ghost use Rattle.std.specs.List.{filter};
 ghost use Rattle.gix_base.specs.declared.hash.ObjectId.{ObjectId};
-ghost use Rattle.gix_revwalk.specs.Graph.{held_len, KeepsHeld};
-ghost use Rattle.gix_revwalk.specs.Number.{place_in};
+ghost use Rattle.gix_revwalk.specs.Graph.{KeepsHeld};
 ghost use Rattle.gix_revwalk.specs.History.{IsAcyclic, is_one_of, entry_at, GenerationsNeverRise};
 ghost use Rattle.gix_revwalk.specs.Walks.{parents_of_all};
 ghost use Rattle.gix_revwalk.specs.Faults.{count_after};
 ghost use Rattle.gix_merge_base.specs.AfterCall.{AfterCall};
 ghost use Rattle.gix_merge_base.specs.Marks.{met};
-ghost use Rattle.gix_merge_base.specs.PaintQueue.{marks_at, queued_ids, ids_at, AreIn, AreHeld, Keyed};
+ghost use Rattle.gix_merge_base.specs.PaintQueue.{marks_at, queued_at, queued_ids, ids_at, AreIn, AreHeld, Keyed};
+ghost use Rattle.gix_merge_base.specs.Counting.{times, CountsUnmet};
 ghost use Rattle.gix_merge_base.specs.PaintSteps.{Hands};
 ghost use Rattle.gix_merge_base.specs.Reducing.{firsts, IsIndependent, SomeOf};
-ghost use Rattle.gix_merge_base.specs.ReduceSteps.{SameMarks, Unmarked, IsSurvey, Reducing, Reduced};
+ghost use Rattle.gix_merge_base.specs.ReduceSteps.{Unmarked, IsOrder, AreMetBefore, IsLeft, Reducing, Reduced};
 ghost use Rattle.gix_merge_base.specs.Refusals.{HasInsertText, is_source_fault};
 
 use crate::merge_base::error::{Error, commit_refused, parent_refused};
@@ -28,7 +29,7 @@ use gix_revwalk::queue::PriorityQueue;
 use gix_revwalk::seen::Seen;
 use std::alloc::{AllocError, Allocator};
 
-/// The mark of what the reduction has met. That of a result is the mark of the ids themselves.
+/// The mark of what the reduction has met.
 const MET: Flags = Flags::STALE;
 
 /// Each id once, in the order of first places.
@@ -40,7 +41,7 @@ fn gather<A: Allocator + Copy>(alloc: A, ids: &[ObjectId]) -> Result<Vec<ObjectI
     Ok(seen.into_vec())
 }
 
-/// Marks one of the ids, and puts its number at the end, where the source has it.
+/// Puts the number of one of the ids at the end, where the source has it, and counts it as queued.
 fn list_one<S: Find, A: Allocator + Copy>(
     alloc: A,
     id: ObjectId,
@@ -51,7 +52,10 @@ fn list_one<S: Find, A: Allocator + Copy>(
         → AreIn graph.new numbers.new.items × (ids_at graph.new numbers.new.items
         ≡ ids_at graph.old numbers.old.items
         ++ filter (λ p. is_some (entry_at (S.history graph.old.source) p)) (id ∷ []))) }
-    ensures marks { OnOk result (SameMarks (marks_at graph.old) (marks_at graph.new)) }
+    ensures marks { OnOk result ((c : ObjectId) → marks_at graph.new c ≡ marks_at graph.old c) }
+    ensures counted { OnOk result (AreIn graph.old numbers.old.items
+        → ((c : ObjectId) → queued_at graph.old c ≡ times c (ids_at graph.old numbers.old.items))
+        → (c : ObjectId) → queued_at graph.new c ≡ times c (ids_at graph.new numbers.new.items)) }
     ensures after { AfterCall S.history S.fault_count graph.old graph.new result }
 {
     let number = match numbers::take(graph, alloc, id, Flags::empty()) {
@@ -64,18 +68,16 @@ fn list_one<S: Find, A: Allocator + Copy>(
         Err(_) => return Err(Error::OutOfMemory),
     }
     let old = mark_of(graph, number);
-    numbers::set_mark(
-        graph,
-        number,
-        Mark {
-            marks: old.marks.noted(),
-            queued: old.queued,
-        },
-    );
+    // The count cannot be full before memory is.
+    let Some(queued) = old.queued.checked_add(1) else {
+        return Err(Error::OutOfMemory);
+    };
+    numbers::set_mark(graph, number, Mark { queued, ..old });
     Ok(())
 }
 
-/// Begins a walk, and marks the ids that the source has. Their numbers, in order.
+/// Begins a walk. The numbers of the ids that the source has, in order. Each counts as queued once, so
+/// that a count of those that were not met is kept where marks are handed on.
 fn list<S: Find, A: Allocator + Copy>(
     alloc: A,
     ids: &[ObjectId],
@@ -85,6 +87,8 @@ fn list<S: Find, A: Allocator + Copy>(
     ensures ids { IfOk result (λ ns. ids_at graph.new ns.items
         ≡ filter (λ p. is_some (entry_at (S.history graph.old.source) p)) ids.now) }
     ensures unmarked { OnOk result (Unmarked (marks_at graph.new)) }
+    ensures unmet { IfOk result (λ ns. CountsUnmet (marks_at graph.new) (queued_at graph.new)
+        (ids_at graph.new ns.items) (length ns.items)) }
     ensures after { AfterCall S.history S.fault_count graph.old graph.new result }
 {
     numbers::begin_walk(graph);
@@ -100,136 +104,122 @@ fn meet_parents<S: Find, A: Allocator + Copy>(
     alloc: A,
     numbers: &[Number],
     queue: &mut PriorityQueue<GenThenTime, Number, A>,
+    unmet: &mut usize,
     graph: &mut Graph<S, Commit<Flags, A>, A>,
 ) -> Result<(), Error>
     requires inside { AreIn graph.old numbers.now }
     requires empty { queue.old ≡ [] }
+    requires unmet { CountsUnmet (marks_at graph.old) (queued_at graph.old)
+        (ids_at graph.old numbers.now) unmet.old }
     ensures handed { OnOk result (Hands (S.history graph.old.source) met
         (parents_of_all (S.history graph.old.source) (ids_at graph.old numbers.now))
         (marks_at graph.old) [] (marks_at graph.new) (queued_ids graph.new queue.new)) }
     ensures same { OnOk result (AreIn graph.new numbers.now
         × (ids_at graph.new numbers.now ≡ ids_at graph.old numbers.now)) }
+    ensures unmet { OnOk result (CountsUnmet (marks_at graph.new) (queued_at graph.new)
+        (ids_at graph.old numbers.now) unmet.new) }
     ensures valid { OnOk result (AreHeld graph.new queue.new) }
     ensures keyed { OnOk result (Keyed (S.history graph.old.source) graph.new queue.new) }
     ensures after { AfterCall S.history S.fault_count graph.old graph.new result }
 {
     let mut into = Vec::new(alloc);
-    let mut open_entries = 0usize;
     for number in numbers {
-        if let Err(error) = hand_parents(
-            alloc,
-            *number,
-            MET,
-            &mut into,
-            queue,
-            &mut open_entries,
-            graph,
-        ) {
+        if let Err(error) = hand_parents(alloc, *number, MET, &mut into, queue, unmet, graph) {
             return Err(parent_refused(error));
         }
     }
     Ok(())
 }
 
-/// What is left of the ids that are reduced.
-#[derive(Clone, Copy)]
-struct Left {
-    /// How many were not met.
-    unmet: usize,
-    /// The least generation of these; the greatest `u32` where there are none.
-    least: u32,
-    /// How many of the ids were popped since it was made.
-    popped: usize,
-}
-
-/// Looks which of the ids were not met yet.
-fn survey<S: Find, A: Allocator + Copy>(
+/// The numbers by rising generation, each beside that of its commit.
+fn by_generation<S: Find, A: Allocator + Copy>(
+    alloc: A,
     numbers: &[Number],
     graph: &Graph<S, Commit<Flags, A>, A>,
-) -> Left
+) -> Result<Vec<(u32, Number), A>, AllocError>
     requires { AreIn graph.now numbers.now }
-    ensures { IsSurvey (S.history graph.now.source) (ids_at graph.now numbers.now)
-        (marks_at graph.now) result.unmet result.least }
+    ensures order { IfOk result
+        (λ order. IsOrder (S.history graph.now.source) graph.now order.items) }
+    ensures ids { IfOk result (λ order. IsPermutation (ids_at graph.now numbers.now)
+        (queued_ids graph.now order.items)) }
 {
-    let mut unmet = 0usize;
-    let mut least = u32::MAX;
+    let mut order = Vec::new(alloc);
     for number in numbers {
-        if !mark_of(graph, *number).marks.is_stale() {
-            unmet += 1;
-            least = least.min(GenThenTime::from(numbers::value(graph, *number)).generation);
+        let generation = GenThenTime::from(numbers::value(graph, *number)).generation;
+        order.push((generation, *number))?;
+    }
+    order.sort_unstable_by_key(|pair| pair.0);
+    Ok(order)
+}
+
+/// The first by generation of the ids that were not met.
+#[derive(Clone, Copy)]
+struct Left {
+    /// Its place; past the end where all were met.
+    place: usize,
+    /// Its generation; the greatest `u32` where all were met.
+    least: u32,
+}
+
+/// Looks for the first that was not met, from a place on. All before it were met.
+fn left_from<S: Find, A: Allocator + Copy>(
+    place: usize,
+    order: &[(u32, Number)],
+    graph: &Graph<S, Commit<Flags, A>, A>,
+) -> Left
+    requires order { IsOrder (S.history graph.now.source) graph.now order.now }
+    requires before { AreMetBefore (marks_at graph.now) (queued_ids graph.now order.now) place }
+    ensures { IsLeft (S.history graph.now.source) (marks_at graph.now)
+        (queued_ids graph.now order.now) result.place result.least }
+{
+    for i in place..order.len() {
+        let (generation, number) = order[i];
+        if !mark_of(graph, number).marks.is_stale() {
+            return Left {
+                place: i,
+                least: generation,
+            };
         }
     }
     Left {
-        unmet,
-        least,
-        popped: 0,
+        place: order.len(),
+        least: u32::MAX,
     }
-}
-
-/// The survey after a pop. It is made anew once it may be that one of the ids is left, or that the
-/// least generation has risen, and so not at every pop.
-fn surveyed_again<S: Find, A: Allocator + Copy>(
-    left: Left,
-    generation: u32,
-    number: Number,
-    numbers: &[Number],
-    graph: &Graph<S, Commit<Flags, A>, A>,
-) -> Left
-    requires number { place_in number < held_len graph.now }
-    requires inside { AreIn graph.now numbers.now }
-    requires left { IsSurvey (S.history graph.now.source) (ids_at graph.now numbers.now)
-        (marks_at graph.now) left.unmet left.least }
-    ensures { IsSurvey (S.history graph.now.source) (ids_at graph.now numbers.now)
-        (marks_at graph.now) result.unmet result.least }
-{
-    if !mark_of(graph, number).marks.is_result() {
-        return left;
-    }
-    let popped = left.popped.saturating_add(1);
-    let may_rise = generation == left.least && generation < u32::MAX;
-    if may_rise || left.unmet.saturating_sub(popped) <= 1 {
-        return survey(numbers, graph);
-    }
-    Left { popped, ..left }
 }
 
 /// Meets what lies below the queued commits, but not below the least generation of the ids that were
-/// not met, and no more once one of these is left.
+/// not met, and no more once one of these is left. The place of the first of them only moves forward.
 fn meet<S: Find, A: Allocator + Copy>(
     alloc: A,
     numbers: &[Number],
     queue: &mut PriorityQueue<GenThenTime, Number, A>,
+    unmet: &mut usize,
     graph: &mut Graph<S, Commit<Flags, A>, A>,
 ) -> Result<(), Error>
     requires inside { AreIn graph.old numbers.now }
     requires begun { Reducing (S.history graph.old.source) (ids_at graph.old numbers.now)
         (marks_at graph.old) (queued_ids graph.old queue.old) }
+    requires unmet { CountsUnmet (marks_at graph.old) (queued_at graph.old)
+        (ids_at graph.old numbers.now) unmet.old }
     requires valid { AreHeld graph.old queue.old }
     requires keyed { Keyed (S.history graph.old.source) graph.old queue.old }
     ensures met { OnOk result (Reduced (S.history graph.old.source) (ids_at graph.old numbers.now)
         (marks_at graph.new)) }
     ensures after { AfterCall S.history S.fault_count graph.old graph.new result }
 {
+    let order = by_generation(alloc, numbers, graph)?;
+    let mut place = 0usize;
     let mut into = Vec::new(alloc);
-    let mut open_entries = 0usize;
-    let mut left = survey(numbers, graph);
     while let Some((key, number)) = queue.pop() {
-        left = surveyed_again(left, key.generation, number, numbers, graph);
-        if left.unmet <= 1 {
+        if *unmet <= 1 {
             return Ok(());
         }
+        let left = left_from(place, &order, graph);
+        place = left.place;
         if key.generation < left.least {
             continue;
         }
-        if let Err(error) = hand_parents(
-            alloc,
-            number,
-            MET,
-            &mut into,
-            queue,
-            &mut open_entries,
-            graph,
-        ) {
+        if let Err(error) = hand_parents(alloc, number, MET, &mut into, queue, unmet, graph) {
             return Err(parent_refused(error));
         }
     }
@@ -282,9 +272,10 @@ pub fn reduce<S: Find, A: Allocator + Copy>(
 {
     let mut left = gather(alloc, ids)?;
     let numbers = list(alloc, &left, graph)?;
+    let mut unmet = numbers.len();
     let mut queue = PriorityQueue::new(alloc);
-    meet_parents(alloc, &numbers, &mut queue, graph)?;
-    meet(alloc, &numbers, &mut queue, graph)?;
+    meet_parents(alloc, &numbers, &mut queue, &mut unmet, graph)?;
+    meet(alloc, &numbers, &mut queue, &mut unmet, graph)?;
     left.retain(|id| !is_met(id, graph));
     Ok(left)
 }

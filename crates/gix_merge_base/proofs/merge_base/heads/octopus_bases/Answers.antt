@@ -1,26 +1,44 @@
-use Rattle.std.proofs.Common.{◌≡◌, ◌<◌, ◌≤◌, ◌∷◌, [], length, arith}
-use Rattle.std.proofs.lemmas.List.{take_all}
-use Rattle.gix_merge_base.proofs.AfterCalls.{after_none, after_more, after_ok}
-use Rattle.gix_merge_base.proofs.Heads.{stand_first, stand_next, stand_last}
+use Rattle.std.proofs.Common.{◌≡◌, ◌∷◌, ◌<◌, ◌≤◌, length, get_or, sym, ap, subst, ◌∙◌, ◌↔◌, List, IsTrue, arith}
+use Rattle.std.proofs.lemmas.Result.{IfOk-weaker}
+use Rattle.gix_base.specs.declared.hash.ObjectId.{ObjectId}
+use Rattle.gix_revwalk.specs.History.{Has, is_one_of}
+use Rattle.gix_merge_base.specs.Reducing.{firsts}
+use Rattle.gix_merge_base.proofs.Heads.{nothing_common, some_head, found_has, same_heads}
+use Rattle.gix_merge_base.proofs.OctopusLaws.{bases_same}
+use Rattle.gix_merge_base.proofs.Reduction.{firsts_once}
 use Rattle.gix_merge_base.proofs.merge_base.heads.octopus_bases.Goals as goal
 
-pub loop-other-init : goal.loop-other-init
-loop-other-init g c =
-    let items : c.in_ok-left.left.items ≡ c.args.first ∷ [] = c.in_ok-left.ensures.items_if_clones_equal (λ x y same. same) in
-    record { stand = λ acyclic. rw items (stand_first _ c.args.first); after = after_none _ }
+pub returns-then-len-clause-bases : goal.returns-then-len-clause-bases
+returns-then-len-clause-bases g c acyclic =
+    let h = g.S.Find.history c.args.graph.now.source in
+    let known = rw (c.deref.ensures.value, c.in_ok-heads.ensures) at c.in_ok-known.ensures.same in
+    let once = rw (c.deref.ensures.value, c.in_ok-heads.ensures) at c.in_ok-known.ensures.once in
+    let heads = ap (λ (l : List ObjectId). length l) c.in_ok-heads.ensures in
+    let few : length c.in_ok-known.known.items < length (firsts (c.args.first ∷ c.args.others.now)) =
+    omega (arith, heads, c.if-len.true, c.len.ensures, c.len-2.ensures, c.in_ok-known.known.ok.0, c.in_ok-heads.heads.ok.0) in
+    rw c.new.ensures.items (nothing_common h c.args.first c.args.others.now c.in_ok-known.known.items (once (firsts_once (c.args.first ∷ c.args.others.now))) known few)
 
-pub loop-other-preserved : goal.loop-other-preserved
-loop-other-preserved g c =
-    let test : c.loop-other.other-index < length c.args.others.now = omega arith in
-    let next = c.in_ok-left-2.ensures in
-    let step = rw (c.loop-other.invariant.after.graph.same_history, c.deref.ensures.value) at next.step in
-    record {
-      stand = λ acyclic. stand_next _ _ _ _ _ _ _ test (c.loop-other.invariant.stand acyclic) (step acyclic);
-      after = after_more _ _ _ _ c.loop-other.invariant.after (after_ok _ _ _ next.after);
-    }
+pub index-newest-requires : goal.index-newest-requires
+index-newest-requires g c =
+    let some = some_head c.args.first c.args.others.now in
+    let heads = ap (λ (l : List ObjectId). length l) c.in_ok-heads.ensures in
+    omega (arith, some, heads, c.if-len.false, c.len.ensures, c.len-2.ensures, c.in_ok-known.known.ok.0, c.in_ok-heads.heads.ok.0)
 
 pub returns-clause-bases : goal.returns-clause-bases
-returns-clause-bases g c acyclic differ =
-    let done : length c.args.others.now ≤ c.loop-other.other-index = omega arith in
-    let stand = rw (take_all c.loop-other.other-index c.args.others.now done) at c.loop-other.invariant.stand in
-    stand_last _ _ _ _ acyclic differ (stand acyclic)
+returns-clause-bases g c acyclic =
+    let h = g.S.Find.history c.args.graph.now.source in
+    let known = rw (c.deref.ensures.value, c.in_ok-heads.ensures) at c.in_ok-known.ensures.same in
+    let once = rw (c.deref.ensures.value, c.in_ok-heads.ensures) at c.in_ok-known.ensures.once in
+    let heads = ap (λ (l : List ObjectId). length l) c.in_ok-heads.ensures in
+    let found = c.in_ok-known.known.items in
+    let newest = c.index-newest.result.now in
+    let enough : length (firsts (c.args.first ∷ c.args.others.now)) ≤ length found =
+    omega (arith, heads, c.if-len.false, c.len.ensures, c.len-2.ensures, c.in_ok-known.known.ok.0, c.in_ok-heads.heads.ok.0) in
+    let all : newest ∷ c.deref-2.result.now ≡ get_or found 0 newest ∷ found = ap (λ z. z ∷ c.deref-2.result.now) c.index-newest.ensures ∙ ap (λ l. get_or found 0 newest ∷ l) c.deref-2.ensures.value in
+    let has = found_has h c.args.first c.args.others.now found (once (firsts_once (c.args.first ∷ c.args.others.now))) known enough newest in
+    let same = same_heads h c.args.first c.args.others.now found (once (firsts_once (c.args.first ∷ c.args.others.now))) known enough newest in
+    let bases = rw c.in_ok-known.ensures.after.graph.same_history at c.steps.ensures.bases in
+    IfOk-weaker c.steps.result _ _
+    (λ left are. bases_same h newest c.args.first c.deref-2.result.now c.args.others.now
+    (subst (λ l. (i : ObjectId) → IsTrue (is_one_of l i) ↔ IsTrue (is_one_of (c.args.first ∷ c.args.others.now) i)) (sym all) same) left.items are)
+    (bases acyclic (subst (λ l. (i : ObjectId) → IsTrue (is_one_of l i) → Has h i) (sym all) has))

@@ -1,26 +1,17 @@
-use Rattle.std.proofs.Common.{◌∙◌, subst}
-use Rattle.gix_merge_base.specs.Reducing.{SomeOf}
-use Rattle.gix_merge_base.proofs.Best.{some_within}
-use Rattle.gix_merge_base.proofs.Heads.{step_of}
+use Rattle.std.proofs.Common.{◌≡◌, ◌∙◌, ◌∷◌, [], length, sym, arith, tests}
+use Rattle.gix_merge_base.proofs.Heads.{step_none, step_alone, step_best}
 use Rattle.gix_merge_base.proofs.merge_base.heads.step.Goals as goal
 
-pub returns-clause-step : goal.returns-clause-step
-returns-clause-step g c acyclic =
-    let h = g.S.Find.history c.args.graph.now.source in
-    let found = c.in_ok-found.found in
-    let left = c.in_ok-left.left.items in
-    let kept = rw (c.in_ok-found.ensures.after.graph.same_history, c.as_slice.ensures) at c.in_ok-left.ensures.kept in
-    let independent = rw (c.in_ok-found.ensures.after.graph.same_history, c.as_slice.ensures) at c.in_ok-left.ensures.independent in
-    let some = subst (λ l. SomeOf l left) c.as_slice.ensures c.in_ok-left.ensures.some in
-    step_of h c.args.bases.now c.args.other found left acyclic (c.in_ok-found.ensures.all acyclic)
-    (record { some = some_within found left some; every = kept acyclic; alone = λ never d k. (independent acyclic never d).0 k })
+pub returns-then-is_empty-clause-step : goal.returns-then-is_empty-clause-step
+returns-then-is_empty-clause-step g c acyclic has =
+    let none : length c.args.bases.now ≡ 0 = grind (arith, tests) in
+    rw c.new.ensures.items (step_none (g.S.Find.history c.args.graph.now.source) c.args.bases.now c.args.head none)
 
-pub returns-clause-after : goal.returns-clause-after
-returns-clause-after g c = record {
-  graph = record {
-    same_history = c.in_ok-left.ensures.history ∙ c.in_ok-found.ensures.after.graph.same_history;
-    count = c.in_ok-left.ensures.count ∙ c.in_ok-found.ensures.after.graph.count;
-    held = λ q k. c.reduce.ensures.held q (c.in_ok-found.ensures.after.graph.held q k);
-  };
-  cause = tt;
-}
+pub returns-then-stands_in-clause-step : goal.returns-then-stands_in-clause-step
+returns-then-stands_in-clause-step g c acyclic has =
+    let items : c.in_ok-alone.alone.items ≡ c.args.head ∷ [] = c.in_ok-alone.ensures.items_if_clones_equal (λ x y same. same) in
+    rw items (step_alone (g.S.Find.history c.args.graph.now.source) c.args.bases.now c.args.head has (sym c.stands_in.ensures ∙ c.if-stands_in.true))
+
+pub returns-clause-step : goal.returns-clause-step
+returns-clause-step g c acyclic has =
+    step_best (g.S.Find.history c.args.graph.now.source) c.args.bases.now c.args.head c.in_ok-left.left.items acyclic (c.in_ok-left.ensures.covers acyclic) (c.in_ok-left.ensures.best acyclic)

@@ -1,14 +1,16 @@
-use Rattle.std.proofs.Common.{◌≡◌, refl, sym, ap, subst, ◌∙◌, List, [], ◌∷◌, ◌++◌, cond, true, false, is_some}
+use Rattle.std.proofs.Common.{◌≡◌, refl, sym, ap, subst, ◌∙◌, List, [], ◌∷◌, ◌++◌, ◌+◌, cond, true, false, is_some, rules}
 use Rattle.std.specs.Option.{unwrap_or}
 use Rattle.gix_base.specs.declared.hash.ObjectId.{ObjectId}
-use Rattle.gix_revwalk.specs.History.{entry_at}
+use Rattle.gix_revwalk.specs.History.{entry_at, same_id}
+use Rattle.gix_merge_base.specs.Counting.{times}
+use Rattle.gix_merge_base.proofs.Counting.{times_pushed}
 use Rattle.gix_revwalk.specs.Number.{place_in}
 use Rattle.gix_revwalk.specs.declared.numbers.Mark.{Mark}
-use Rattle.gix_merge_base.specs.Marks.{marks_of, noted}
-use Rattle.gix_merge_base.specs.PaintQueue.{marks_at, ids_at, id_at, AreIn, no_mark}
+use Rattle.gix_merge_base.specs.Marks.{marks_of}
+use Rattle.gix_merge_base.specs.PaintQueue.{marks_at, queued_at, ids_at, id_at, AreIn, no_mark}
 use Rattle.gix_merge_base.specs.declared.merge_base.flags.Flags.{Flags}
-use Rattle.gix_merge_base.proofs.Listed.{listed-grown, listed-same, listed-push, noted-same, same-after}
-use Rattle.gix_merge_base.proofs.Numbered.{given-marks}
+use Rattle.gix_merge_base.proofs.Listed.{listed-grown, listed-same, listed-push}
+use Rattle.gix_merge_base.proofs.Numbered.{given-marks, given-queued, same-marks}
 use Rattle.gix_merge_base.proofs.QueueKeys.{number-id, kept-grown, kept-same}
 use Rattle.gix_merge_base.proofs.merge_base.reduction.list_one.Goals as goal
 
@@ -47,16 +49,41 @@ pub set_mark-requires : goal.set_mark-requires
 set_mark-requires g c = let taken = rw c.in-Ok-Some.field-0-is at c.in-Ok-Some.ensures in (number-id c.take.new.graph c.args.id (place_in c.in-Ok-Some.number) taken.number).0
 
 pub returns-clause-marks : goal.returns-clause-marks
-returns-clause-marks g c =
-    let old = c.args.graph.now in
+returns-clause-marks g c d =
     let mid = c.take.new.graph in
     let new = c.set_mark.new.graph in
     let taken = rw c.in-Ok-Some.field-0-is at c.in-Ok-Some.ensures in
     let lt = (number-id mid c.args.id (place_in c.in-Ok-Some.number) taken.number).0 in
     let id = id_at mid (place_in c.in-Ok-Some.number) in
-    same-after (marks_at old) (marks_at mid) (marks_at new) (λ d. ap (λ o. marks_of (unwrap_or o no_mark).marks) (taken.marks d))
-    (noted-same (marks_at mid) (marks_at new) id (marks_of c.noted.result) (c.noted.ensures ∙ ap (λ (z : Mark Flags). noted (marks_of z.marks)) c.mark_of-old.ensures)
-    (given-marks mid new (place_in c.in-Ok-Some.number) _ lt c.set_mark.ensures))
+    same-marks (marks_at mid) (marks_at new) id (marks_of c.mark_of-old.result.marks) (ap (λ (z : Mark Flags). marks_of z.marks) c.mark_of-old.ensures)
+    (given-marks mid new (place_in c.in-Ok-Some.number) _ lt c.set_mark.ensures) d
+    ∙ ap (λ o. marks_of (unwrap_or o no_mark).marks) (taken.marks d)
+
+pub returns-in-Ok-None-clause-counted : goal.returns-in-Ok-None-clause-counted
+returns-in-Ok-None-clause-counted g c all counted d =
+    let taken = rw c.in-Ok-None.field-0-is at c.in-Ok-None.ensures in
+    let grown = listed-grown c.args.graph.now c.take.new.graph taken.grows c.args.numbers.now.items all in
+    ap (λ o. (unwrap_or o no_mark).queued) (taken.marks d) ∙ counted d ∙ ap (times d) (sym grown.1)
+
+pub returns-clause-counted : goal.returns-clause-counted
+returns-clause-counted g c all counted =
+    let old = c.args.graph.now in
+    let mid = c.take.new.graph in
+    let new = c.set_mark.new.graph in
+    let ns = c.args.numbers.now.items in
+    let number = c.in-Ok-Some.number in
+    let taken = rw c.in-Ok-Some.field-0-is at c.in-Ok-Some.ensures in
+    let lt = (number-id mid c.args.id (place_in number) taken.number).0 in
+    let id = id_at mid (place_in number) in
+    let grown = listed-grown old mid taken.grows ns all in
+    let more = listed-push mid ns number id grown.0 lt refl in
+    let pushed = listed-same mid new c.set_mark.ensures.ids (ns ++ number ∷ []) more.0 in
+    let one : c.in-Some.queued ≡ c.mark_of-old.result.queued + 1 = search rules in
+    let before : (q : ObjectId) → queued_at mid q ≡ times q (ids_at mid ns) = λ q. ap (λ o. (unwrap_or o no_mark).queued) (taken.marks q) ∙ counted q ∙ ap (times q) (sym grown.1) in
+    let queued : (q : ObjectId) → queued_at new q ≡ cond (same_id id q) (queued_at mid id + 1) (queued_at mid q) =
+    λ q. given-queued mid new (place_in number) _ lt c.set_mark.ensures q ∙ ap (λ z. cond (same_id id q) z (queued_at mid q)) (one ∙ ap (λ (z : Mark Flags). z.queued + 1) c.mark_of-old.ensures) in
+    let ids : ids_at new c.push.new.self.items ≡ ids_at mid ns ++ id ∷ [] = ap (ids_at new) c.in-Ok.ensures.items ∙ pushed.1 ∙ more.1 in
+    λ q. times_pushed (queued_at mid) (queued_at new) id (ids_at mid ns) queued before q ∙ ap (times q) (sym ids)
 
 pub returns-clause-after : goal.returns-clause-after
 returns-clause-after g c =

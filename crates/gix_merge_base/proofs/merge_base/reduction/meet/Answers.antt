@@ -1,23 +1,27 @@
-use Rattle.std.proofs.Common.{◌≡◌, ◌<◌, ◌≤◌, ◌+◌, ℕ, Bool, refl, sym, ap, subst, ◌∙◌, ◌∷◌, inr, arith}
+use Rattle.std.proofs.Common.{◌≡◌, ◌<◌, ◌≤◌, ◌+◌, ℕ, Bool, refl, sym, ap, subst, ◌∙◌, ◌∷◌, inr, map, arith}
+use Rattle.std.proofs.lemmas.List.Sorted.{list_any-IsPermutation}
 use Rattle.gix_revwalk.specs.Faults.{count_after}
-use Rattle.gix_revwalk.specs.History.{generation_of}
+use Rattle.gix_revwalk.specs.History.{generation_of, same_id, is_one_of}
 use Rattle.gix_revwalk.specs.Graph.{held_len}
 use Rattle.gix_revwalk.specs.Number.{place_in}
 use Rattle.gix_merge_base.specs.PaintQueue.{marks_at, queued_ids, ids_at, id_at}
-use Rattle.gix_merge_base.specs.ReduceSteps.{IsSurvey, Alike}
+use Rattle.gix_merge_base.specs.ReduceSteps.{AreMetBefore}
 use Rattle.gix_merge_base.specs.declared.merge_base.gen_then_time.GenThenTime.{GenThenTime}
-use Rattle.gix_merge_base.proofs.AfterCalls.{after_more}
+use Rattle.gix_merge_base.proofs.AfterCalls.{after_none, after_more}
 use Rattle.gix_merge_base.proofs.Numbered.{ids-popped, held-permutation}
 use Rattle.gix_merge_base.proofs.QueueKeys.{keyed-popped, key-popped}
 use Rattle.gix_merge_base.proofs.Reduction.{reduce_goes, reduce_cuts, reduce_permuted, fewer_cut, fewer_left, left_to_meet}
-use Rattle.gix_merge_base.proofs.Surveys.{survey_stays}
+use Rattle.gix_merge_base.proofs.Unmet.{unstale_alike, met_since, numbers_held, numbers_ids, order_grown}
 use Rattle.gix_merge_base.proofs.merge_base.reduction.meet.Goals as goal
 
 less : (a b d : ℕ) → a ≡ b → b + 1 ≤ d → a < d
 less a b d e k = omega arith
 
-pub surveyed_again-left-requires-clause-number : goal.surveyed_again-left-requires-clause-number
-surveyed_again-left-requires-clause-number g c = (held-permutation (λ p. place_in p.1 < held_len c.loop-key.graph) c.loop-key.queue _ c.in-Some.ensures.taken c.loop-key.invariant.valid).0
+pub left_from-left-requires-clause-order : goal.left_from-left-requires-clause-order
+left_from-left-requires-clause-order g c = rw (c.deref.ensures.value, c.loop-key.invariant.after.graph.same_history) c.loop-key.invariant.order
+
+pub left_from-left-requires-clause-before : goal.left_from-left-requires-clause-before
+left_from-left-requires-clause-before g c = rw c.deref.ensures.value c.loop-key.invariant.before
 
 pub hand_parents-requires-clause-number : goal.hand_parents-requires-clause-number
 hand_parents-requires-clause-number g c = (held-permutation (λ p. place_in p.1 < held_len c.loop-key.graph) c.loop-key.queue _ c.in-Some.ensures.taken c.loop-key.invariant.valid).0
@@ -25,9 +29,25 @@ hand_parents-requires-clause-number g c = (held-permutation (λ p. place_in p.1 
 pub hand_parents-requires-clause-valid : goal.hand_parents-requires-clause-valid
 hand_parents-requires-clause-valid g c = (held-permutation (λ p. place_in p.1 < held_len c.loop-key.graph) c.loop-key.queue _ c.in-Some.ensures.taken c.loop-key.invariant.valid).1
 
-pub returns-then-left-le1-clause-met : goal.returns-then-left-le1-clause-met
-returns-then-left-le1-clause-met g c =
-    inr (queued_ids c.loop-key.graph c.loop-key.queue, c.loop-key.invariant.at, subst (λ l. Alike l (marks_at c.loop-key.graph)) c.loop-key.invariant.ids (c.surveyed_again-left.ensures.alike c.if-left-le1.true))
+pub loop-key-init : goal.loop-key-init
+loop-key-init g c =
+    let order = c.in_ok-order.ensures in
+    record {
+      at = c.requires.begun;
+      unmet = c.requires.unmet;
+      order = order.order;
+      ids = λ q. list_any-IsPermutation (same_id q) _ _ order.ids;
+      before = λ k d low high. absurd (omega arith);
+      valid = c.requires.valid;
+      keyed = c.requires.keyed;
+      after = after_none _;
+    }
+
+pub returns-then-unmet-le1-clause-met : goal.returns-then-unmet-le1-clause-met
+returns-then-unmet-le1-clause-met g c =
+    let few = c.if-unmet-le1.true in
+    let count = c.loop-key.invariant.unmet.unstale in
+    inr (queued_ids c.loop-key.graph c.loop-key.queue, c.loop-key.invariant.at, unstale_alike (marks_at c.loop-key.graph) (ids_at c.args.graph.now c.args.numbers.now) (omega arith))
 
 pub loop-key-smaller-then-key-left : goal.loop-key-smaller-then-key-left
 loop-key-smaller-then-key-left g c =
@@ -50,15 +70,14 @@ loop-key-preserved-then-key-left g c =
     let at = reduce_permuted h ids m (queued_ids graph c.loop-key.queue) (id ∷ queued_ids graph rs) perm c.loop-key.invariant.at in
     let key = key-popped h graph c.in-Some.key c.in-Some.number c.loop-key.queue rs c.in-Some.ensures.taken c.loop-key.invariant.keyed in
     let generation : c.in-Some.key.generation ≡ generation_of h id = ap (λ (z : GenThenTime). z.generation) key in
-    let left : IsSurvey h ids m c.surveyed_again-left.result.unmet c.surveyed_again-left.result.least =
-    subst (λ z. IsSurvey z ids m c.surveyed_again-left.result.unmet c.surveyed_again-left.result.least) same
-    (subst (λ l. IsSurvey (g.S.Find.history graph.source) l m c.surveyed_again-left.result.unmet c.surveyed_again-left.result.least) c.loop-key.invariant.ids c.surveyed_again-left.ensures) in
-    let low : c.in-Some.key.generation < c.surveyed_again-left.result.least = c.if-key-left.true in
+    let left = rw (c.deref.ensures.value, same) at c.left_from-left.ensures in
+    let low = c.if-key-left.true in
     record {
-      at = reduce_cuts h ids id m (queued_ids graph rs) at (λ r k out. let l = left.least r k out in omega arith);
-      left = left;
-      inside = c.loop-key.invariant.inside;
+      at = reduce_cuts h ids id m (queued_ids graph rs) at (λ r k out. let l = left.least r (sym (c.loop-key.invariant.ids r) ∙ k) out in omega arith);
+      unmet = c.loop-key.invariant.unmet;
+      order = c.loop-key.invariant.order;
       ids = c.loop-key.invariant.ids;
+      before = left.before;
       valid = (held-permutation (λ p. place_in p.1 < held_len c.loop-key.graph) c.loop-key.queue _ c.in-Some.ensures.taken c.loop-key.invariant.valid).1;
       keyed = keyed-popped h graph graph refl c.in-Some.key c.in-Some.number c.loop-key.queue rs c.in-Some.ensures.taken c.loop-key.invariant.keyed;
       after = c.loop-key.invariant.after;
@@ -78,15 +97,16 @@ loop-key-preserved g c =
     let at = reduce_permuted h ids m (queued_ids graph c.loop-key.queue) (id ∷ queued_ids graph rs) perm c.loop-key.invariant.at in
     let did = rw same at c.in_default-hand_parents.ensures.handed in
     let keyed = rw same at c.in_default-hand_parents.ensures.keyed in
-    let listed = c.in_default-hand_parents.ensures.listed c.args.numbers.now c.loop-key.invariant.inside in
-    let left : IsSurvey h ids m c.surveyed_again-left.result.unmet c.surveyed_again-left.result.least =
-    subst (λ z. IsSurvey z ids m c.surveyed_again-left.result.unmet c.surveyed_again-left.result.least) same
-    (subst (λ l. IsSurvey (g.S.Find.history graph.source) l m c.surveyed_again-left.result.unmet c.surveyed_again-left.result.least) c.loop-key.invariant.ids c.surveyed_again-left.ensures) in
+    let order = c.in_ok-order.order.items in
+    let left = rw (c.deref.ensures.value, same) at c.left_from-left.ensures in
+    let listed = c.in_default-hand_parents.ensures.listed (map (λ p. p.1) order) (numbers_held h graph order c.loop-key.invariant.order) in
+    let grown : queued_ids new order ≡ queued_ids graph order = sym (numbers_ids new order) ∙ listed.1 ∙ numbers_ids graph order in
     record {
       at = reduce_goes h ids id m (marks_at new) (queued_ids graph rs) (queued_ids new c.hand_parents.new.queue) at did;
-      left = survey_stays h ids m (marks_at new) _ _ did.more left;
-      inside = listed.0;
-      ids = listed.1 ∙ c.loop-key.invariant.ids;
+      unmet = c.in_default-hand_parents.ensures.unmet refl ids c.loop-key.invariant.unmet;
+      order = order_grown h graph new order c.loop-key.invariant.order listed.0 grown;
+      ids = λ q. c.loop-key.invariant.ids q ∙ ap (λ l. is_one_of l q) (sym grown);
+      before = subst (λ l. AreMetBefore (marks_at new) l c.left_from-left.result.place) (sym grown) (met_since m (marks_at new) (queued_ids graph order) _ did.more left.before);
       valid = c.in_default-hand_parents.ensures.valid;
       keyed = keyed (keyed-popped h graph graph refl c.in-Some.key c.in-Some.number c.loop-key.queue rs c.in-Some.ensures.taken c.loop-key.invariant.keyed);
       after = after_more _ _ _ _ c.loop-key.invariant.after

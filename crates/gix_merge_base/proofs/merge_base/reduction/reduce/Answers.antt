@@ -1,8 +1,9 @@
-use Rattle.std.proofs.Common.{◌≡◌, sym, ap, subst, ◌∙◌, not, is_some, rules}
+use Rattle.std.proofs.Common.{◌≡◌, sym, ap, subst, ◌∙◌, length, not, is_some, rules, arith}
 use Rattle.std.specs.List.{filter}
 use Rattle.std.proofs.lemmas.Fn.{filter_same}
 use Rattle.gix_revwalk.specs.History.{entry_at}
-use Rattle.gix_merge_base.specs.PaintQueue.{marks_at, queued_ids, ids_at, AreIn}
+use Rattle.gix_merge_base.specs.Counting.{CountsUnmet}
+use Rattle.gix_merge_base.specs.PaintQueue.{marks_at, queued_at, queued_ids, ids_at, AreIn}
 use Rattle.gix_merge_base.specs.Reducing.{firsts}
 use Rattle.gix_merge_base.specs.ReduceSteps.{Reducing, Reduced}
 use Rattle.gix_merge_base.proofs.Alone.{reduced_exactly, reduced_keeps}
@@ -12,6 +13,19 @@ use Rattle.gix_merge_base.proofs.merge_base.reduction.reduce.Goals as goal
 
 pub meet_parents-requires-clause-inside : goal.meet_parents-requires-clause-inside
 meet_parents-requires-clause-inside g c = subst (AreIn c.list.new.graph) (sym c.deref-2.ensures.value) c.in_ok-numbers.ensures.inside
+
+pub meet_parents-requires-clause-unmet : goal.meet_parents-requires-clause-unmet
+meet_parents-requires-clause-unmet g c =
+    let listed = c.list.new.graph in
+    let all : c.len-unmet.result ≡ length c.in_ok-numbers.numbers.items = omega (arith, c.in_ok-numbers.numbers.ok.0, c.len-unmet.ensures) in
+    subst (λ l. CountsUnmet (marks_at listed) (queued_at listed) (ids_at listed l) c.len-unmet.result) (sym c.deref-2.ensures.value)
+    (subst (λ o. CountsUnmet (marks_at listed) (queued_at listed) (ids_at listed c.in_ok-numbers.numbers.items) o) (sym all) c.in_ok-numbers.ensures.unmet)
+
+pub meet-requires-clause-unmet : goal.meet-requires-clause-unmet
+meet-requires-clause-unmet g c =
+    let new = c.meet_parents.new.graph in
+    let is : c.deref-3.result.now ≡ c.deref-2.result.now = c.deref-3.ensures.value ∙ sym c.deref-2.ensures.value in
+    subst (λ l. CountsUnmet (marks_at new) (queued_at new) l c.meet_parents.new.unmet) (sym (ap (ids_at new) is ∙ c.in_ok-meet_parents.ensures.same.1)) c.in_ok-meet_parents.ensures.unmet
 
 pub meet-requires-clause-begun : goal.meet-requires-clause-begun
 meet-requires-clause-begun g c =
