@@ -3,7 +3,9 @@ pub mod Completed
 pub mod Answered
 pub mod TellsFaults
 pub mod LastCall
+pub mod Frugal
 pub mod Resolves
+pub mod AnOutcome
 pub mod OneOutcome
 pub mod ListWalks
 pub mod ListMarks
@@ -11,3 +13,7 @@ pub mod ListAfter
 pub mod ListMerges
 pub mod ListMembers
 pub mod ListSorted
+pub mod ListTaken
+pub mod ListAlone
+pub mod ListPages
+pub mod StepTaken

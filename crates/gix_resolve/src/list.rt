@@ -1,10 +1,11 @@
 //! The commits that a spec means, as a list in rising order of their ids: git-rev-list.
 
-ghost use Rattle.std.specs.Prelude.{◌≡◌, IfOk, Some};
+ghost use Rattle.std.specs.Prelude.{◌≡◌, IfOk, IsOkAnd, IsTrue, Some, []};
 ghost use Rattle.gix_revwalk.specs.Faults.{count_after};
 ghost use Rattle.gix_revwalk.specs.Graph.{KeepsHeld};
 ghost use Rattle.gix_resolve.specs.ListErrors.{is_list_source_fault};
 ghost use Rattle.gix_resolve.specs.ListMeaning.{ListsMeant, IsPage, past};
+ghost use Rattle.gix_resolve.specs.Taken.{TakesOnly, IsLookedAt, is_exclude};
 
 mod members;
 mod walk;
@@ -56,7 +57,9 @@ impl From<graph::Error> for ListError {
 /// The commits that a spec means, each once, in rising order of their ids: gitrevisions,
 /// "Specifying Ranges". An id that the source lacks has no ancestors: it adds and hides nothing.
 ///
-/// What the graph held it still holds, refused or not; the data beside it may have changed.
+/// What the graph held it still holds, refused or not; the data beside it may have changed. What it
+/// newly holds is reached from the ids of the spec. `^a` means no commit: it is always answered, by
+/// the empty list, and the graph is as it was.
 ///
 /// # Errors
 ///
@@ -73,6 +76,10 @@ pub fn commits<S: Find, A: Allocator + Copy>(
     ensures count { S.fault_count graph.new.source
         ≡ count_after (is_list_source_fault result) (S.fault_count graph.old.source) }
     ensures held { KeepsHeld graph.old graph.new }
+    ensures taken { TakesOnly (IsLookedAt (S.history graph.old.source) spec.now)
+        graph.old graph.new }
+    ensures exclude { IsTrue (is_exclude spec.now)
+        → IsOkAnd result (λ ids. ids.items ≡ []) × (graph.new ≡ graph.old) }
 {
     let mut ids = members(alloc, *spec, graph)?;
     ids.sort_unstable();
@@ -89,7 +96,8 @@ fn keep_past<A: Allocator + Copy>(ids: &mut Vec<ObjectId, A>, bound: Option<Obje
 }
 
 /// The first `limit` ids of [`commits`] that are greater than `after`; of all of them where there
-/// is no `after`. So each page begins after the last id of the one before.
+/// is no `after`. So each page begins after the last id of the one before. A page makes the whole
+/// list each time: however small it is, it costs what [`commits`] does.
 ///
 /// # Errors
 ///
@@ -107,6 +115,10 @@ pub fn page<S: Find, A: Allocator + Copy>(
     ensures count { S.fault_count graph.new.source
         ≡ count_after (is_list_source_fault result) (S.fault_count graph.old.source) }
     ensures held { KeepsHeld graph.old graph.new }
+    ensures taken { TakesOnly (IsLookedAt (S.history graph.old.source) spec.now)
+        graph.old graph.new }
+    ensures exclude { IsTrue (is_exclude spec.now)
+        → IsOkAnd result (λ ids. ids.items ≡ []) × (graph.new ≡ graph.old) }
 {
     let mut ids = commits(alloc, spec, graph)?;
     keep_past(&mut ids, after);

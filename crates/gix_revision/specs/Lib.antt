@@ -52,6 +52,7 @@ pub use Rattle.gix_spec.specs.Parse
 pub use Rattle.gix_spec.specs.Printed
 pub use Rattle.gix_spec.specs.FaultTexts
 pub use Rattle.gix_spec.specs.Sibling
+pub use Rattle.gix_spec.specs.Written
 pub use Rattle.gix_spec.specs.Ends
 pub use Rattle.gix_spec.specs.Heard
 pub use Rattle.gix_spec.specs.Orders

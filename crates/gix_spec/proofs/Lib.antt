@@ -4,6 +4,7 @@ pub mod Numbers
 pub mod Describing
 pub mod Parts
 pub mod Pairs
+pub mod PairText
 pub mod Opened
 pub mod Navigation
 pub mod Readings
@@ -11,6 +12,7 @@ pub mod Memory
 pub mod Sound
 pub mod Ending
 pub mod Rows
+pub mod Spelled
 pub mod Whole
 pub mod Promises
 pub mod Digits

@@ -4,10 +4,10 @@ use Rattle.std.specs.Prelude.{nat_lt}
 use Rattle.std.proofs.Math.Seq.{take-suc}
 use Rattle.std.proofs.lemmas.Bool.{ne_eqb, eqb-true, lt-ltb, ltb-true, ltb-false}
 use Rattle.std.proofs.lemmas.List.{get_or-drop, take_all}
-use Rattle.gix_spec.specs.Marks.{brace, starts_with, least_from}
+use Rattle.gix_spec.specs.Marks.{brace, starts_with}
 use Rattle.gix_spec.specs.Braces.{is_special, follows_escape, is_escaped, counted, is_level, close_of, has_escape, meant_of, Braced, braced_to, braced_at}
 use Rattle.gix_spec.specs.Opens.{IsLevel, IsClose}
-use Rattle.gix_spec.proofs.Places.{least_from-is}
+use Rattle.gix_spec.proofs.Places.{IsLeast, least_from-is, least_from-least}
 
 -- the least place where as many braces close as open
 pub close_of-is : (text : List ℕ) (n : ℕ) → IsClose text n → close_of text ≡ n
@@ -31,17 +31,9 @@ close_of-none text none =
       found = λ within. absurd (omega arith);
     })
 
-least_if : (b : Bool) (k n m : ℕ) → m ≤ (k + 1) + n → (if b then k else m) ≤ k + suc n
-least_if true k n m h = omega arith
-least_if false k n m h = omega (arith, h)
-
-least_within : (test : ℕ → Bool) (n k : ℕ) → least_from test n k ≤ k + n
-least_within test zero k = omega arith
-least_within test (suc n) k = least_if (test k) k n (least_from test n (k + 1)) (least_within test n (k + 1))
-
 close_within : (text : List ℕ) → close_of text ≤ length text
 unfolding close_of
-close_within text = omega (arith, least_within (is_level text) (length text) 0)
+close_within text = let least : IsLeast (is_level text) (length text) 0 (close_of text) = least_from-least (is_level text) (length text) 0 in omega (arith, least.high)
 
 -- one more byte
 pub follows_next : (text : List ℕ) (n : ℕ) (before now : Bool) → before ≡ follows_escape text n → now ≡ ((slice_index text n == 92) && not before) → now ≡ follows_escape text (n + 1)

@@ -13,10 +13,12 @@ use Rattle.gix_spec.specs.Run.{IsRun, at_leaf, goes_on, turns, runs_out, has_roo
 use Rattle.gix_spec.specs.Context.{Context, start}
 use Rattle.gix_spec.specs.Pieces.{Piece, exclude, regex, index, head, name, branch, reflog, sibling, date, unescaped, step, peel, path, closer, without_parent, range, finish, finished, fault}
 use Rattle.gix_spec.specs.Trees.{tree_of, of_reference, at_time, repeat, takes_memory}
-use Rattle.gix_spec.specs.Reading.{pieces_of, unread_of}
+use Rattle.gix_spec.specs.Reading.{pieces_of}
+use Rattle.gix_spec.specs.Written.{NoFault}
 use Rattle.gix_spec.specs.Ends.{Records, DoneIsLast, ReadsAll, FaultIsLast, HasNoEscape, TakesNone, is_numbered, CallsAreNumbered, NamesPart, SecondIsOfName}
 use Rattle.gix_spec.proofs.Sound.{Within, GivenWithin, AllSound}
-use Rattle.gix_spec.proofs.Ending.{EndsWell, LastFault, MayEnd}
+use Rattle.gix_spec.proofs.Ending.{EndsWell, LastFault, MayEnd, may_end_where}
+use Rattle.gix_spec.proofs.Spelled.{pieces_spelled}
 use Rattle.gix_spec.proofs.Whole.{pieces_whole}
 
 abbrev is_done : Call → Bool
@@ -85,10 +87,14 @@ tree_keeps w P called (finish ∷ ps) m a h k l = (refl, tree_keeps w P true ps 
 tree_keeps w P called (finished ∷ ps) m a h k l = tree_keeps w P called ps m a h.1 k l
 tree_keeps w P called (fault x y ∷ ps) m a h k l = (h.0, tt)
 
+-- a text none of whose pieces is a fault
+abbrev IsWell : (text : List ℕ) → Type 0
+IsWell text = NoFault (pieces_of text)
+
 -- the tree of a text
-text_keeps : (text : List ℕ) (now : Time) → Keeps text (unread_of text ≡ []) false (tree_of (pieces_of text) (start now))
+text_keeps : (text : List ℕ) (now : Time) → Keeps text (IsWell text) false (tree_of (pieces_of text) (start now))
 text_keeps text now =
-    let whole = pieces_whole text in tree_keeps text (unread_of text ≡ []) false (pieces_of text) (start now) tt whole.sound (whole.ends false) whole.read
+    let whole = pieces_whole text in tree_keeps text (IsWell text) false (pieces_of text) (start now) tt whole.sound (whole.ends false) (may_end_where (IsWell text) (pieces_of text) (λ well. well))
 
 is_done-true : (c : Call) → is_done c ≡ true → c ≡ done
 is_done-true done h = refl
@@ -112,13 +118,13 @@ module _ {S : Type 0} (by : S → Call → Answer → S → Type 0) where
   at_end w P called (has_room r) h = at_end w P called r h
 
   pub reads_all : ReadsAll by
-  reads_all text now s u r = (at_end text (unread_of text ≡ []) false r (text_keeps text now)).1.1
+  reads_all text now s u r = ((at_end text (IsWell text) false r (text_keeps text now)).1.1, pieces_spelled text)
 
   pub names_part : NamesPart by
-  names_part text now s u f input first second r = (at_end text (unread_of text ≡ []) false r (text_keeps text now)).1.0.within
+  names_part text now s u f input first second r = (at_end text (IsWell text) false r (text_keeps text now)).1.0.within
 
   pub second_is_of_name : SecondIsOfName by
-  second_is_of_name text now s u f input first second r = (at_end text (unread_of text ≡ []) false r (text_keeps text now)).1.1
+  second_is_of_name text now s u f input first second r = (at_end text (IsWell text) false r (text_keeps text now)).1.1
 
   -- a run that ends well ends at once, or `done` led to its end
   abbrev Done : S → Type 0
@@ -139,7 +145,7 @@ module _ {S : Type 0} (by : S → Call → Answer → S → Type 0) where
   came_to_done w P called (has_room r) h = came_to_done w P called r h
 
 pub done_is_last : DoneIsLast
-done_is_last text now s r = done_before Records (came_to_done Records text (unread_of text ≡ []) false r (text_keeps text now))
+done_is_last text now s r = done_before Records (came_to_done Records text (IsWell text) false r (text_keeps text now))
 
 -- each call that was recorded was one of the tree
 both : (b : Bool) {x y : Bool} → (b && x) ≡ true → (x ≡ true → y ≡ true) → (b && y) ≡ true
@@ -163,7 +169,7 @@ numbered w P called (has_room r) h k = numbered w P called r h k
 numbered w P called has_none h k = k
 
 pub calls_are_numbered : CallsAreNumbered
-calls_are_numbered text now s o r = numbered text (unread_of text ≡ []) false r (text_keeps text now) refl
+calls_are_numbered text now s o r = numbered text (IsWell text) false r (text_keeps text now) refl
 
 -- a fault with more behind it is not the last
 last_there : (before after : List Piece) (f : Fault) (i : Option (List ℕ)) → LastFault (before ++ fault f i ∷ after) → after ≡ []

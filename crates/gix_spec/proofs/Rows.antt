@@ -1,5 +1,5 @@
 -- Each reader's part is sound, and its pieces end as its way on says.
-use Rattle.std.proofs.Common.{◌≡◌, ℕ, zero, suc, ◌+◌, ◌==◌, ◌-◌, ◌^◌, ◌&&◌, List, [], ◌∷◌, Bool, true, false, if◌then◌else◌, Option, Some, None, length, take, drop, ◌≤◌, refl, subst, arith}
+use Rattle.std.proofs.Common.{◌≡◌, ℕ, zero, suc, ◌+◌, ◌==◌, ◌-◌, ◌^◌, List, [], ◌∷◌, Bool, true, false, if◌then◌else◌, Option, Some, None, length, take, drop, ◌≤◌, refl, subst, arith}
 use Rattle.std.specs.Prelude.{nat_lt, nat_le}
 use Rattle.std.proofs.lemmas.Bool.{lt-ltb, leb-true, le-leb}
 use Rattle.gix_spec.specs.declared.spec.parse.fault.Fault.{Fault}
@@ -17,8 +17,9 @@ use Rattle.gix_spec.specs.Names.{at_part, without_name, anchor_by, anchor_at}
 use Rattle.gix_spec.specs.Steps.{ancestor_by, ancestor_run, ancestor_at, parent_by, without_by, without_at, run_at, parent_at, step_at, steps_at, navigation}
 use Rattle.gix_spec.specs.ColonForms.{negated_regex, banged, regex_at, is_stage, staged, index_at, colon_form}
 use Rattle.gix_spec.specs.Reading.{named_revision, revision_at}
-use Rattle.gix_spec.proofs.Sound.{Within, within_none, within_tail, within_drop, within_take, GivenWithin, HasEscape, escape_within, escape_there, IsSound, AllSound, sound_append}
-use Rattle.gix_spec.proofs.Ending.{called_after, is_fault, EndsBy, ends_join}
+use Rattle.gix_spec.specs.Written.{is_fault}
+use Rattle.gix_spec.proofs.Sound.{Within, within_none, within_tail, within_drop, within_take, GivenWithin, HasEscape, second_true, escape_within, escape_there, IsSound, AllSound, sound_append}
+use Rattle.gix_spec.proofs.Ending.{called_after, EndsBy, ends_join}
 
 pub record IsGood (text : List ℕ) (p : Part) : Type 0 where
   pub sound : AllSound text p.pieces
@@ -35,7 +36,7 @@ good_closing : (w : List ℕ) (q : Piece) (rest : List ℕ) → IsSound w q → 
 good_closing w q rest h k e r = record { sound = (h, tt); rest = r; ends = ((k, tt), λ b qs ends. rw (e b) ends) }
 
 good_refusal : (w : List ℕ) (f : Fault) (input : Option (List ℕ)) → GivenWithin input w → IsGood w (refusal f input)
-good_refusal w f input h = record { sound = (h, tt); rest = within_none w; ends = ((λ e. refl, tt), λ b. tt, tt) }
+good_refusal w f input h = record { sound = (h, tt); rest = within_none w; ends = ((λ e. refl, tt), λ b. tt) }
 
 good_if : (w : List ℕ) (b : Bool) (p q : Part) → IsGood w p → IsGood w q → IsGood w (if b then p else q)
 good_if w true p q h k = h
@@ -217,10 +218,6 @@ unfolding regex_at
 regex_good w [] whole h k = good_refusal w _ _ tt
 regex_good w (b ∷ rest) whole h k =
     good_if w (b == 33) _ _ (banged_good w rest (b ∷ rest) whole (within_tail b rest w h) h k) (good_piece w _ _ h refl (within_none w))
-
-second_true : (a b : Bool) → (a && b) ≡ true → b ≡ true
-second_true true b h = h
-second_true false b h = cc
 
 staged_good : (w : List ℕ) (b : ℕ) (p whole : List ℕ) → Within p w → Within whole w → IsGood w (staged b p whole)
 staged_good w b p whole h k =

@@ -43,11 +43,11 @@ abbrev pub GivenWithin : Option (List ℕ) → (text : List ℕ) → Type 0
 GivenWithin None text = Unit {0}
 GivenWithin (Some input) text = Within input text
 
-first_true : (a b : Bool) → (a && b) ≡ true → a ≡ true
+pub first_true : (a b : Bool) → (a && b) ≡ true → a ≡ true
 first_true true b h = refl
 first_true false b h = cc
 
-second_true : (a b : Bool) → (a && b) ≡ true → b ≡ true
+pub second_true : (a b : Bool) → (a && b) ≡ true → b ≡ true
 second_true true b h = h
 second_true false b h = cc
 

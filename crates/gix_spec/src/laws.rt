@@ -1,6 +1,6 @@
 //! Laws of the definitions, each the contract of a function without parameters.
 
-ghost use Rattle.gix_spec.specs.Ends.{DoneIsLast, ReadsAll, FaultIsLast, TakesNone};
+ghost use Rattle.gix_spec.specs.Ends.{DoneIsLast, ReadsAll, PiecesSpell, FaultIsLast, TakesNone};
 ghost use Rattle.gix_spec.specs.Ends.{CallsAreNumbered, NamesPart, SecondIsOfName};
 ghost use Rattle.gix_spec.specs.Heard.{PrintedReadsBack};
 ghost use Rattle.gix_base.specs.Laws.{OrderAgrees, HashAgrees, OrderIs};
@@ -19,10 +19,17 @@ pub fn done_is_last()
     ensures { DoneIsLast }
 {}
 
-/// A parse that ends well left no byte of the text unread.
+/// A parse that ends well read the whole text: its pieces spell it, and none of them is a fault.
 #[tactic(auto, using(crate::proofs::Promises::reads_all))]
 pub fn reads_all<D: Delegate>()
     ensures { ReadsAll D.step }
+{}
+
+/// The pieces of a text, written one after another, are the text; a fault stands for what was left
+/// of it.
+#[tactic(auto, using(crate::proofs::Spelled::pieces_spelled))]
+pub fn pieces_spell_texts()
+    ensures { PiecesSpell }
 {}
 
 /// A fault of a text is its last piece.

@@ -1,12 +1,13 @@
 //! The members of the set that a spec means, in no order.
 
-ghost use Rattle.std.specs.Prelude.{IfOk, []};
+ghost use Rattle.std.specs.Prelude.{◌≡◌, IfOk, IsOkAnd, IsTrue, []};
 ghost use Rattle.gix_revwalk.specs.Faults.{is_source_fault};
 ghost use Rattle.gix_revwalk.specs.GraphAfter.{GraphAfter};
 ghost use Rattle.gix_revwalk.specs.Sizes.{Lists};
 ghost use Rattle.gix_spec.specs.declared.spec.Spec.TheVariants.{Merge};
 ghost use Rattle.gix_spec.specs.declared.spec.Spec.TheVariants.{IncludeOnlyParents, ExcludeParents};
 ghost use Rattle.gix_resolve.specs.ListMeaning.{IsMeant};
+ghost use Rattle.gix_resolve.specs.Taken.{TakesOnly, IsLookedAt, is_exclude};
 
 use crate::list::walk::ancestors_beyond;
 use gix_revision::graph::{self, Commit, Find, Graph};
@@ -25,6 +26,8 @@ fn ancestors_of_just_one<S: Find, A: Allocator + Copy>(
 ) -> Result<Vec<ObjectId, A>, graph::Error>
     ensures meant { IfOk result (λ ids. Lists ids.items
         (IsMeant (S.history graph.old.source) (Merge theirs ours))) }
+    ensures taken { TakesOnly (IsLookedAt (S.history graph.old.source) (Merge theirs ours))
+        graph.old graph.new }
     ensures after { GraphAfter S.history S.fault_count is_source_fault graph.old graph.new result }
 {
     let marks = Flags::default();
@@ -42,6 +45,8 @@ fn ancestors_of_parents<S: Find, A: Allocator + Copy>(
 ) -> Result<Vec<ObjectId, A>, graph::Error>
     ensures meant { IfOk result (λ ids. Lists ids.items
         (IsMeant (S.history graph.old.source) (IncludeOnlyParents id))) }
+    ensures taken { TakesOnly (IsLookedAt (S.history graph.old.source) (IncludeOnlyParents id))
+        graph.old graph.new }
     ensures after { GraphAfter S.history S.fault_count is_source_fault graph.old graph.new result }
 {
     let marks = Flags::default();
@@ -60,6 +65,8 @@ fn alone<S: Find, A: Allocator + Copy>(
 ) -> Result<Vec<ObjectId, A>, graph::Error>
     ensures meant { IfOk result (λ ids. Lists ids.items
         (IsMeant (S.history graph.old.source) (ExcludeParents id))) }
+    ensures taken { TakesOnly (IsLookedAt (S.history graph.old.source) (ExcludeParents id))
+        graph.old graph.new }
     ensures after { GraphAfter S.history S.fault_count is_source_fault graph.old graph.new result }
 {
     let Some(_) = numbers::take(graph, alloc, id, Flags::default())? else {
@@ -78,6 +85,10 @@ pub(crate) fn members<S: Find, A: Allocator + Copy>(
 ) -> Result<Vec<ObjectId, A>, graph::Error>
     ensures meant { IfOk result (λ ids. Lists ids.items
         (IsMeant (S.history graph.old.source) spec)) }
+    ensures taken { TakesOnly (IsLookedAt (S.history graph.old.source) spec)
+        graph.old graph.new }
+    ensures exclude { IsTrue (is_exclude spec)
+        → IsOkAnd result (λ ids. ids.items ≡ []) × (graph.new ≡ graph.old) }
     ensures after { GraphAfter S.history S.fault_count is_source_fault graph.old graph.new result }
 {
     let marks = Flags::default();

@@ -1,5 +1,6 @@
 use Rattle.std.proofs.Common.{ap, ◌∙◌, ◌++◌}
 use Rattle.gix_resolve.proofs.ListMembers.{lists-merge}
+use Rattle.gix_resolve.proofs.ListTaken.{only_swapped, only_either}
 use Rattle.gix_resolve.proofs.list.members.ancestors_of_just_one.Goals as goal
 
 pub returns-clause-meant : goal.returns-clause-meant
@@ -7,3 +8,22 @@ returns-clause-meant g c =
     let right = rw c.ancestors_beyond.ensures.after.same_history at c.in_ok-others.ensures.beyond in
     lists-merge (g.S.Find.history c.args.graph.now.source) c.args.theirs c.args.ours c.in_ok-ids.ids.items c.in_ok-others.others.items _
     (c.in_ok-extend_from_slice.ensures.items ∙ ap (λ l. c.in_ok-ids.ids.items ++ l) c.deref.ensures.value) c.in_ok-ids.ensures.beyond right
+
+pub returns-in_err-ids-clause-taken : goal.returns-in_err-ids-clause-taken
+returns-in_err-ids-clause-taken g c =
+    only_swapped (g.S.Find.history c.args.graph.now.source) c.args.theirs c.args.ours c.args.graph.now c.ancestors_beyond.new.graph c.ancestors_beyond.ensures.taken
+
+pub returns-in_err-others-clause-taken : goal.returns-in_err-others-clause-taken
+returns-in_err-others-clause-taken g c =
+    only_either (g.S.Find.history c.args.graph.now.source) c.args.theirs c.args.ours c.args.graph.now c.ancestors_beyond.new.graph c.ancestors_beyond-2.new.graph c.ancestors_beyond.ensures.taken
+    (rw c.ancestors_beyond.ensures.after.same_history at c.ancestors_beyond-2.ensures.taken)
+
+pub returns-in_err-extend_from_slice-clause-taken : goal.returns-in_err-extend_from_slice-clause-taken
+returns-in_err-extend_from_slice-clause-taken g c =
+    only_either (g.S.Find.history c.args.graph.now.source) c.args.theirs c.args.ours c.args.graph.now c.ancestors_beyond.new.graph c.ancestors_beyond-2.new.graph c.ancestors_beyond.ensures.taken
+    (rw c.ancestors_beyond.ensures.after.same_history at c.ancestors_beyond-2.ensures.taken)
+
+pub returns-clause-taken : goal.returns-clause-taken
+returns-clause-taken g c =
+    only_either (g.S.Find.history c.args.graph.now.source) c.args.theirs c.args.ours c.args.graph.now c.ancestors_beyond.new.graph c.ancestors_beyond-2.new.graph c.ancestors_beyond.ensures.taken
+    (rw c.ancestors_beyond.ensures.after.same_history at c.ancestors_beyond-2.ensures.taken)

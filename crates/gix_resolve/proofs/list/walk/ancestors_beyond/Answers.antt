@@ -7,6 +7,7 @@ use Rattle.gix_revwalk.specs.declared.numbers.Number.{Number}
 use Rattle.gix_merge_base.specs.PaintQueue.{id_at, ids_at}
 use Rattle.gix_resolve.specs.ListWalk.{AreClosed}
 use Rattle.gix_resolve.proofs.ListWalks.{closed_none, lists_beyond, behind}
+use Rattle.gix_resolve.proofs.ListTaken.{only_hidden, only_shown}
 use Rattle.gix_resolve.proofs.list.walk.ancestors_beyond.Goals as goal
 
 pub list_all_ancestors-requires-clause-closed : goal.list_all_ancestors-requires-clause-closed
@@ -30,3 +31,36 @@ returns-clause-beyond g c =
     subst (λ l. Lists l (λ q. IsAncestorOfOne h c.args.shown.now q × (¬ IsAncestorOfOne h c.args.hidden.now q)))
     (sym (c.in_ok-ids_of.ensures ∙ behind new ns c.deref.result.now c.len-beyond.result (length xs) c.deref.ensures.value (omega (arith, c.len-beyond.ensures, len))))
     (lists_beyond h c.args.hidden.now c.args.shown.now xs ys first second closed)
+
+pub returns-in_err-list_all_ancestors-clause-taken : goal.returns-in_err-list_all_ancestors-clause-taken
+returns-in_err-list_all_ancestors-clause-taken g c =
+    let h = g.S.Find.history c.args.graph.now.source in
+    let same : g.S.Find.history c.begin_walk.new.graph.source ≡ h = ap g.S.Find.history c.begin_walk.ensures.source in
+    only_hidden h c.args.hidden.now c.args.shown.now c.args.graph.now c.begin_walk.new.graph c.list_all_ancestors.new.graph c.begin_walk.ensures.held (rw (same, c.new-listed.ensures.items) at c.list_all_ancestors.ensures.taken)
+
+pub returns-in_err-list_all_ancestors-2-clause-taken : goal.returns-in_err-list_all_ancestors-2-clause-taken
+returns-in_err-list_all_ancestors-2-clause-taken g c =
+    let h = g.S.Find.history c.args.graph.now.source in
+    let xs = ids_at c.list_all_ancestors.new.graph c.list_all_ancestors.new.listed.items in
+    let same : g.S.Find.history c.begin_walk.new.graph.source ≡ h = ap g.S.Find.history c.begin_walk.ensures.source in
+    let same_mid : g.S.Find.history c.list_all_ancestors.new.graph.source ≡ h = c.list_all_ancestors.ensures.after.same_history ∙ same in
+    only_shown h c.args.hidden.now c.args.shown.now xs c.args.graph.now c.begin_walk.new.graph c.list_all_ancestors.new.graph c.list_all_ancestors-2.new.graph c.begin_walk.ensures.held
+    (rw (same, c.new-listed.ensures.items) at c.list_all_ancestors.ensures.taken) (rw (same, c.new-listed.ensures.items) at c.in_ok-list_all_ancestors.ensures.adds) (rw same_mid at c.list_all_ancestors-2.ensures.taken)
+
+pub returns-in_err-ids_of-clause-taken : goal.returns-in_err-ids_of-clause-taken
+returns-in_err-ids_of-clause-taken g c =
+    let h = g.S.Find.history c.args.graph.now.source in
+    let xs = ids_at c.list_all_ancestors.new.graph c.list_all_ancestors.new.listed.items in
+    let same : g.S.Find.history c.begin_walk.new.graph.source ≡ h = ap g.S.Find.history c.begin_walk.ensures.source in
+    let same_mid : g.S.Find.history c.list_all_ancestors.new.graph.source ≡ h = c.list_all_ancestors.ensures.after.same_history ∙ same in
+    only_shown h c.args.hidden.now c.args.shown.now xs c.args.graph.now c.begin_walk.new.graph c.list_all_ancestors.new.graph c.list_all_ancestors-2.new.graph c.begin_walk.ensures.held
+    (rw (same, c.new-listed.ensures.items) at c.list_all_ancestors.ensures.taken) (rw (same, c.new-listed.ensures.items) at c.in_ok-list_all_ancestors.ensures.adds) (rw same_mid at c.list_all_ancestors-2.ensures.taken)
+
+pub returns-clause-taken : goal.returns-clause-taken
+returns-clause-taken g c =
+    let h = g.S.Find.history c.args.graph.now.source in
+    let xs = ids_at c.list_all_ancestors.new.graph c.list_all_ancestors.new.listed.items in
+    let same : g.S.Find.history c.begin_walk.new.graph.source ≡ h = ap g.S.Find.history c.begin_walk.ensures.source in
+    let same_mid : g.S.Find.history c.list_all_ancestors.new.graph.source ≡ h = c.list_all_ancestors.ensures.after.same_history ∙ same in
+    only_shown h c.args.hidden.now c.args.shown.now xs c.args.graph.now c.begin_walk.new.graph c.list_all_ancestors.new.graph c.list_all_ancestors-2.new.graph c.begin_walk.ensures.held
+    (rw (same, c.new-listed.ensures.items) at c.list_all_ancestors.ensures.taken) (rw (same, c.new-listed.ensures.items) at c.in_ok-list_all_ancestors.ensures.adds) (rw same_mid at c.list_all_ancestors-2.ensures.taken)

@@ -4,6 +4,7 @@ use Rattle.gix_merge_base.specs.PaintQueue.{ids_at}
 use Rattle.gix_resolve.specs.ListWalk.{Adds}
 use Rattle.gix_resolve.proofs.ListWalks.{adds_none, adds_next}
 use Rattle.gix_resolve.proofs.ListAfter.{after_same, after_then}
+use Rattle.gix_resolve.proofs.ListTaken.{only_same, only_more}
 use Rattle.gix_resolve.proofs.list.walk.list_all_ancestors.Goals as goal
 
 pub loop-id-init : goal.loop-id-init
@@ -12,6 +13,7 @@ loop-id-init g c = record {
   closed = c.requires.closed;
   adds = adds_none _ (ids_at c.args.graph.now c.args.listed.now.items);
   after = after_same c.args.graph.now c.args.graph.now _ refl refl refl;
+  taken = only_same _ c.args.graph.now c.args.graph.now refl;
 }
 
 pub list_ancestors-requires-clause-closed : goal.list_ancestors-requires-clause-closed
@@ -29,9 +31,16 @@ loop-id-preserved g c =
       adds = adds_next h c.args.ids.now (ids_at c.args.graph.now c.args.listed.now.items) (ids_at c.loop-id.graph c.loop-id.listed.items) (ids_at c.list_ancestors.new.graph c.list_ancestors.new.listed.items)
           c.loop-id.id-index _ c.loop-id-test.true c.loop-id.invariant.adds adds;
       after = after_then c.args.graph.now c.loop-id.graph c.list_ancestors.new.graph _ c.loop-id.invariant.after c.in_ok-list_ancestors.ensures.after;
+      taken = only_more h c.args.ids.now (ids_at c.args.graph.now c.args.listed.now.items) (ids_at c.loop-id.graph c.loop-id.listed.items) c.loop-id.id-index _ c.args.graph.now c.loop-id.graph c.list_ancestors.new.graph
+          c.loop-id-test.true c.loop-id.invariant.adds c.loop-id.invariant.taken (rw same at c.list_ancestors.ensures.taken);
     }
 
 pub returns-clause-adds : goal.returns-clause-adds
 returns-clause-adds g c =
     subst (λ l. Adds (g.S.Find.history c.args.graph.now.source) l (ids_at c.args.graph.now c.args.listed.now.items) (ids_at c.loop-id.graph c.loop-id.listed.items))
     (take_all c.loop-id.id-index c.args.ids.now (omega arith)) c.loop-id.invariant.adds
+
+pub returns-in_err-list_ancestors-clause-taken : goal.returns-in_err-list_ancestors-clause-taken
+returns-in_err-list_ancestors-clause-taken g c =
+    only_more (g.S.Find.history c.args.graph.now.source) c.args.ids.now (ids_at c.args.graph.now c.args.listed.now.items) (ids_at c.loop-id.graph c.loop-id.listed.items) c.loop-id.id-index _ c.args.graph.now c.loop-id.graph c.list_ancestors.new.graph
+    c.loop-id-test.true c.loop-id.invariant.adds c.loop-id.invariant.taken (rw c.loop-id.invariant.after.same_history at c.list_ancestors.ensures.taken)

@@ -6,6 +6,7 @@ use Rattle.gix_revwalk.proofs.Walk.{fewer_left, walk_bounded}
 use Rattle.gix_merge_base.specs.PaintQueue.{id_at, ids_at}
 use Rattle.gix_resolve.proofs.ListWalks.{adding_begins, adding_goes, adding_ends}
 use Rattle.gix_resolve.proofs.ListAfter.{after_then}
+use Rattle.gix_resolve.proofs.ListTaken.{only_start, only_goes}
 use Rattle.gix_resolve.proofs.list.walk.list_ancestors.Goals as goal
 
 pub loop-i-init : goal.loop-i-init
@@ -17,6 +18,7 @@ loop-i-init g c =
       marked = c.in_ok-list_id.ensures.marked;
       adding = adding_begins h c.args.id xs (ids_at c.list_id.new.graph c.list_id.new.listed.items) c.len-i.result c.requires.closed c.in_ok-list_id.ensures.visited (omega (arith, c.len-i.ensures, len));
       after = c.in_ok-list_id.ensures.after;
+      taken = only_start h xs c.args.id c.args.graph.now c.list_id.new.graph c.list_id.ensures.taken;
     }
 
 pub loop-i-smaller : goal.loop-i-smaller
@@ -36,6 +38,8 @@ loop-i-preserved g c =
       marked = c.in_ok-list_parents.ensures.marked;
       adding = adding_goes h c.args.id xs c.loop-i.graph c.loop-i.listed.items c.loop-i.i c.index-next.result.now (ids_at c.list_parents.new.graph c.list_parents.new.listed.items) c.loop-i.invariant.adding (omega arith) c.index-next.ensures visited;
       after = after_then c.args.graph.now c.loop-i.graph c.list_parents.new.graph _ c.loop-i.invariant.after c.in_ok-list_parents.ensures.after;
+      taken = only_goes h c.args.id xs c.args.graph.now c.loop-i.graph c.loop-i.listed.items c.loop-i.i c.index-next.result.now c.list_parents.new.graph c.loop-i.invariant.adding (omega arith) c.index-next.ensures
+          c.loop-i.invariant.taken (rw c.loop-i.invariant.after.same_history at c.list_parents.ensures.taken);
     }
 
 pub returns-clause-closed : goal.returns-clause-closed
@@ -49,3 +53,13 @@ returns-clause-adds g c =
     let ids = ids_at c.loop-i.graph c.loop-i.listed.items in
     let len = length-map c.loop-i.listed.items (λ (k : Number). id_at c.loop-i.graph (place_in k)) in
     (adding_ends _ c.args.id (ids_at c.args.graph.now c.args.listed.now.items) ids c.loop-i.i c.requires.closed c.loop-i.invariant.adding (take_all c.loop-i.i ids (omega arith))).1
+
+pub returns-in_err-list_id-clause-taken : goal.returns-in_err-list_id-clause-taken
+returns-in_err-list_id-clause-taken g c = only_start _ (ids_at c.args.graph.now c.args.listed.now.items) c.args.id c.args.graph.now c.list_id.new.graph c.list_id.ensures.taken
+
+pub returns-in_err-list_parents-clause-taken : goal.returns-in_err-list_parents-clause-taken
+returns-in_err-list_parents-clause-taken g c =
+    let h = g.S.Find.history c.args.graph.now.source in
+    let xs = ids_at c.args.graph.now c.args.listed.now.items in
+    only_goes h c.args.id xs c.args.graph.now c.loop-i.graph c.loop-i.listed.items c.loop-i.i c.index-next.result.now c.list_parents.new.graph c.loop-i.invariant.adding (omega arith) c.index-next.ensures
+    c.loop-i.invariant.taken (rw c.loop-i.invariant.after.same_history at c.list_parents.ensures.taken)

@@ -1,0 +1,11 @@
+use Rattle.gix_resolve.proofs.StepTaken.{on_start, on_step}
+use Rattle.gix_resolve.proofs.history.stepped.Goals as goal
+
+pub returns-in_err-take_in-clause-taken : goal.returns-in_err-take_in-clause-taken
+returns-in_err-take_in-clause-taken g c =
+    on_start (g.S.Find.history c.args.graph.now.source) c.args.state.current c.in-Some.id c.in-Some.is c.args.kind c.args.graph.now c.take_in.new.graph c.take_in.ensures.taken
+
+pub returns-in-None-clause-taken : goal.returns-in-None-clause-taken
+returns-in-None-clause-taken g c =
+    let h = g.S.Find.history c.args.graph.now.source in
+    on_step h c.args.state.current c.in-Some.id c.in-Some.is c.args.kind c.args.graph.now c.take_in.new.graph c.step.new.graph c.take_in.ensures.taken (rw c.take_in.ensures.after.same_history at c.step.ensures.taken)

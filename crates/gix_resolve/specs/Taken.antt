@@ -1,0 +1,47 @@
+-- What calls take into a graph.
+use Rattle.std.specs.Prelude.{◌≡◌, ◌⊎◌, ◌≤◌, ℕ, [], ◌∷◌, Bool, true, false, IsTrue, Option, Some, is_some}
+use Rattle.gix_revision.specs.Call.{Call, traverse, peel, object}
+use Rattle.gix_revision.specs.Graph.{Graphed, held_at}
+use Rattle.gix_revision.specs.History.{History, Has, IsAncestor, IsAncestorOfOne}
+use Rattle.gix_revision.specs.Types.ObjectId.{ObjectId}
+use Rattle.gix_revision.specs.Types.ObjectKind.TheVariants.{Commit}
+use Rattle.gix_revision.specs.Types.Spec.{Spec}
+use Rattle.gix_revision.specs.Types.Spec.TheVariants.{Include, Exclude, Range, Merge, IncludeOnlyParents, ExcludeParents}
+use Rattle.gix_revision.specs.Types.Traversal.{Traversal}
+use Rattle.gix_revision.specs.Types.Traversal.TheVariants.{NthParent, NthAncestor}
+use Rattle.gix_resolve.specs.Steps.{parent_at, ancestor_at, step_from}
+
+-- what n holds m held, or it is one of these
+abbrev pub TakesOnly : {S T : Type 0} → (ObjectId → Type 0) → Graphed S T → Graphed S T → Type 0
+TakesOnly wanted m n = (q : ObjectId) → IsTrue (is_some (held_at n q)) → IsTrue (is_some (held_at m q)) ⊎ wanted q
+
+-- q is one of the commits that are looked at to list what a spec means: what its ids reach; of `a^!` the commit itself;
+-- of `^a`, which means no commit, none
+abbrev pub IsLookedAt : History → Spec → ObjectId → Type 0
+IsLookedAt h (Include a) q = IsAncestor h a q
+IsLookedAt h (Exclude a) q = ⊥
+IsLookedAt h (Range a b) q = IsAncestorOfOne h (a ∷ b ∷ []) q
+IsLookedAt h (Merge a b) q = IsAncestorOfOne h (a ∷ b ∷ []) q
+IsLookedAt h (IncludeOnlyParents a) q = IsAncestor h a q
+IsLookedAt h (ExcludeParents a) q = Has h a × (q ≡ a)
+
+-- whether a spec is `^a`
+abbrev pub is_exclude : Spec → Bool
+is_exclude (Exclude a) = true
+is_exclude _ = false
+
+-- q is the commit, or its parent at a place
+abbrev pub IsNear : History → (place : ℕ) → (id q : ObjectId) → Type 0
+IsNear h place id q = (q ≡ id) ⊎ (parent_at h place id ≡ Some q)
+
+-- q lies on a step: on the way of `~n` from the commit to where it leads; of `^n` the commit, and where it leads
+abbrev pub IsOnStep : History → Traversal → (id q : ObjectId) → Type 0
+IsOnStep h (NthAncestor n) id q = (k : ℕ) × (k ≤ n) × (ancestor_at h k id ≡ Some q)
+IsOnStep h (NthParent n) id q = (q ≡ id) ⊎ (step_from h (NthParent n) id ≡ Some q)
+
+-- q lies on a call, where that revision is read: on a step; or it is the commit that `^{commit}` asks for. No other call
+-- asks for one.
+abbrev pub IsOnCall : History → Option ObjectId → Call → ObjectId → Type 0
+IsOnCall h (Some id) (traverse step) q = IsOnStep h step id q
+IsOnCall h (Some id) (peel (object Commit)) q = q ≡ id
+IsOnCall h _ _ q = ⊥

@@ -1,0 +1,28 @@
+-- What a revision text takes into a graph: the commits on its steps.
+use Rattle.std.specs.Prelude.{◌≡◌, ℕ, List, Some, Result, Ok, Err}
+use Rattle.gix_revision.specs.Answer.{Answer}
+use Rattle.gix_revision.specs.Call.{Call}
+use Rattle.gix_revision.specs.Graph.{Graphed}
+use Rattle.gix_revision.specs.History.{History}
+use Rattle.gix_revision.specs.Parse.{meaning_of, Fails}
+use Rattle.gix_revision.specs.Run.{IsRun, ended}
+use Rattle.gix_revision.specs.Tree.{fine}
+use Rattle.gix_revision.specs.Types.Error.{Error}
+use Rattle.gix_revision.specs.Types.Spec.{Spec}
+use Rattle.gix_revision.specs.Types.Time.{Time}
+use Rattle.gix_resolve.specs.Resolved.{IsStepOrFault}
+use Rattle.gix_resolve.specs.Steps.{start}
+use Rattle.gix_resolve.specs.Taken.{TakesOnly, IsOnCall}
+use Rattle.gix_resolve.specs.declared.state.State.{State}
+use Rattle.gix_resolve.specs.declared.table.Table.{Table}
+
+-- a step over a source that may fail, with the graph before and after it: what is newly held lies on the call
+pub record Walks {S T A : Type 0} (t : Table A) (h : History) (s : State × Graphed S T) (c : Call) (a : Answer) (u : State × Graphed S T) : Type 0 where
+  pub step : IsStepOrFault t h s.0 c a u.0
+  pub taken : TakesOnly (IsOnCall h s.0.current c) s.1 u.1
+
+-- the answer is the outcome of a run of such steps, from the graph before the text to the one after it, and its spec
+abbrev pub WalkedTo : {S T A : Type 0} → (text : List ℕ) → Time → Table A → History → Graphed S T → Result Spec Error → Graphed S T → Type 0
+WalkedTo text now t h m (Ok spec) n =
+    (u : State) × IsRun (Walks t h) (start, m) (meaning_of text now) (u, n) (ended fine) × (u.spec ≡ Some spec)
+WalkedTo text now t h m (Err e) n = (u : State) × Fails (Walks t h) (start, m) (meaning_of text now) (u, n) e

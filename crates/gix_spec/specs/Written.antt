@@ -1,0 +1,73 @@
+-- How each piece of a text is written: gitrevisions, "Specifying Revisions" and "Specifying Ranges".
+use Rattle.std.specs.Prelude.{◌≡◌, ◌⊎◌, ℕ, ◌+◌, List, [], ◌∷◌, ◌++◌, codes, Bool, true, false, Some, drop}
+use Rattle.gix_base.specs.declared.object.Kind.TheVariants.{Commit}
+use Rattle.gix_spec.specs.declared.spec.Kind.TheVariants.{RangeBetween, ReachableToMergeBase, IncludeReachableFromParents, ExcludeReachableFromParents}
+use Rattle.gix_spec.specs.declared.spec.parse.delegate.Traversal.TheVariants.{NthParent, NthAncestor}
+use Rattle.gix_spec.specs.Call.{object}
+use Rattle.gix_spec.specs.Pieces.{Piece, exclude, regex, index, head, name, branch, reflog, sibling, date, unescaped, step, peel, path, closer, without_parent, range, finish, finished, fault}
+use Rattle.gix_spec.specs.Marks.{colon}
+use Rattle.gix_spec.specs.Number.{digits_number}
+
+-- digits that say a number; where none stand, it is 1
+abbrev pub IsNumber : (digits : List ℕ) → (n : ℕ) → Type 0
+IsNumber [] n = n ≡ 1
+IsNumber (b ∷ digits) n = digits_number (b ∷ digits) ≡ Some n
+
+-- a mark, and such digits behind it
+abbrev pub IsNumbered : (mark : List ℕ) → (n : ℕ) → (own : List ℕ) → Type 0
+IsNumbered mark n own = (digits : List ℕ) × (own ≡ mark ++ digits) × IsNumber digits n
+
+-- a mark, and behind it a text in braces
+abbrev pub IsBraced : (mark inner own : List ℕ) → Type 0
+IsBraced mark inner own = own ≡ mark ++ (codes "{" ++ (inner ++ codes "}"))
+
+-- what stands behind the slash of a regex: the regex, after `!-` where it is negated, or after a `!` before another
+abbrev pub IsRegex : (raw : List ℕ) → (negated : Bool) → (tail : List ℕ) → Type 0
+IsRegex raw true tail = tail ≡ codes "!-" ++ raw
+IsRegex raw false tail = (tail ≡ raw) ⊎ (tail ≡ codes "!" ++ raw)
+
+-- the same in braces, by how many bytes stand before the regex: the slash, and the mark behind it
+abbrev pub IsRegexIn : (raw : List ℕ) → (negated : Bool) → (inner : List ℕ) → Type 0
+IsRegexIn raw true inner = raw ≡ drop 3 inner
+IsRegexIn raw false inner = (raw ≡ drop 1 inner) ⊎ (raw ≡ drop 2 inner)
+
+-- This is how a piece is written. A fault stands for what is left of the text, whatever that is.
+abbrev pub IsWritten : Piece → (own : List ℕ) → Type 0
+IsWritten exclude own = own ≡ codes "^"
+IsWritten (regex wanted raw negated) own =
+    ((tail : List ℕ) × (own ≡ codes ":/" ++ tail) × IsRegex raw negated tail)
+    ⊎ ((inner : List ℕ) × IsBraced (codes "^") inner own × IsRegexIn raw negated inner)
+IsWritten (index p stage) own = ((stage ≡ 0) × (own ≡ colon ∷ p)) ⊎ (own ≡ colon ∷ (stage + 48) ∷ colon ∷ p)
+IsWritten head own = (own ≡ []) ⊎ (own ≡ codes "@")
+IsWritten (name text whole attempt) own = own ≡ text
+IsWritten (branch n inner) own = IsBraced (codes "@") inner own
+IsWritten (reflog query own_name inner) own = IsBraced (codes "@") inner own
+IsWritten (sibling which own_name inner) own = IsBraced (codes "@") inner own
+IsWritten (date meaning own_name inner) own = IsBraced (codes "@") inner own
+IsWritten unescaped own = own ≡ []
+IsWritten (step (NthAncestor n) after) own = IsNumbered (codes "~") n own
+IsWritten (step (NthParent n) after) own = IsNumbered (codes "^") n own
+IsWritten (peel target after) own =
+    ((inner : List ℕ) × IsBraced (codes "^") inner own) ⊎ ((target ≡ object Commit) × IsNumbered (codes "^") 0 own)
+IsWritten (path p) own = own ≡ colon ∷ p
+IsWritten (closer k rest) own =
+    ((k ≡ ExcludeReachableFromParents) × (own ≡ codes "^!")) ⊎ ((k ≡ IncludeReachableFromParents) × (own ≡ codes "^@"))
+IsWritten (without_parent n after rest) own = IsNumbered (codes "^-") n own
+IsWritten (range k) own = ((k ≡ RangeBetween) × (own ≡ codes "..")) ⊎ ((k ≡ ReachableToMergeBase) × (own ≡ codes "..."))
+IsWritten finish own = own ≡ []
+IsWritten finished own = own ≡ []
+IsWritten (fault f input) own = Unit {0}
+
+-- these pieces, written one after another, are this text up to its rest
+abbrev pub Spells : List Piece → (text rest : List ℕ) → Type 0
+Spells [] text rest = text ≡ rest
+Spells (p ∷ ps) text rest = (own : List ℕ) × (more : List ℕ) × (text ≡ own ++ more) × IsWritten p own × Spells ps more rest
+
+-- whether a piece is a fault, and pieces that hold none
+abbrev pub is_fault : Piece → Bool
+is_fault (fault f input) = true
+is_fault _ = false
+
+abbrev pub NoFault : List Piece → Type 0
+NoFault [] = Unit {0}
+NoFault (p ∷ ps) = (is_fault p ≡ false) × NoFault ps
