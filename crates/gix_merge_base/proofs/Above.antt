@@ -5,7 +5,8 @@ use Rattle.std.proofs.lemmas.List.{length_push}
 use Rattle.std.proofs.lemmas.Map.Keys.{IsDistinct-push}
 use Rattle.std.proofs.lemmas.Map.Made.{length-le_from_is_member}
 use Rattle.gix_base.specs.declared.hash.ObjectId.{ObjectId}
-use Rattle.gix_revwalk.specs.History.{History, same_id, is_one_of, Has, IsEdge, IsAncestor, IsAcyclic}
+use Rattle.gix_revwalk.specs.History.{History, same_id, is_one_of, Has, IsEdge, IsAncestor, IsAncestorOfOne}
+use Rattle.gix_merge_base.specs.Premises.{IsAcyclicFrom}
 use Rattle.gix_merge_base.specs.Bases.{IsMaximal}
 use Rattle.gix_revwalk.specs.History.IsAncestor.{itself}
 use Rattle.gix_revwalk.specs.Walks.{parents_of_all}
@@ -14,7 +15,8 @@ use Rattle.gix_revwalk.proofs.Ancestors.{anc-trans, anc-edge}
 use Rattle.gix_revwalk.proofs.Members.{nothing, one_of-cases, one_of-single, one_of-filtered}
 use Rattle.gix_merge_base.proofs.Maximal.{one_with_parent, maximal_ones, GoesDown}
 
-module _ (h : History) (xs : List ObjectId) (acyclic : IsAcyclic h) (has : (c : ObjectId) → IsTrue (is_one_of xs c) → Has h c) where
+module _ (h : History) (ids xs : List ObjectId) (acyclic : IsAcyclicFrom h ids) (has : (c : ObjectId) → IsTrue (is_one_of xs c) → Has h c)
+    (reached : (c : ObjectId) → IsTrue (is_one_of xs c) → IsAncestorOfOne h ids c) where
   -- c is one of those that are a parent of none
   abbrev pub IsTop : ObjectId → Type 0
   IsTop m = IsTrue (is_one_of (filter (λ x. not (is_one_of (parents_of_all h xs) x)) xs) m)
@@ -36,7 +38,7 @@ module _ (h : History) (xs : List ObjectId) (acyclic : IsAcyclic h) (has : (c : 
             let p = r.0 in
             let edge : IsEdge h p c = (r.2, has c at.in_xs) in
             let step : IsAncestor h p c = anc-edge h p c (has p r.1) edge in
-            let new : is_one_of path p ≡ false = elim (is_one_of path p) as (λ b. is_one_of path p ≡ b → b ≡ false) [ true ↦ λ m. absurd (acyclic p c edge (at.leads p m)) | false ↦ λ m. refl ] refl in
+            let new : is_one_of path p ≡ false = elim (is_one_of path p) as (λ b. is_one_of path p ≡ b → b ≡ false) [ true ↦ λ m. absurd (acyclic p c (reached p r.1) edge (at.leads p m)) | false ↦ λ m. refl ] refl in
             inr (
               p,
               record {
@@ -74,8 +76,8 @@ module _ (h : History) (xs : List ObjectId) (acyclic : IsAcyclic h) (has : (c : 
   one_above c in_xs = climb (length xs) [] c (record { once = nothing; member = λ x m. cc; leads = λ x m. cc; in_xs = in_xs }) (omega arith)
 
 -- each common ancestor lies below a best one
-pub base_above : (h : History) (S : ObjectId → Type 0) (xs : List ObjectId) → IsAcyclic h → GoesDown h S → ((c : ObjectId) → S c → Has h c) → ((c : ObjectId) → IsTrue (is_one_of xs c) ↔ S c)
+pub base_above : (h : History) (ids : List ObjectId) (S : ObjectId → Type 0) (xs : List ObjectId) → IsAcyclicFrom h ids → GoesDown h S → ((c : ObjectId) → S c → Has h c) → ((c : ObjectId) → S c → IsAncestorOfOne h ids c) → ((c : ObjectId) → IsTrue (is_one_of xs c) ↔ S c)
     → (c : ObjectId) → S c → (m : ObjectId) × IsMaximal h S m × IsAncestor h m c
-base_above h S xs acyclic go has is c s =
-    let r = one_above h xs acyclic (λ x m. has x ((is x).0 m)) c ((is c).1 s) in
-    (r.0, (maximal_ones h S xs acyclic go has is r.0).0 r.1, r.2)
+base_above h ids S xs acyclic go has reached is c s =
+    let r = one_above h ids xs acyclic (λ x m. has x ((is x).0 m)) (λ x m. reached x ((is x).0 m)) c ((is c).1 s) in
+    (r.0, (maximal_ones h ids S xs acyclic go has reached is r.0).0 r.1, r.2)

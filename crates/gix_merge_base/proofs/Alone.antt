@@ -5,7 +5,8 @@ use Rattle.std.proofs.lemmas.List.{length_push}
 use Rattle.std.proofs.lemmas.Map.Keys.{IsDistinct-push}
 use Rattle.std.proofs.lemmas.Map.Made.{length-le_from_is_member}
 use Rattle.gix_base.specs.declared.hash.ObjectId.{ObjectId}
-use Rattle.gix_revwalk.specs.History.{History, Has, IsAncestor, IsAcyclic, is_one_of, same_id, GenerationsNeverRise}
+use Rattle.gix_revwalk.specs.History.{History, Has, IsAncestor, is_one_of, same_id}
+use Rattle.gix_merge_base.specs.Premises.{IsAcyclicFrom, GenerationsNeverRiseFrom}
 use Rattle.gix_revwalk.specs.History.IsAncestor.{itself}
 use Rattle.gix_merge_base.specs.Reducing.{IsIndependent, firsts}
 use Rattle.gix_merge_base.specs.ReduceSteps.{Reducing, Reduced}
@@ -13,10 +14,11 @@ use Rattle.gix_revwalk.proofs.Ids.{same_id-true, same_id-laws}
 use Rattle.gix_revwalk.proofs.Members.{one_of-left, one_of-cases, one_of-single, one_of-head}
 use Rattle.gix_revwalk.proofs.Ancestors.{anc-trans, anc-edge}
 use Rattle.gix_merge_base.proofs.Painting.{last, start}
+use Rattle.gix_merge_base.proofs.Reached.{reach_among, acyclic_within, never_within}
 use Rattle.gix_merge_base.proofs.Reduction.{has_parents, left_is_max, left_over, max_is_left}
 use Rattle.gix_merge_base.specs.Marks.{MarkSet}
 
-module _ (h : History) (ids : List ObjectId) (m : ObjectId → MarkSet) (q : List ObjectId) (acyclic : IsAcyclic h) (at : Reducing h ids m q) (c : ObjectId)
+module _ (h : History) (ids : List ObjectId) (m : ObjectId → MarkSet) (q : List ObjectId) (acyclic : IsAcyclicFrom h ids) (at : Reducing h ids m q) (c : ObjectId)
     (unique : (r : ObjectId) → IsTrue (is_one_of ids r) → (m r).stale ≡ false → r ≡ c) where
   -- different ids, each below t
   record Up (path : List ObjectId) (t : ObjectId) : Type 0 where
@@ -33,7 +35,7 @@ module _ (h : History) (ids : List ObjectId) (m : ObjectId → MarkSet) (q : Lis
       let to_t : IsAncestor h r t = anc-trans h r s.2 t (anc-edge h r s.2 has_r s.3) s.4 in
       let new : is_one_of path r ≡ false = elim (is_one_of path r) as (λ b. is_one_of path r ≡ b → b ≡ false) [
         | false ↦ λ e. refl
-        | true ↦ λ e. absurd (acyclic r s.2 s.3 (anc-trans h s.2 t r s.4 (up.leads r e)))
+        | true ↦ λ e. absurd (acyclic r s.2 (r, s.1, itself has_r) s.3 (anc-trans h s.2 t r s.4 (up.leads r e)))
       ] refl in
       let met : IsTrue (m r).stale = elim (m r).stale as (λ b. (m r).stale ≡ b → IsTrue b) [
         | true ↦ λ e. refl
@@ -96,19 +98,22 @@ module _ (h : History) (ids : List ObjectId) (m : ObjectId → MarkSet) (q : Lis
   )
 
 -- the ids that the history has, where the walk has ended
-module _ (h : History) (ids ns : List ObjectId) (m : ObjectId → MarkSet) (acyclic : IsAcyclic h) (reduced : Reduced h ns m)
+module _ (h : History) (ids ns : List ObjectId) (m : ObjectId → MarkSet) (acyclic : IsAcyclicFrom h ids) (reduced : Reduced h ns m)
     (inside : (c : ObjectId) → IsTrue (is_one_of ns c) → IsTrue (is_one_of ids c)) (every : (c : ObjectId) → IsTrue (is_one_of ids c) → Has h c → IsTrue (is_one_of ns c)) where
-  known_left : GenerationsNeverRise h → Reduced h ns m → (c : ObjectId) → IsTrue (is_one_of ns c) → (m c).stale ≡ false → IsIndependent h ns c
-  known_left never (inl at) c c_in out = left_is_max h ns m at never c c_in out
-  known_left never (inr s) c c_in out = alone_is_best h ns m s.0 acyclic s.1 c (λ a a_in met. s.2 a c a_in met c_in out) c_in
+  known_acyclic : IsAcyclicFrom h ns
+  known_acyclic = acyclic_within h ns ids (reach_among h ns ids inside) acyclic
+
+  known_left : GenerationsNeverRiseFrom h ids → Reduced h ns m → (c : ObjectId) → IsTrue (is_one_of ns c) → (m c).stale ≡ false → IsIndependent h ns c
+  known_left never (inl at) c c_in out = left_is_max h ns m at (never_within h ns ids (reach_among h ns ids inside) never) c c_in out
+  known_left never (inr s) c c_in out = alone_is_best h ns m s.0 known_acyclic s.1 c (λ a a_in met. s.2 a c a_in met c_in out) c_in
 
   known_sound : Reduced h ns m → (c : ObjectId) → IsTrue (m c).stale → Has h c
   known_sound (inl at) c k = let s = at.sound c k in last h s.2 c s.4
   known_sound (inr s) c k = let r = s.1.sound c k in last h r.2 c r.4
 
   known_unmet : Reduced h ns m → (c : ObjectId) → IsIndependent h ns c → (m c).stale ≡ false
-  known_unmet (inl at) c max = max_is_left h ns m [] acyclic at c max
-  known_unmet (inr s) c max = max_is_left h ns m s.0 acyclic s.1 c max
+  known_unmet (inl at) c max = max_is_left h ns m [] known_acyclic at c max
+  known_unmet (inr s) c max = max_is_left h ns m s.0 known_acyclic s.1 c max
 
   -- none of the independent ones was met
   pub reduced_keeps : (c : ObjectId) → IsIndependent h ids c → IsTrue (is_one_of (filter (λ x. not (m x).stale) (firsts ids)) c)
@@ -121,7 +126,7 @@ module _ (h : History) (ids ns : List ObjectId) (m : ObjectId → MarkSet) (acyc
   )
 
   -- what was not met is independent
-  pub reduced_exactly : GenerationsNeverRise h → (c : ObjectId) → IsTrue (is_one_of (filter (λ x. not (m x).stale) (firsts ids)) c) ↔ IsIndependent h ids c
+  pub reduced_exactly : GenerationsNeverRiseFrom h ids → (c : ObjectId) → IsTrue (is_one_of (filter (λ x. not (m x).stale) (firsts ids)) c) ↔ IsIndependent h ids c
   reduced_exactly never c = (
     λ k. let r = (left_over m ids c).0 k in (
       r.0,

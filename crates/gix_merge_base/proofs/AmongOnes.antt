@@ -1,24 +1,21 @@
--- In an acyclic history each of finitely many commits lies below a maximal one of them.
+-- Each of finitely many commits that reach no cycle lies below a maximal one of them.
 use Rattle.std.proofs.Common.{◌≡◌, ℕ, zero, suc, true, false, refl, sym, subst, ◌∙◌, List, [], ◌∷◌, ◌++◌, ◌⊎◌, inl, inr, IsTrue, not, ◌≤◌, ◌+◌, length, arith}
 use Rattle.std.specs.List.{IsDistinct}
 use Rattle.std.proofs.lemmas.List.{length_push}
 use Rattle.std.proofs.lemmas.Map.Keys.{IsDistinct-push}
 use Rattle.std.proofs.lemmas.Map.Made.{length-le_from_is_member}
 use Rattle.gix_base.specs.declared.hash.ObjectId.{ObjectId}
-use Rattle.gix_revwalk.specs.History.{History, same_id, is_one_of, Has, IsAncestor, IsAcyclic}
-use Rattle.gix_revwalk.specs.History.IsAncestor.{itself, further}
+use Rattle.gix_revwalk.specs.History.{History, same_id, is_one_of, Has, IsAncestor}
+use Rattle.gix_merge_base.specs.Premises.{IsAcyclicFrom}
+use Rattle.gix_revwalk.specs.History.IsAncestor.{itself}
 use Rattle.gix_merge_base.specs.Bases.{IsMaximal}
 use Rattle.gix_revwalk.specs.Sizes.{is_empty}
 use Rattle.gix_merge_base.specs.HistoryLaws.{Among}
 use Rattle.gix_revwalk.proofs.Ids.{same_id-true, same_id-equal, same_id-laws}
 use Rattle.gix_revwalk.proofs.Members.{nothing, one_of-cases, one_of-single, one_of-head, one_of-tail, one_of-cons_cases}
 use Rattle.gix_merge_base.proofs.Octopus.{Listed, listed}
+use Rattle.gix_merge_base.proofs.Reached.{same_both_ways}
 use Rattle.gix_revwalk.proofs.Ancestors.{anc-trans}
-
--- no two commits are ancestors of each other
-pub mutual-same : (h : History) → IsAcyclic h → (a b : ObjectId) → IsAncestor h a b → IsAncestor h b a → a ≡ b
-mutual-same h acyclic a b (itself has) up = refl
-mutual-same h acyclic a b (further b' c p e) up = absurd (acyclic b' b e (anc-trans h b a b' up p))
 
 -- whether t is among the descendants of c, as the list of its ancestors tells
 is_above : (h : History) (t c : ObjectId) → IsAncestor h t c ⊎ (IsAncestor h t c → ⊥)
@@ -51,7 +48,7 @@ better_or_none h (x ∷ xs) c =
       ] refl
     ]
 
-module _ (h : History) (ids : List ObjectId) (acyclic : IsAcyclic h) (has : (c : ObjectId) → Among ids c → Has h c) where
+module _ (h : History) (ids : List ObjectId) (acyclic : IsAcyclicFrom h ids) (has : (c : ObjectId) → Among ids c → Has h c) where
   -- the ids of path are different ones of ids, and c leads to each
   record Climbed (path : List ObjectId) (c : ObjectId) : Type 0 where
     once : IsDistinct same_id path
@@ -69,7 +66,7 @@ module _ (h : History) (ids : List ObjectId) (acyclic : IsAcyclic h) (has : (c :
             let up : IsAncestor h t c = r.1.above in
             let new : is_one_of path t ≡ false =
             elim (is_one_of path t) as (λ b. is_one_of path t ≡ b → b ≡ false) [
-              | true ↦ λ m. sym (same_id-equal t c (mutual-same h acyclic t c up (at.leads t m))) ∙ r.1.other
+              | true ↦ λ m. sym (same_id-equal t c (same_both_ways h ids acyclic t c (t, r.1.own, itself (has t r.1.own)) up (at.leads t m))) ∙ r.1.other
               | false ↦ λ m. refl
             ] refl in
             inr (
@@ -108,6 +105,6 @@ module _ (h : History) (ids : List ObjectId) (acyclic : IsAcyclic h) (has : (c :
   pub maximal_above : (c : ObjectId) → Among ids c → (m : ObjectId) × IsMaximal h (Among ids) m × IsAncestor h m c
   maximal_above c own = climb (length ids) [] c (record { once = nothing; member = λ x m. cc; leads = λ x m. cc; own = own }) (omega arith)
 
-pub maximal_some : (h : History) (ids : List ObjectId) → IsAcyclic h → ((c : ObjectId) → Among ids c → Has h c) → IsTrue (not (is_empty ids)) → (m : ObjectId) × IsMaximal h (Among ids) m
+pub maximal_some : (h : History) (ids : List ObjectId) → IsAcyclicFrom h ids → ((c : ObjectId) → Among ids c → Has h c) → IsTrue (not (is_empty ids)) → (m : ObjectId) × IsMaximal h (Among ids) m
 maximal_some h [] acyclic has some = cc
 maximal_some h (x ∷ xs) acyclic has some = let r = maximal_above h (x ∷ xs) acyclic has x (one_of-head x xs) in (r.0, r.1)

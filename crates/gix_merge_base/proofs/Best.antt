@@ -1,22 +1,24 @@
 -- The maximal ones of what painting gives are the best common ancestors.
-use Rattle.std.proofs.Common.{◌≡◌, true, false, refl, sym, subst, ◌∙◌, List, [], ◌∷◌, IsTrue, ◌↔◌, ◌≤◌, length, arith}
+use Rattle.std.proofs.Common.{◌≡◌, true, false, sym, subst, ◌∙◌, List, [], ◌∷◌, IsTrue, ◌↔◌, ◌≤◌, length, arith}
 use Rattle.std.specs.List.{IsDistinct}
 use Rattle.gix_revwalk.proofs.Ids.{same_id-equal}
 use Rattle.gix_base.specs.declared.hash.ObjectId.{ObjectId}
-use Rattle.gix_revwalk.specs.History.{History, IsAncestor, IsAcyclic, is_one_of, same_id}
+use Rattle.gix_revwalk.specs.History.{History, IsAncestor, is_one_of, same_id}
+use Rattle.gix_merge_base.specs.Premises.{IsAcyclicFrom}
 use Rattle.gix_merge_base.specs.Bases.{IsCommon, IsMaximal}
-use Rattle.gix_revwalk.specs.History.IsAncestor.{itself, further}
 use Rattle.gix_merge_base.specs.Reducing.{IsIndependent, firsts, SomeOf}
 use Rattle.gix_merge_base.proofs.Reduction.{firsts_once, firsts_has}
 use Rattle.gix_revwalk.proofs.Members.{one_of-head, one_of-tail, one_of-single, one_of-filter, distinct_filter}
 use Rattle.gix_revwalk.proofs.Ancestors.{anc-trans}
 use Rattle.gix_merge_base.proofs.Octopus.{best_above}
+use Rattle.gix_merge_base.proofs.Reached.{ReachNoMore, same_both_ways}
 
-same_both_ways : (h : History) → IsAcyclic h → (a b : ObjectId) → IsAncestor h a b → IsAncestor h b a → a ≡ b
-same_both_ways h acyclic a b (itself has) back = refl
-same_both_ways h acyclic a b (further x b' p e) back = absurd (acyclic x b e (anc-trans h b a x back p))
+-- what is painted reaches no more than what was handed in
+pub painted_within : (h : History) (f : ObjectId) (os xs : List ObjectId) → ((c : ObjectId) → IsTrue (is_one_of xs c) → IsCommon h f os c)
+    → ReachNoMore h xs (f ∷ os)
+painted_within h f os xs common c a = (f, one_of-head f os, anc-trans h f a.0 c (common a.0 a.1).0 a.2)
 
-pub max_of_painted : (h : History) (f : ObjectId) (os xs : List ObjectId) → IsAcyclic h → ((c : ObjectId) → IsTrue (is_one_of xs c) → IsCommon h f os c) → ((c : ObjectId) → IsMaximal h (IsCommon h f os) c → IsTrue (is_one_of xs c))
+pub max_of_painted : (h : History) (f : ObjectId) (os xs : List ObjectId) → IsAcyclicFrom h (f ∷ os) → ((c : ObjectId) → IsTrue (is_one_of xs c) → IsCommon h f os c) → ((c : ObjectId) → IsMaximal h (IsCommon h f os) c → IsTrue (is_one_of xs c))
     → (c : ObjectId) → IsIndependent h xs c ↔ IsMaximal h (IsCommon h f os) c
 max_of_painted h f os xs acyclic common best c = (
   λ max. (
@@ -24,7 +26,7 @@ max_of_painted h f os xs acyclic common best c = (
     λ t t_common leads.
         let b = best_above h f os acyclic t t_common in
         let is : b.0 ≡ c = max.1 b.0 (best b.0 b.1) (anc-trans h b.0 t c b.2 leads) in
-        same_both_ways h acyclic t c leads (subst (λ z. IsAncestor h z t) is b.2),
+        same_both_ways h (f ∷ os) acyclic t c (f, one_of-head f os, t_common.0) leads (subst (λ z. IsAncestor h z t) is b.2),
   ),
   λ max. (best c max, λ t t_in leads. max.1 t (common t t_in) leads),
 )

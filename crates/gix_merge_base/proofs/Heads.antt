@@ -8,7 +8,8 @@ use Rattle.std.proofs.lemmas.List.{length_push}
 use Rattle.std.proofs.lemmas.Map.Keys.{IsDistinct-push}
 use Rattle.std.proofs.lemmas.Map.Made.{length-le_from_is_member}
 use Rattle.gix_base.specs.declared.hash.ObjectId.{ObjectId}
-use Rattle.gix_revwalk.specs.History.{History, same_id, is_one_of, Has, IsAncestor, IsAncestorOfOne, IsAncestorOfAll, IsAcyclic, GenerationsNeverRise}
+use Rattle.gix_revwalk.specs.History.{History, same_id, is_one_of, Has, IsAncestor, IsAncestorOfOne, IsAncestorOfAll}
+use Rattle.gix_merge_base.specs.Premises.{IsAcyclicFrom, GenerationsNeverRiseFrom}
 use Rattle.gix_revwalk.specs.History.IsAncestor.{itself}
 use Rattle.gix_merge_base.specs.Bases.{IsCommon, IsMaximal, CoverBases}
 use Rattle.gix_merge_base.specs.Octopus.{IsOctopusBase, IsCommonToAll}
@@ -18,8 +19,8 @@ use Rattle.gix_merge_base.specs.OctopusSteps.{AreApart, IsStep, AreOctopusBases,
 use Rattle.gix_revwalk.proofs.Ids.{same_id-laws}
 use Rattle.gix_revwalk.proofs.Members.{one_of-left, one_of-right, one_of-cases, one_of-cons_cases, one_of-single, one_of-head, one_of-tail, one_of-at, take_next}
 use Rattle.gix_revwalk.proofs.Ancestors.{anc-trans, has_ancestor}
-use Rattle.gix_merge_base.proofs.AmongOnes.{mutual-same}
 use Rattle.gix_merge_base.proofs.Octopus.{best_above}
+use Rattle.gix_merge_base.proofs.Reached.{ReachNoMore, acyclic_within, never_within, same_both_ways}
 use Rattle.gix_merge_base.proofs.Reduction.{firsts_has, firsts_once}
 
 -- no bases: nothing is common
@@ -40,8 +41,8 @@ step_alone h bs o has there = record {
 }
 
 -- else they are looked up
-pub step_best : (h : History) (bs : List ObjectId) (o : ObjectId) (ys : List ObjectId) → IsAcyclic h → CoverBases h o bs ys
-    → (GenerationsNeverRise h → (c : ObjectId) → IsTrue (is_one_of ys c) ↔ IsMaximal h (IsCommon h o bs) c) → IsStep h bs o ys
+pub step_best : (h : History) (bs : List ObjectId) (o : ObjectId) (ys : List ObjectId) → IsAcyclicFrom h (o ∷ bs) → CoverBases h o bs ys
+    → (GenerationsNeverRiseFrom h (o ∷ bs) → (c : ObjectId) → IsTrue (is_one_of ys c) ↔ IsMaximal h (IsCommon h o bs) c) → IsStep h bs o ys
 step_best h bs o ys acyclic covers exact = record {
   common = covers.common;
   below = λ c s. let m = best_above h o bs acyclic c s in (m.0, covers.every m.0 m.1, m.2);
@@ -52,7 +53,7 @@ step_best h bs o ys acyclic covers exact = record {
 pub record StandFor (h : History) (f : ObjectId) (os us : List ObjectId) : Type 0 where
   pub below : (c : ObjectId) → IsAncestorOfOne h us c ↔ IsAncestorOfAll h (f ∷ os) c
   pub has : (c : ObjectId) → IsTrue (is_one_of us c) → Has h c
-  pub apart : GenerationsNeverRise h → AreApart h us
+  pub apart : GenerationsNeverRiseFrom h (f ∷ os) → AreApart h us
 
 pub stand_first : (h : History) (f : ObjectId) → Has h f → StandFor h f [] (f ∷ [])
 stand_first h f has = record {
@@ -77,18 +78,35 @@ module _ (h : History) (f : ObjectId) (os : List ObjectId) (o : ObjectId) (us ys
   below_more c all =
       step.below c (all o (one_of-right (f ∷ os) (o ∷ []) o (one_of-head o [])), (stand.below c).1 (λ i m. all i (one_of-left (f ∷ os) (o ∷ []) i m)))
 
+  reach_no_more : ReachNoMore h (o ∷ us) (f ∷ (os ++ o ∷ []))
+  reach_no_more c a = elim (one_of-cons_cases o us a.0 a.1) as (λ _. IsAncestorOfOne h (f ∷ (os ++ o ∷ [])) c) [
+    | inl is ↦ (o, one_of-right (f ∷ os) (o ∷ []) o (one_of-head o []), subst (λ z. IsAncestor h z c) is a.2)
+    | inr k ↦ (f, one_of-head f (os ++ o ∷ []), (stand.below c).0 (a.0, k, a.2) f (one_of-head f os))
+  ]
+
   stand_more : StandFor h f (os ++ o ∷ []) ys
   stand_more = record {
     below = λ c. (more_below c, below_more c);
     has = λ c m. (has_ancestor h o c (step.common c m).0).0;
-    apart = step.apart;
+    apart = λ never. step.apart (never_within h (o ∷ us) (f ∷ (os ++ o ∷ [])) reach_no_more never);
   }
 
 pub stand_next : (h : History) (f : ObjectId) (os : List ObjectId) (i : ℕ) (d : ObjectId) (us ys : List ObjectId) → i < length os → StandFor h f (take i os) us
     → IsStep h us (get_or os i d) ys → StandFor h f (take (i + 1) os) ys
 stand_next h f os i d us ys lt stand step = rw (take_next os i d lt) (stand_more h f (take i os) (get_or os i d) us ys stand step)
 
-module _ (h : History) (f : ObjectId) (os us : List ObjectId) (acyclic : IsAcyclic h) (stand : StandFor h f os us) where
+-- what stands for some heads and the next head reach no more than all heads
+pub stand_acyclic : (h : History) (f : ObjectId) (os : List ObjectId) (i : ℕ) (d : ObjectId) (us : List ObjectId) → i < length os → StandFor h f (take i os) us
+    → IsAcyclicFrom h (f ∷ os) → IsAcyclicFrom h (get_or os i d ∷ us)
+stand_acyclic h f os i d us lt stand acyclic = acyclic_within h (get_or os i d ∷ us) (f ∷ os) within acyclic
+  where
+    within : ReachNoMore h (get_or os i d ∷ us) (f ∷ os)
+    within c a = elim (one_of-cons_cases (get_or os i d) us a.0 a.1) as (λ _. IsAncestorOfOne h (f ∷ os) c) [
+      | inl is ↦ (get_or os i d, one_of-tail f os (get_or os i d) (one_of-at os i d lt), subst (λ z. IsAncestor h z c) is a.2)
+      | inr k ↦ (f, one_of-head f os, (stand.below c).0 (a.0, k, a.2) f (one_of-head f (take i os)))
+    ]
+
+module _ (h : History) (f : ObjectId) (os us : List ObjectId) (acyclic : IsAcyclicFrom h (f ∷ os)) (stand : StandFor h f os us) where
   each_common : (c : ObjectId) → IsTrue (is_one_of us c) → IsAncestorOfAll h (f ∷ os) c
   each_common c m = (stand.below c).0 (c, m, itself (stand.has c m))
 
@@ -101,7 +119,7 @@ module _ (h : History) (f : ObjectId) (os us : List ObjectId) (acyclic : IsAcycl
         each_common c m,
         λ t s a. let r = (stand.below t).1 s in
             let is : r.0 ≡ c = stand.apart never r.0 c r.1 m (anc-trans h r.0 t c r.2 a) in
-            mutual-same h acyclic t c a (subst (λ z. IsAncestor h z t) is r.2),
+            same_both_ways h (f ∷ os) acyclic t c (f, one_of-head f os, s f (one_of-head f os)) a (subst (λ z. IsAncestor h z t) is r.2),
       )),
       (λ s. let r = (stand.below c).1 s.0 in
           subst (λ z. IsTrue (is_one_of us z)) (s.1 r.0 (each_common r.0 r.1) r.2) r.1),
@@ -120,11 +138,11 @@ module _ (h : History) (f : ObjectId) (os ids : List ObjectId) where
   none_common : AreOctopusBases h f os ids → ((y : ObjectId) → IsTrue (is_one_of ids y) → ¬ Has h y) → (c : ObjectId) → ¬ IsAncestorOfAll h (f ∷ os) c
   none_common are lacked c all = let a = are.cover c all in lacked a.0 a.1 (has_ancestor h a.0 c a.2).1
 
-  best_is_chosen : (r : Option ObjectId) → GenerationsNeverRise h → AreOctopusBases h f os ids → IsBestOf h ids r → IsChosenOne r
+  best_is_chosen : (r : Option ObjectId) → GenerationsNeverRiseFrom h (f ∷ os) → AreOctopusBases h f os ids → IsBestOf h ids r → IsChosenOne r
   best_is_chosen None never are lacked = none_common are lacked
   best_is_chosen (Some x) never are best = ((are.maximal never x).0 best.member, λ y m. best.first y ((are.maximal never y).1 m) (has_ancestor h f y (m.0 f (one_of-head f os))).0)
 
-  pub best_is_octopus : (r : Option ObjectId) → list_all (same_id f) os ≡ false → GenerationsNeverRise h → AreOctopusBases h f os ids → IsBestOf h ids r → IsOctopusBase h f os r
+  pub best_is_octopus : (r : Option ObjectId) → list_all (same_id f) os ≡ false → GenerationsNeverRiseFrom h (f ∷ os) → AreOctopusBases h f os ids → IsBestOf h ids r → IsOctopusBase h f os r
   best_is_octopus r differ never are best = subst (λ b. MatchBool b (r ≡ Some f) (IsChosenOne r)) (sym differ) (best_is_chosen r never are best)
 
   pub best_is_common : (r : Option ObjectId) → AreOctopusBases h f os ids → IsBestOf h ids r → IsCommonToAll h f os r

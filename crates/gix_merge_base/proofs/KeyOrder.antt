@@ -3,10 +3,12 @@ use Rattle.std.proofs.Common.{◌≡◌, ℕ, refl, sym, subst, ◌∙◌, List,
 use Rattle.std.proofs.lemmas.Int.{ints}
 use Rattle.std.proofs.Math.Nat.{eq-or-lt_of_le}
 use Rattle.gix_base.specs.declared.hash.ObjectId.{ObjectId}
-use Rattle.gix_revwalk.specs.History.{History, IsEdge, IsAncestor, is_one_of}
+use Rattle.gix_revwalk.specs.History.{History, IsEdge, IsAncestor, IsAncestorOfOne, generation_of, is_one_of}
 use Rattle.gix_revwalk.specs.History.IsAncestor.{itself, further}
-use Rattle.gix_merge_base.specs.Keys.{KeyBelow, KeyAtMost, KeysFall, NoneRises, InFallingOrder}
+use Rattle.gix_merge_base.specs.Keys.{KeyBelow, KeyAtMost, InFallingOrder}
+use Rattle.gix_merge_base.specs.Premises.{IsAcyclicFrom, GenerationsNeverRiseFrom, KeysFallFrom, NoneRisesFrom}
 use Rattle.gix_revwalk.proofs.Members.{one_of-cases, one_of-single, one_of-head, one_of-tail}
+use Rattle.gix_revwalk.proofs.Ancestors.{anc-trans}
 
 abbrev Lower : ℕ → ℤ → ℕ → ℤ → Type 0
 Lower g s h t = (g < h) ⊎ ((g ≡ h) × (s <ℤ t))
@@ -44,16 +46,37 @@ at_most-trans h a b c x y = as_low-trans _ _ _ _ _ _ x y
 pub not_above : (h : History) (a b : ObjectId) → KeyAtMost h a b → KeyBelow h b a → ⊥
 not_above h a b x y = apart _ _ _ _ x y
 
-pub rises_not : (h : History) → NoneRises h → (a b : ObjectId) → IsEdge h a b → KeyAtMost h b a
-rises_not h none a b e = let r = none a b e in from_parts _ _ _ _ r.0 r.1
+pub rises_not : (h : History) (ids : List ObjectId) → NoneRisesFrom h ids → (a b : ObjectId) → IsAncestorOfOne h ids a → IsEdge h a b → KeyAtMost h b a
+rises_not h ids none a b reached e = let r = none a b reached e in from_parts _ _ _ _ r.0 r.1
 
-pub falls_along : (h : History) → KeysFall h → (a c : ObjectId) → IsAncestor h a c → (a ≡ c) ⊎ KeyBelow h c a
-falls_along h falls a c (itself has) = inl refl
-falls_along h falls a c (further b c' p e) =
-    elim (falls_along h falls a b p) as (λ _. (a ≡ c) ⊎ KeyBelow h c a) [
-      | inl is ↦ inr (subst (λ z. KeyBelow h c z) (sym is) (falls b c e))
-      | inr less ↦ inr (before-trans h c b a (falls b c e) less)
+pub falls_along : (h : History) (ids : List ObjectId) → KeysFallFrom h ids → (a c : ObjectId) → IsAncestorOfOne h ids a → IsAncestor h a c → (a ≡ c) ⊎ KeyBelow h c a
+falls_along h ids falls a c reached (itself has) = inl refl
+falls_along h ids falls a c reached (further b c' p e) =
+    let below : KeyBelow h c b = falls b c (reached.0, reached.1, anc-trans h reached.0 a b reached.2 p) e in
+    elim (falls_along h ids falls a b reached p) as (λ _. (a ≡ c) ⊎ KeyBelow h c a) [
+      | inl is ↦ inr (subst (λ z. KeyBelow h c z) (sym is) below)
+      | inr less ↦ inr (before-trans h c b a below less)
     ]
+
+not_itself : (g : ℕ) (t : ℤ) → Lower g t g t → ⊥
+not_itself g t (inl x) = omega arith
+not_itself g t (inr x) = let e = x.1 in omega (arith, ints)
+
+-- where keys fall there is no way back
+pub falls_acyclic : (h : History) (ids : List ObjectId) → KeysFallFrom h ids → IsAcyclicFrom h ids
+falls_acyclic h ids falls a b reached e back =
+    let below : KeyBelow h b a = falls a b reached e in
+    let around : KeyBelow h b b = elim (falls_along h ids falls b a (reached.0, reached.1, further a b reached.2 e) back) as (λ _. KeyBelow h b b) [
+      | inl is ↦ subst (λ z. KeyBelow h b z) (sym is) below
+      | inr less ↦ before-trans h b a b below less
+    ] in
+    not_itself _ _ around
+
+pub falls_never : (h : History) (ids : List ObjectId) → KeysFallFrom h ids → GenerationsNeverRiseFrom h ids
+falls_never h ids falls a b reached e = elim (falls a b reached e) as (λ _. generation_of h b ≤ generation_of h a) [
+  | inl less ↦ omega arith
+  | inr same ↦ let k = same.0 in omega arith
+]
 
 pub falling_push : (h : History) (xs : List ObjectId) (c : ObjectId) → InFallingOrder h xs → ((r : ObjectId) → IsTrue (is_one_of xs r) → KeyAtMost h c r) → InFallingOrder h (xs ++ c ∷ [])
 falling_push h [] c o above = (λ y m. cc, tt)

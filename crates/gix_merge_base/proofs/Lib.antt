@@ -1,3 +1,4 @@
+pub mod Reached
 pub mod Maximal
 pub mod Above
 pub mod Octopus

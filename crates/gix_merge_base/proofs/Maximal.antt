@@ -3,7 +3,8 @@ use Rattle.std.proofs.Common.{◌≡◌, false, refl, sym, subst, List, [], ◌�
 use Rattle.std.proofs.lemmas.Bool.{not_from_false, false_from_ne_true}
 use Rattle.std.specs.List.{filter}
 use Rattle.gix_base.specs.declared.hash.ObjectId.{ObjectId}
-use Rattle.gix_revwalk.specs.History.{History, entry_at, is_one_of, Has, IsEdge, parents_in, IsAncestor, IsAncestorOfOne, IsAcyclic}
+use Rattle.gix_revwalk.specs.History.{History, entry_at, is_one_of, Has, IsEdge, parents_in, IsAncestor, IsAncestorOfOne}
+use Rattle.gix_merge_base.specs.Premises.{IsAcyclicFrom}
 use Rattle.gix_merge_base.specs.Bases.{IsCommon, IsMaximal, AreBases, CoverBases, is_trivial}
 use Rattle.gix_revwalk.specs.History.IsAncestor.{itself, further}
 use Rattle.gix_revwalk.proofs.Ancestors.{anc-edge, has_ancestor}
@@ -35,17 +36,17 @@ down h S go a b s (itself has) = s
 down h S go a b s (further b' c p e) = go b' b (down h S go a b' s p) e
 
 -- xs has the members of S, each of which the history has
-pub maximal_ones : (h : History) (S : ObjectId → Type 0) (xs : List ObjectId) → IsAcyclic h → GoesDown h S → ((c : ObjectId) → S c → Has h c)
+pub maximal_ones : (h : History) (ids : List ObjectId) (S : ObjectId → Type 0) (xs : List ObjectId) → IsAcyclicFrom h ids → GoesDown h S → ((c : ObjectId) → S c → Has h c) → ((c : ObjectId) → S c → IsAncestorOfOne h ids c)
     → ((c : ObjectId) → IsTrue (is_one_of xs c) ↔ S c)
     → (c : ObjectId) → IsTrue (is_one_of (filter (λ x. not (is_one_of (parents_of_all h xs) x)) xs) c) ↔ IsMaximal h S c
-maximal_ones h S xs acyclic go has is c = (
+maximal_ones h ids S xs acyclic go has reached is c = (
   (λ m. let kept = one_of-filter (λ x. not (is_one_of (parents_of_all h xs) x)) xs c m in
       ((is c).0 kept.0, λ t s a. top t c s a (λ p k. not_both _ kept.1 (parent_of_one h xs p c ((is p).1 k.0) k.1)))),
   (λ m. one_of-filtered (λ x. not (is_one_of (parents_of_all h xs) x)) xs c ((is c).1 m.0)
       (not_from_false _ (false_from_ne_true _ (λ k. let p = one_with_parent h xs c k in
       let sp : S p.0 = (is p.0).0 p.1 in
       let edge : IsEdge h p.0 c = (p.2, has c m.0) in
-      acyclic p.0 c edge (subst (λ z. IsAncestor h c z) (sym (m.1 p.0 sp (anc-edge h p.0 c (has p.0 sp) edge))) (itself (has c m.0))))))),
+      acyclic p.0 c (reached p.0 sp) edge (subst (λ z. IsAncestor h c z) (sym (m.1 p.0 sp (anc-edge h p.0 c (has p.0 sp) edge))) (itself (has c m.0))))))),
 )
   where
     top : (t c : ObjectId) → S t → IsAncestor h t c → ((p : ObjectId) → S p × IsTrue (is_one_of (parents_in (entry_at h p)) c) → ⊥) → t ≡ c

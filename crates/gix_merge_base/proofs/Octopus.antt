@@ -4,7 +4,8 @@ use Rattle.std.specs.List.{filter}
 use Rattle.std.specs.Bool.{MatchBool}
 use Rattle.std.proofs.lemmas.List.{take_all}
 use Rattle.gix_base.specs.declared.hash.ObjectId.{ObjectId}
-use Rattle.gix_revwalk.specs.History.{History, entry_at, is_one_of, parents_in, IsAncestor, IsAncestorOfOne, IsAcyclic}
+use Rattle.gix_revwalk.specs.History.{History, entry_at, is_one_of, parents_in, IsAncestor, IsAncestorOfOne}
+use Rattle.gix_merge_base.specs.Premises.{IsAcyclicFrom}
 use Rattle.gix_merge_base.specs.Bases.{IsCommon, IsMaximal, IsBase}
 use Rattle.gix_revwalk.specs.Walks.{all_visited}
 use Rattle.gix_revwalk.proofs.Members.{one_of-single, one_of-head}
@@ -35,15 +36,15 @@ pub listed : (h : History) (starts : List ObjectId) (d : ObjectId) → Listed h 
 listed h starts d = followed h starts d (length h) (all_visited h [] starts) 0 (walk_starts h starts) (omega arith)
 
 -- each common ancestor lies below a best one, whatever the lists
-pub best_above : (h : History) (f : ObjectId) (os : List ObjectId) → IsAcyclic h → (c : ObjectId) → IsCommon h f os c → (m : ObjectId) × IsMaximal h (IsCommon h f os) m × IsAncestor h m c
+pub best_above : (h : History) (f : ObjectId) (os : List ObjectId) → IsAcyclicFrom h (f ∷ os) → (c : ObjectId) → IsCommon h f os c → (m : ObjectId) × IsMaximal h (IsCommon h f os) m × IsAncestor h m c
 unfolding Listed
 best_above h f os acyclic c s =
     let ours = listed h (f ∷ []) f in
     let theirs = listed h os f in
-    base_above h (IsCommon h f os) (filter (is_one_of theirs.0) ours.0) acyclic (common_goes_down h f os) (common_has h f os) (common_ones h f os ours.0 theirs.0 ours.1 theirs.1) c s
+    base_above h (f ∷ os) (IsCommon h f os) (filter (is_one_of theirs.0) ours.0) acyclic (common_goes_down h f os) (common_has h f os) (λ x s. (f, one_of-head f os, s.0)) (common_ones h f os ours.0 theirs.0 ours.1 theirs.1) c s
 
 -- below the bases of b and o lies what is below both
-pub bases_cover : (h : History) (b o : ObjectId) → IsAcyclic h → (c : ObjectId) → ((x : ObjectId) × IsBase h b (o ∷ []) x × IsAncestor h x c) ↔ (IsAncestor h b c × IsAncestor h o c)
+pub bases_cover : (h : History) (b o : ObjectId) → IsAcyclicFrom h (b ∷ o ∷ []) → (c : ObjectId) → ((x : ObjectId) × IsBase h b (o ∷ []) x × IsAncestor h x c) ↔ (IsAncestor h b c × IsAncestor h o c)
 bases_cover h b o acyclic c =
     elim (is_one_of (o ∷ []) b) as (λ t. is_one_of (o ∷ []) b ≡ t → ((x : ObjectId) × MatchBool t (x ≡ b) (IsMaximal h (IsCommon h b (o ∷ [])) x) × IsAncestor h x c) ↔ (IsAncestor h b c × IsAncestor h o c)) [
       | true ↦ λ same.

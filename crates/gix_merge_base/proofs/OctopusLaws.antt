@@ -13,6 +13,7 @@ use Rattle.gix_merge_base.specs.OctopusSteps.{AreOctopusBases}
 use Rattle.gix_revwalk.proofs.Ids.{same_id-true, same_id-equal}
 use Rattle.gix_revwalk.proofs.Members.{one_of-head, one_of-tail, one_of-cons_cases}
 use Rattle.gix_merge_base.proofs.Choice.{choice-unique}
+use Rattle.gix_merge_base.proofs.Reached.{reach_among, never_within}
 
 and_both : (a b : Bool) → (a && b) ≡ true → (a ≡ true) × (b ≡ true)
 and_both true b e = (refl, e)
@@ -57,7 +58,9 @@ module _ (h : History) (f g : ObjectId) (os ps : List ObjectId) (same : (i : Obj
   bases_same ids are = record {
     each = λ c m. over c (are.each c m);
     cover = λ c all. are.cover c (back c all);
-    maximal = λ never c. (λ m. maximal_over c ((are.maximal never c).0 m), λ s. (are.maximal never c).1 (maximal_back c s));
+    maximal = λ never c.
+        let own = never_within h (f ∷ os) (g ∷ ps) (reach_among h (f ∷ os) (g ∷ ps) (λ i m. (same i).0 m)) never in
+        (λ m. maximal_over c ((are.maximal own c).0 m), λ s. (are.maximal own c).1 (maximal_back c s));
   }
 
   -- what is said where not all are equal

@@ -161,7 +161,7 @@ walk_begins h f os began held m q b holds =
         | inl a ↦ let p = f_one z a in (subst (λ y. Has h y) p.0 p.1, inl (inl (sym p.0)))
         | inr d ↦ let p = o_two z d in (p.1, inl (inr p.0))
       ]);
-      best = λ acyclic falls r k. cc;
+      best = λ falls r k. cc;
       ordered = λ none. record { falling = tt; above = λ r z k j. cc };
       taken = λ falls p k. elim (holds p k) as (λ _. began p ⊎ MayBeTaken h f os p) [ inl a ↦ inl a | inr x ↦ inr (inl x) ];
     }

@@ -4,8 +4,9 @@ use Rattle.std.specs.List.Sorted.{IsPermutation}
 use Rattle.std.proofs.lemmas.List.Sorted.{list_any-IsPermutation, length_permutation}
 use Rattle.gix_base.specs.declared.hash.ObjectId.{ObjectId}
 use Rattle.gix_merge_base.specs.declared.merge_base.flags.Flags.{Flags}
-use Rattle.gix_revwalk.specs.History.{History, entry_at, parents_in, Has, IsAncestor, IsAcyclic, is_one_of, same_id}
-use Rattle.gix_merge_base.specs.Keys.{KeyAtMost, KeysFall, NoneRises}
+use Rattle.gix_revwalk.specs.History.{History, entry_at, parents_in, Has, IsAncestor, is_one_of, same_id}
+use Rattle.gix_merge_base.specs.Keys.{KeyAtMost}
+use Rattle.gix_merge_base.specs.Premises.{KeysFallFrom, NoneRisesFrom}
 use Rattle.gix_merge_base.specs.Bases.{IsCommon, IsMaximal}
 use Rattle.gix_merge_base.specs.Painting.{MayBeTaken}
 use Rattle.gix_merge_base.specs.Marks.{marks_of, MarkSet, HasMarksOf, handed_on, marks_in, level}
@@ -29,10 +30,10 @@ pub record Walk (h : History) (f : ObjectId) (os : List ObjectId) (began held : 
   pub counts : pops ≡ length popped
   pub painting : Painting h f os m q results popped
   pub spent : (ids : List ObjectId) → Covers ids m → length popped + length q ≤ (1 + length os) + total ids m
-  pub fresh : KeysFall h → Fresh h f os m q
-  pub best : IsAcyclic h → KeysFall h → (r : ObjectId) → IsTrue (is_one_of results r) → IsMaximal h (IsCommon h f os) r
-  pub ordered : NoneRises h → Ordered h q results
-  pub taken : KeysFall h → (p : ObjectId) → held p → began p ⊎ MayBeTaken h f os p
+  pub fresh : KeysFallFrom h (f ∷ os) → Fresh h f os m q
+  pub best : KeysFallFrom h (f ∷ os) → (r : ObjectId) → IsTrue (is_one_of results r) → IsMaximal h (IsCommon h f os) r
+  pub ordered : NoneRisesFrom h (f ∷ os) → Ordered h q results
+  pub taken : KeysFallFrom h (f ∷ os) → (p : ObjectId) → held p → began p ⊎ MayBeTaken h f os p
 
 painting_permuted : (h : History) (f : ObjectId) (os : List ObjectId) (m : ObjectId → MarkSet) (q q' results popped : List ObjectId) → IsPermutation q q' → Painting h f os m q results popped → Painting h f os m q' results popped
 painting_permuted h f os m q q' results popped perm at =
@@ -84,7 +85,7 @@ module _ (h : History) (f : ObjectId) (os : List ObjectId) (began held held' : O
         let e : total ids m1 ≡ total ids m = total_same ids m m1 (λ p. let x = note.same p in rw (x.0, x.1, x.2) refl) in
         omega arith;
     fresh = λ falls. fresh_keeps h f os m m1 m2 c q q2 results w.popped w.painting note did top falls (w.fresh falls);
-    best = λ acyclic falls. results_best h f os m m1 m2 c q q2 results w.popped w.painting note did top acyclic falls (w.best acyclic falls);
+    best = λ falls. results_best h f os m m1 m2 c q q2 results w.popped w.painting note did top falls (w.best falls);
     ordered = λ none. ordered_keeps h f os m m1 m2 c q q2 results w.popped w.painting note did top none (w.ordered none);
     taken = λ falls p k. elim (takes p k) as (λ _. began p ⊎ MayBeTaken h f os p) [
       | inl a ↦ w.taken falls p a
@@ -209,7 +210,7 @@ walk_pops h f os began held held' m0 m m2 id q0 q1 q2 results pops same w rest t
 pub step_takes : (h : History) (f : ObjectId) (os : List ObjectId) (began held held' : ObjectId → Type 0) (m : ObjectId → MarkSet) (id : ObjectId) (q0 q1 results : List ObjectId) (pops : ℕ)
     → Walk h f os began held m q0 results pops → IsPermutation q0 (id ∷ q1) → ((z : ObjectId) → IsTrue (is_one_of q0 z) → KeyAtMost h z id) → 1 ≤ unstale m q0
     → ((p : ObjectId) → held' p → held p ⊎ (IsTrue (is_one_of (parents_in (entry_at h id)) p) × Has h p))
-    → KeysFall h → (p : ObjectId) → held' p → began p ⊎ MayBeTaken h f os p
+    → KeysFallFrom h (f ∷ os) → (p : ObjectId) → held' p → began p ⊎ MayBeTaken h f os p
 step_takes h f os began held held' m id q0 q1 results pops w rest top open_one takes falls p k =
     let z = some_open m q0 open_one in
     let id_in : IsTrue (is_one_of q0 id) = list_any-IsPermutation (same_id id) q0 (id ∷ q1) rest ∙ one_of-head id q1 in

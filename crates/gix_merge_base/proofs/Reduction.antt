@@ -5,7 +5,8 @@ use Rattle.std.specs.List.Sorted.{IsPermutation}
 use Rattle.std.proofs.lemmas.List.Sorted.{list_any-IsPermutation, length_permutation}
 use Rattle.std.proofs.lemmas.Map.Keys.{IsDistinct-push}
 use Rattle.gix_base.specs.declared.hash.ObjectId.{ObjectId}
-use Rattle.gix_revwalk.specs.History.{History, Entry, entry_at, parents_in, Has, IsEdge, IsAncestor, IsAcyclic, is_one_of, same_id, generation_of, GenerationsNeverRise}
+use Rattle.gix_revwalk.specs.History.{History, Entry, entry_at, parents_in, Has, IsEdge, IsAncestor, IsAncestorOfOne, is_one_of, same_id, generation_of}
+use Rattle.gix_merge_base.specs.Premises.{IsAcyclicFrom, GenerationsNeverRiseFrom}
 use Rattle.gix_revwalk.specs.History.IsAncestor.{itself, further}
 use Rattle.gix_revwalk.specs.Walks.{parents_of_all, all_added}
 use Rattle.gix_merge_base.specs.Marks.{MarkSet, marks_in, level, met}
@@ -124,13 +125,16 @@ reduce_permuted h ids m q q' perm at =
       has = at.has;
     }
 
-generations_along : (h : History) → GenerationsNeverRise h → (a c : ObjectId) → IsAncestor h a c → generation_of h c ≤ generation_of h a
-generations_along h hold a c (itself has) = omega arith
-generations_along h hold a c (further b c' p e) = let x = generations_along h hold a b p in let y = hold b c e in omega arith
+generations_along : (h : History) (ids : List ObjectId) → GenerationsNeverRiseFrom h ids → (a c : ObjectId) → IsAncestorOfOne h ids a → IsAncestor h a c → generation_of h c ≤ generation_of h a
+generations_along h ids hold a c reached (itself has) = omega arith
+generations_along h ids hold a c reached (further b c' p e) =
+    let x = generations_along h ids hold a b reached p in
+    let y = hold b c (reached.0, reached.1, anc-trans h reached.0 a b reached.2 p) e in
+    omega arith
 
 -- at the end
 module _ (h : History) (ids : List ObjectId) (m : ObjectId → MarkSet) (at : Reducing h ids m []) where
-  met_down : GenerationsNeverRise h → (c : ObjectId) → IsTrue (is_one_of ids c) → (m c).stale ≡ false → (t b : ObjectId) → IsTrue (is_one_of ids t) → IsAncestor h t b → IsAncestor h b c → (t ≡ b) ⊎ IsTrue (m b).stale
+  met_down : GenerationsNeverRiseFrom h ids → (c : ObjectId) → IsTrue (is_one_of ids c) → (m c).stale ≡ false → (t b : ObjectId) → IsTrue (is_one_of ids t) → IsAncestor h t b → IsAncestor h b c → (t ≡ b) ⊎ IsTrue (m b).stale
   met_down hold c c_in out t b t_in (itself has) leads = inl refl
   met_down hold c c_in out t b t_in (further a b' p e) leads =
       let up = anc-trans h a b c (anc-edge h a b (last h t a p) e) leads in
@@ -140,12 +144,12 @@ module _ (h : History) (ids : List ObjectId) (m : ObjectId → MarkSet) (at : Re
           | inl x ↦ cc
           | inr y ↦ elim y as (λ _. IsTrue (m b).stale) [
             | inl x ↦ x b e
-            | inr x ↦ let less = x c c_in out in let high = generations_along h hold a c up in absurd (omega arith)
+            | inr x ↦ let less = x c c_in out in let high = generations_along h ids hold a c (t, t_in, p) up in absurd (omega arith)
           ]
         ]
       ])
 
-  pub left_is_max : GenerationsNeverRise h → (c : ObjectId) → IsTrue (is_one_of ids c) → (m c).stale ≡ false → IsIndependent h ids c
+  pub left_is_max : GenerationsNeverRiseFrom h ids → (c : ObjectId) → IsTrue (is_one_of ids c) → (m c).stale ≡ false → IsIndependent h ids c
   left_is_max hold c c_in out = (
     c_in,
     λ t t_in leads. elim (met_down hold c c_in out t c t_in leads (itself (last h t c leads))) as (λ _. t ≡ c) [ inl is ↦ is | inr s ↦ cc ],
@@ -159,14 +163,14 @@ has_parents h r p e = there (entry_at h r) e.0
     there None k = cc
 
 -- whatever the generations, and however early the walk ends
-pub max_is_left : (h : History) (ids : List ObjectId) (m : ObjectId → MarkSet) (q : List ObjectId) → IsAcyclic h → Reducing h ids m q → (c : ObjectId) → IsIndependent h ids c → (m c).stale ≡ false
+pub max_is_left : (h : History) (ids : List ObjectId) (m : ObjectId → MarkSet) (q : List ObjectId) → IsAcyclicFrom h ids → Reducing h ids m q → (c : ObjectId) → IsIndependent h ids c → (m c).stale ≡ false
 max_is_left h ids m q acyclic at c max =
     elim (m c).stale as (λ s. (m c).stale ≡ s → s ≡ false) [
       | false ↦ λ e. refl
       | true ↦ λ e.
           let s = at.sound c e in
           let is : s.0 ≡ c = max.1 s.0 s.1 (anc-trans h s.0 s.2 c (anc-edge h s.0 s.2 (has_parents h s.0 s.2 s.3) s.3) s.4) in
-          absurd (acyclic s.0 s.2 s.3 (subst (λ z. IsAncestor h s.2 z) (sym is) s.4))
+          absurd (acyclic s.0 s.2 (s.0, s.1, itself (has_parents h s.0 s.2 s.3)) s.3 (subst (λ z. IsAncestor h s.2 z) (sym is) s.4))
     ] refl
 
 -- gathering

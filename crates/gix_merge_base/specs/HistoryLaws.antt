@@ -2,9 +2,11 @@
 use Rattle.std.specs.Prelude.{◌≡◌, ◌↔◌, List, [], ◌∷◌, ◌++◌, Bool, IsTrue, not, Option}
 use Rattle.std.specs.List.Sorted.{IsPermutation}
 use Rattle.gix_merge_base.specs.Octopus.{IsOctopusBase}
-use Rattle.gix_revwalk.specs.History.{History, Has, is_one_of, IsEdge, IsAcyclic, IsAncestor}
+use Rattle.gix_revwalk.specs.History.{History, Has, is_one_of, IsEdge, IsAncestor, IsAncestorOfOne}
+use Rattle.gix_revwalk.specs.History.{IsAcyclic, GenerationsNeverRise}
 use Rattle.gix_merge_base.specs.Bases.{IsMaximal, IsBase, AreBases}
-use Rattle.gix_merge_base.specs.Keys.{IsInOrder, InFallingOrder}
+use Rattle.gix_merge_base.specs.Keys.{IsInOrder, InFallingOrder, KeysFall, NoneRises}
+use Rattle.gix_merge_base.specs.Premises.{IsAcyclicFrom, GenerationsNeverRiseFrom, KeysFallFrom, NoneRisesFrom}
 use Rattle.gix_revwalk.specs.Sizes.{is_empty}
 use Rattle.gix_base.specs.declared.hash.ObjectId.{ObjectId}
 
@@ -41,23 +43,23 @@ AncestorsAreLeast =
     → ((b c : ObjectId) → Passes set b → IsEdge h b c → Passes set c)
     → (c : ObjectId) → IsAncestor h a c → Passes set c
 
--- in an acyclic history no two commits are ancestors of each other
+-- where ids reach no cycle, no two commits that they reach are ancestors of each other
 abbrev pub NoneAreMutualAncestors : Type 0
 NoneAreMutualAncestors =
-    (h : History) → IsAcyclic h
-    → (a b : ObjectId) → IsAncestor h a b → IsAncestor h b a → a ≡ b
+    (h : History) (ids : List ObjectId) → IsAcyclicFrom h ids
+    → (a b : ObjectId) → IsAncestorOfOne h ids a → IsAncestor h a b → IsAncestor h b a → a ≡ b
 
--- of finitely many commits of an acyclic history, each is an ancestor of a maximal one
+-- of finitely many commits that reach no cycle, each is an ancestor of a maximal one
 abbrev pub MaximalAboveEach : Type 0
 MaximalAboveEach =
-    (h : History) (ids : List ObjectId) → IsAcyclic h → ((c : ObjectId) → Among ids c → Has h c)
+    (h : History) (ids : List ObjectId) → IsAcyclicFrom h ids → ((c : ObjectId) → Among ids c → Has h c)
     → (c : ObjectId) → Among ids c
     → (m : ObjectId) × IsMaximal h (Among ids) m × IsAncestor h m c
 
 -- and where there is a commit at all, there is a maximal one
 abbrev pub MaximalExists : Type 0
 MaximalExists =
-    (h : History) (ids : List ObjectId) → IsAcyclic h → ((c : ObjectId) → Among ids c → Has h c)
+    (h : History) (ids : List ObjectId) → IsAcyclicFrom h ids → ((c : ObjectId) → Among ids c → Has h c)
     → IsTrue (not (is_empty ids))
     → (m : ObjectId) × IsMaximal h (Among ids) m
 
@@ -68,10 +70,10 @@ LackedChangesNoBases =
     → (¬ Has h lacked) → (¬ (lacked ≡ f)) → IsTrue (not (is_empty (before ++ after)))
     → (c : ObjectId) → IsBase h f (before ++ lacked ∷ after) c ↔ IsBase h f (before ++ after) c
 
--- in an acyclic history the ancestors of the bases of two commits are the common ancestors of both
+-- where two commits reach no cycle, the ancestors of their bases are the common ancestors of both
 abbrev pub BasesCover : Type 0
 BasesCover =
-    (h : History) (b o : ObjectId) → IsAcyclic h
+    (h : History) (b o : ObjectId) → IsAcyclicFrom h (b ∷ o ∷ [])
     → (c : ObjectId)
     → ((x : ObjectId) × IsBase h b (o ∷ []) x × IsAncestor h x c) ↔ (IsAncestor h b c × IsAncestor h o c)
 
@@ -88,6 +90,21 @@ OctopusBaseInAnyOrder =
     (h : History) (f g : ObjectId) (os ps : List ObjectId) (r s : Option ObjectId)
     → IsPermutation (f ∷ os) (g ∷ ps)
     → IsOctopusBase h f os r → IsOctopusBase h g ps s → r ≡ s
+
+-- what holds of every edge of a history holds of those that ids reach
+abbrev pub WholeHistoriesMeet : Type 0
+WholeHistoriesMeet =
+    (h : History) (ids : List ObjectId)
+    → (IsAcyclic h → IsAcyclicFrom h ids)
+    × (GenerationsNeverRise h → GenerationsNeverRiseFrom h ids)
+    × (KeysFall h → KeysFallFrom h ids)
+    × (NoneRises h → NoneRisesFrom h ids)
+
+-- where keys fall along every edge that ids reach, these reach no cycle, and no generation rises
+abbrev pub FallingKeysSuffice : Type 0
+FallingKeysSuffice =
+    (h : History) (ids : List ObjectId) → KeysFallFrom h ids
+    → IsAcyclicFrom h ids × GenerationsNeverRiseFrom h ids
 
 -- ids in order fall by generation, then time
 abbrev pub OrderedIdsFall : Type 0

@@ -10,6 +10,7 @@ pub mod OctopusSteps
 pub mod Queries
 pub mod Marks
 pub mod Keys
+pub mod Premises
 pub mod Candidates
 pub mod Painting
 pub mod PaintSteps

@@ -1,11 +1,14 @@
 -- What a call of `merge_base` or `octopus` in a list answers.
-use Rattle.std.specs.Prelude.{◌≡◌, ℕ, List, [], ◌∷◌, Bool, false, IsTrue, Option, Some, Result, Ok, Err}
+use Rattle.std.specs.Prelude.{◌≡◌, ◌⊎◌, ℕ, List, [], ◌∷◌, Bool, false, IsTrue, Option, Some, Result, Ok, Err}
 use Rattle.std.specs.List.{IsDistinct, list_all}
 use Rattle.gix_base.specs.declared.hash.ObjectId.{ObjectId}
-use Rattle.gix_revwalk.specs.History.{History, same_id, IsAcyclic, GenerationsNeverRise}
+use Rattle.gix_revwalk.specs.History.{History, same_id}
 use Rattle.gix_revwalk.specs.Graph.{Graphed}
-use Rattle.gix_merge_base.specs.Bases.{AreBases, CoverBases, ids_of, is_trivial}
+use Rattle.gix_merge_base.specs.Bases.{IsBase, AreBases, CoverBases, ids_of, is_trivial}
 use Rattle.gix_merge_base.specs.Keys.{IsInOrder}
+use Rattle.gix_merge_base.specs.Premises.{IsAcyclicFrom, GenerationsNeverRiseFrom, KeysFallFrom}
+use Rattle.gix_merge_base.specs.Painting.{MayBeTaken}
+use Rattle.gix_merge_base.specs.PaintQueue.{IsHeld}
 use Rattle.gix_merge_base.specs.Octopus.{IsOctopusBase, IsCommonToAll}
 use Rattle.gix_merge_base.specs.Refusals.{is_source_fault}
 use Rattle.gix_merge_base.specs.AfterCall.{AfterCall}
@@ -19,17 +22,25 @@ use Rattle.gix_merge_base.specs.declared.merge_base.queries.Answer.TheVariants.{
 
 -- what `merge_base` promises of an answer
 pub record AnswersBases (h : History) (f : ObjectId) (os ids : List ObjectId) : Type 0 where
-  pub bases : IsAcyclic h → GenerationsNeverRise h → AreBases h f os ids
-  pub without_generations : IsAcyclic h → is_trivial f os ≡ false → CoverBases h f os ids
+  pub bases : IsAcyclicFrom h (f ∷ os) → GenerationsNeverRiseFrom h (f ∷ os) → AreBases h f os ids
+  pub without_generations : IsAcyclicFrom h (f ∷ os) → is_trivial f os ≡ false → CoverBases h f os ids
   pub once : IsDistinct same_id ids
   pub order : IsInOrder h ids
   pub alone : IsTrue (is_trivial f os) → ids ≡ f ∷ []
 
 -- what `octopus` promises of an answer
 pub record AnswersOctopus (h : History) (f : ObjectId) (os : List ObjectId) (r : Option ObjectId) : Type 0 where
-  pub base : IsAcyclic h → GenerationsNeverRise h → IsOctopusBase h f os r
-  pub common : IsAcyclic h → list_all (same_id f) os ≡ false → IsCommonToAll h f os r
+  pub base : IsAcyclicFrom h (f ∷ os) → GenerationsNeverRiseFrom h (f ∷ os) → IsOctopusBase h f os r
+  pub common : IsAcyclicFrom h (f ∷ os) → list_all (same_id f) os ≡ false → IsCommonToAll h f os r
   pub alone : IsTrue (list_all (same_id f) os) → r ≡ Some f
+
+-- where keys fall and there is at most one base, a call of `merge_base` takes little in
+abbrev pub TakesLittle : {S T A : Type 0} → History → Graphed S T → Graphed S T → Query A → Type 0
+TakesLittle h old new (AskBases f os) =
+    KeysFallFrom h (f ∷ os.items)
+    → ((a b : ObjectId) → IsBase h f os.items a → IsBase h f os.items b → a ≡ b)
+    → (p : ObjectId) → IsHeld new p → IsHeld old p ⊎ MayBeTaken h f os.items p
+TakesLittle h old new (AskOctopus f os) = Unit {0}
 
 -- nothing has to be looked up
 abbrev pub asks_nothing : {A : Type 0} → Query A → Bool
@@ -67,4 +78,5 @@ module _ {S A : Type 0} (history : S → History) (faults : S → ℕ) where
   pub record IsCall (old new : Graphed S (Commit Flags A)) (q : Query A) (a : Answer A) : Type 0 where
     pub right : IsRight (history old.source) q a
     pub unchanged : IsTrue (asks_nothing q) → new ≡ old
+    pub taken : TakesLittle (history old.source) old new q
     pub after : AfterCall history faults old new (outcome_of a)

@@ -8,6 +8,7 @@ ghost use Rattle.gix_merge_base.specs.HistoryLaws.{AncestorsAreLeast, NoneAreMut
 ghost use Rattle.gix_merge_base.specs.HistoryLaws.{MaximalAboveEach, MaximalExists};
 ghost use Rattle.gix_merge_base.specs.HistoryLaws.{LackedChangesNoBases, BasesCover};
 ghost use Rattle.gix_merge_base.specs.HistoryLaws.{SameIdsSameOctopusBase, OctopusBaseInAnyOrder};
+ghost use Rattle.gix_merge_base.specs.HistoryLaws.{WholeHistoriesMeet, FallingKeysSuffice};
 ghost use Rattle.gix_merge_base.specs.HistoryLaws.{OrderedIdsFall, OrderedBasesAreOne};
 ghost use Rattle.gix_base.specs.Laws.{OrderAgrees, OrderIs};
 ghost use Rattle.gix_merge_base.specs.GenThenTime.{key_order};
@@ -42,12 +43,12 @@ pub fn ancestors_are_least()
     ensures { AncestorsAreLeast }
 {}
 
-/// In an acyclic history no two commits are ancestors of each other.
+/// Where ids reach no cycle, no two commits that they reach are ancestors of each other.
 pub fn ancestors_are_antisymmetric()
     ensures { NoneAreMutualAncestors }
 {}
 
-/// Of finitely many commits of an acyclic history, each is an ancestor of a maximal one; so where
+/// Of finitely many commits that reach no cycle, each is an ancestor of a maximal one; so where
 /// there is a commit, there is a maximal one.
 pub fn maximal_ones_exist()
     ensures above { MaximalAboveEach }
@@ -60,7 +61,7 @@ pub fn lacked_changes_no_bases()
     ensures { LackedChangesNoBases }
 {}
 
-/// In an acyclic history, what lies below the bases of two commits is what lies below both.
+/// Where two commits reach no cycle, what lies below their bases is what lies below both.
 pub fn bases_cover()
     ensures { BasesCover }
 {}
@@ -70,6 +71,18 @@ pub fn bases_cover()
 pub fn octopus_base_is_of_the_set()
     ensures same_ids { SameIdsSameOctopusBase }
     ensures any_order { OctopusBaseInAnyOrder }
+{}
+
+/// What the calls ask of the edges that their ids reach is met where it holds of every edge of the
+/// history.
+pub fn whole_histories_meet()
+    ensures { WholeHistoriesMeet }
+{}
+
+/// Where generation, then time, strictly falls along every edge that ids reach, they reach no cycle,
+/// and no generation rises along these edges.
+pub fn falling_keys_suffice()
+    ensures { FallingKeysSuffice }
 {}
 
 /// Ids in the order in which `merge_base` answers fall by generation, then by time.

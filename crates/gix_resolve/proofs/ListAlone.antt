@@ -1,8 +1,9 @@
 -- What `a^!` means, by what its parents reach.
-use Rattle.std.proofs.Common.{◌≡◌, inl, inr, ◌⊎◌, refl, sym, subst}
+use Rattle.std.proofs.Common.{◌≡◌, [], inl, inr, ◌⊎◌, refl, sym, subst}
 use Rattle.gix_base.specs.declared.hash.ObjectId.{ObjectId}
 use Rattle.gix_revwalk.specs.History.{History, IsEdge, IsAncestor, IsAncestorOfOne, entry_at, parents_in}
 use Rattle.gix_revwalk.specs.History.IsAncestor.{itself, further}
+use Rattle.gix_revwalk.proofs.Members.{one_of-head}
 use Rattle.gix_revwalk.proofs.Ancestors.{has_ancestor}
 use Rattle.gix_spec.specs.declared.spec.Spec.TheVariants.{ExcludeParents}
 use Rattle.gix_resolve.specs.ListMeaning.{IsMeant}
@@ -22,7 +23,7 @@ alones_without_parents h a c acyclic = (to, from)
     to : IsMeant h (ExcludeParents a) c → IsAncestor h a c × (¬ IsAncestorOfOne h (parents_in (entry_at h a)) c)
     to m = (
       subst (λ z. IsAncestor h a z) (sym m.1) (itself m.0),
-      λ k. acyclic a k.0 (k.1, (has_ancestor h k.0 c k.2).1) (subst (λ z. IsAncestor h k.0 z) m.1 k.2),
+      λ k. acyclic a k.0 (a, one_of-head a [], itself m.0) (k.1, (has_ancestor h k.0 c k.2).1) (subst (λ z. IsAncestor h k.0 z) m.1 k.2),
     )
 
     from : IsAncestor h a c × (¬ IsAncestorOfOne h (parents_in (entry_at h a)) c) → IsMeant h (ExcludeParents a) c

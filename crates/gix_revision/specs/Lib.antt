@@ -75,6 +75,7 @@ pub use Rattle.gix_revwalk.specs.Walks.{added, all_added}
 pub use Rattle.gix_merge_base.specs.Bases
 pub use Rattle.gix_merge_base.specs.Octopus
 pub use Rattle.gix_merge_base.specs.Keys
+pub use Rattle.gix_merge_base.specs.Premises
 pub use Rattle.gix_merge_base.specs.Painting
 pub use Rattle.gix_merge_base.specs.Reducing
 pub use Rattle.gix_merge_base.specs.PaintQueue.{IsHeld}

@@ -2,10 +2,11 @@
 
 ghost use Rattle.std.specs.Prelude.{◌≡◌, [], ◌∷◌, ◌⊎◌, IsOk, IfOk, IfErr, IsTrue, false};
 ghost use Rattle.std.specs.List.{IsDistinct};
-ghost use Rattle.gix_revwalk.specs.History.{same_id, IsAcyclic, GenerationsNeverRise};
+ghost use Rattle.gix_revwalk.specs.History.{same_id};
 ghost use Rattle.gix_base.specs.declared.hash.ObjectId.{ObjectId};
 ghost use Rattle.gix_merge_base.specs.Bases.{IsBase, AreBases, CoverBases, ids_of, is_trivial};
-ghost use Rattle.gix_merge_base.specs.Keys.{KeysFall, IsInOrder};
+ghost use Rattle.gix_merge_base.specs.Keys.{IsInOrder};
+ghost use Rattle.gix_merge_base.specs.Premises.{IsAcyclicFrom, GenerationsNeverRiseFrom, KeysFallFrom};
 ghost use Rattle.gix_merge_base.specs.Painting.{MayBeTaken};
 ghost use Rattle.gix_merge_base.specs.PaintQueue.{IsHeld};
 ghost use Rattle.gix_merge_base.specs.Refusals.{HasInsertText, is_source_fault};
@@ -28,9 +29,10 @@ use std::alloc::Allocator;
 /// ordered by falling generation, an absent one counting as the greatest, then falling time, then
 /// rising id. An id that the source lacks has no ancestors.
 ///
-/// The source must have no cycles, and no parent may have a greater generation than its child, an
-/// absent one counting as the greatest. Where a parent has one, every maximal one is still answered,
-/// and common ancestors alone. With cycles the call returns, and its answer has no promise.
+/// Among the ancestors of `first` and `others` there must be no cycles, and no parent may have a
+/// greater generation than its child, an absent one counting as the greatest; whatever else the
+/// source has does not matter. Where a parent has one, every maximal one is still answered, and
+/// common ancestors alone. With cycles the call returns, and its answer has no promise.
 ///
 /// What the graph held it still holds, refused or not; the data beside it may have changed.
 ///
@@ -45,11 +47,11 @@ pub fn merge_base<S: Find, A: Allocator + Copy>(
     others: &[ObjectId],
     graph: &mut Graph<S, Commit<Flags, A>, A>,
 ) -> Result<Option<NonEmpty<ObjectId, A>>, Error>
-    ensures bases { IsAcyclic (S.history graph.old.source)
-        → GenerationsNeverRise (S.history graph.old.source)
+    ensures bases { IsAcyclicFrom (S.history graph.old.source) (first ∷ others.now)
+        → GenerationsNeverRiseFrom (S.history graph.old.source) (first ∷ others.now)
         → IfOk result (λ found.
         AreBases (S.history graph.old.source) first others.now (ids_of found)) }
-    ensures without_generations { IsAcyclic (S.history graph.old.source)
+    ensures without_generations { IsAcyclicFrom (S.history graph.old.source) (first ∷ others.now)
         → is_trivial first others.now ≡ false
         → IfOk result (λ found.
         CoverBases (S.history graph.old.source) first others.now (ids_of found)) }
@@ -64,8 +66,9 @@ pub fn merge_base<S: Find, A: Allocator + Copy>(
     ensures trivial_answer { IsTrue (is_trivial first others.now)
         → IfOk result (λ found. ids_of found ≡ first ∷ []) }
 
-    // Where keys fall along every edge and there is at most one base, little is taken in.
-    ensures taken { IsAcyclic (S.history graph.old.source) → KeysFall (S.history graph.old.source)
+    // Where keys fall along every edge that is reached, and there is at most one base, little is
+    // taken in.
+    ensures taken { KeysFallFrom (S.history graph.old.source) (first ∷ others.now)
         → ((a b : ObjectId) → IsBase (S.history graph.old.source) first others.now a
         → IsBase (S.history graph.old.source) first others.now b → a ≡ b)
         → (q : ObjectId) → IsHeld graph.new q

@@ -3,7 +3,8 @@
 ghost use Rattle.std.specs.Prelude.{◌≡◌, ◌∷◌, Some, IfOk, Ok, IfErr, IsTrue, false};
 ghost use Rattle.std.specs.List.{list_all};
 ghost use Rattle.gix_base.specs.declared.hash.ObjectId.{ObjectId};
-ghost use Rattle.gix_revwalk.specs.History.{same_id, is_one_of, Has, IsAcyclic, GenerationsNeverRise};
+ghost use Rattle.gix_revwalk.specs.History.{same_id, is_one_of, Has};
+ghost use Rattle.gix_merge_base.specs.Premises.{IsAcyclicFrom, GenerationsNeverRiseFrom};
 ghost use Rattle.gix_revwalk.specs.Faults.{count_after};
 ghost use Rattle.gix_revwalk.specs.Graph.{KeepsHeld};
 ghost use Rattle.gix_merge_base.specs.Octopus.{IsOctopusBase, IsCommonToAll};
@@ -70,7 +71,8 @@ fn step<S: Find, A: Allocator + Copy>(
     head: ObjectId,
     graph: &mut Graph<S, Commit<Flags, A>, A>,
 ) -> Result<Vec<ObjectId, A>, Error>
-    ensures step { IsAcyclic (S.history graph.old.source) → Has (S.history graph.old.source) head
+    ensures step { IsAcyclicFrom (S.history graph.old.source) (head ∷ bases.now)
+        → Has (S.history graph.old.source) head
         → IfOk result (λ left. IsStep (S.history graph.old.source) bases.now head left.items) }
     ensures after { AfterCall S.history S.fault_count graph.old graph.new result }
 {
@@ -92,7 +94,7 @@ fn steps<S: Find, A: Allocator + Copy>(
     others: &[ObjectId],
     graph: &mut Graph<S, Commit<Flags, A>, A>,
 ) -> Result<Vec<ObjectId, A>, Error>
-    ensures bases { IsAcyclic (S.history graph.old.source)
+    ensures bases { IsAcyclicFrom (S.history graph.old.source) (first ∷ others.now)
         → ((c : ObjectId) → IsTrue (is_one_of (first ∷ others.now) c)
         → Has (S.history graph.old.source) c)
         → IfOk result (λ left.
@@ -115,7 +117,8 @@ fn octopus_bases<S: Find, A: Allocator + Copy>(
     others: &[ObjectId],
     graph: &mut Graph<S, Commit<Flags, A>, A>,
 ) -> Result<Vec<ObjectId, A>, Error>
-    ensures bases { IsAcyclic (S.history graph.old.source) → IfOk result (λ left.
+    ensures bases { IsAcyclicFrom (S.history graph.old.source) (first ∷ others.now)
+        → IfOk result (λ left.
         AreOctopusBases (S.history graph.old.source) first others.now left.items) }
     ensures after { AfterCall S.history S.fault_count graph.old graph.new result }
 {
@@ -136,10 +139,10 @@ fn octopus_bases<S: Find, A: Allocator + Copy>(
 /// are common to all the ids: the one with the greatest generation, then the greatest time, then
 /// the smaller id; `None` where nothing is common. An id that the source lacks has no ancestors.
 ///
-/// The source must have no cycles, and no parent may have a greater generation than its child, an
-/// absent one counting as the greatest. Where a parent has one, the answer is still a commit common
-/// to all, and `None` only where nothing is. With cycles the call returns, and its answer has no
-/// promise.
+/// Among the ancestors of the ids there must be no cycles, and no parent may have a greater
+/// generation than its child, an absent one counting as the greatest; whatever else the source has
+/// does not matter. Where a parent has one, the answer is still a commit common to all, and `None`
+/// only where nothing is. With cycles the call returns, and its answer has no promise.
 ///
 /// What the graph held it still holds, refused or not; the data beside it may have changed.
 ///
@@ -154,10 +157,10 @@ pub fn octopus<S: Find, A: Allocator + Copy>(
     others: &[ObjectId],
     graph: &mut Graph<S, Commit<Flags, A>, A>,
 ) -> Result<Option<ObjectId>, Error>
-    ensures base { IsAcyclic (S.history graph.old.source)
-        → GenerationsNeverRise (S.history graph.old.source)
+    ensures base { IsAcyclicFrom (S.history graph.old.source) (first ∷ others.now)
+        → GenerationsNeverRiseFrom (S.history graph.old.source) (first ∷ others.now)
         → IfOk result (IsOctopusBase (S.history graph.old.source) first others.now) }
-    ensures common { IsAcyclic (S.history graph.old.source)
+    ensures common { IsAcyclicFrom (S.history graph.old.source) (first ∷ others.now)
         → list_all (same_id first) others.now ≡ false
         → IfOk result (IsCommonToAll (S.history graph.old.source) first others.now) }
 

@@ -3,7 +3,7 @@
 ghost use Rattle.std.specs.Prelude.{◌≡◌, ◌≤◌, ◌+◌, ◌*◌, ◌∷◌, [], ◌⊎◌, ℕ, length, IsTrue, IfErr, IfOk, OnOk};
 ghost use Rattle.std.specs.List.{IsDistinct};
 ghost use Rattle.gix_base.specs.declared.hash.ObjectId.{ObjectId};
-ghost use Rattle.gix_revwalk.specs.History.{Has, IsAcyclic, same_id, is_one_of};
+ghost use Rattle.gix_revwalk.specs.History.{Has, same_id, is_one_of};
 ghost use Rattle.gix_revwalk.specs.Sizes.{AtMost, HasSize};
 ghost use Rattle.gix_revwalk.specs.Walks.{HoldsMore};
 ghost use Rattle.gix_revwalk.specs.Graph.{KeepsHeld};
@@ -11,7 +11,8 @@ ghost use Rattle.gix_revwalk.specs.Faults.{count_after, is_source_fault as is_gr
 ghost use Rattle.gix_merge_base.specs.AfterCall.{AfterCall};
 ghost use Rattle.gix_merge_base.specs.Bases.{IsCommon, IsMaximal};
 ghost use Rattle.gix_merge_base.specs.Counting.{Counts};
-ghost use Rattle.gix_merge_base.specs.Keys.{KeysFall, NoneRises, InFallingOrder};
+ghost use Rattle.gix_merge_base.specs.Keys.{InFallingOrder};
+ghost use Rattle.gix_merge_base.specs.Premises.{IsAcyclicFrom, KeysFallFrom, NoneRisesFrom};
 ghost use Rattle.gix_merge_base.specs.Marks.{marks_of};
 ghost use Rattle.gix_merge_base.specs.Painting.{IsUnreached, IsHandedIn, MayBeTaken};
 ghost use Rattle.gix_merge_base.specs.PaintQueue.{marks_at, queued_at, queued_ids, AreHeld, IsHeld, Keyed};
@@ -103,8 +104,8 @@ fn start<S: Find, A: Allocator + Copy>(
 /// The walk takes commits by falling generation, then time, and ends once each that is queued lies
 /// below a common one. So with `n` commits in the source and `m` others it makes at most
 /// `3 * n + 1 + m` pops, and at least one for each ancestor that no other common ancestor reaches.
-/// An id that the source lacks has no ancestors. The source must have no cycles for each maximal one
-/// to be there; with cycles the call returns.
+/// An id that the source lacks has no ancestors. The ancestors of the ids must have no cycles for
+/// each maximal one to be there; with cycles the call returns.
 ///
 /// # Errors
 ///
@@ -117,8 +118,8 @@ pub fn paint<S: Find, A: Allocator + Copy>(
 ) -> Result<(Vec<ObjectId, A>, u128), Error>
     ensures common { IfOk result (λ r. (c : ObjectId) → IsTrue (is_one_of r.0.items c)
         → IsCommon (S.history graph.old.source) first others.now c) }
-    ensures best { IsAcyclic (S.history graph.old.source) → IfOk result (λ r. (c : ObjectId)
-        → IsMaximal (S.history graph.old.source)
+    ensures best { IsAcyclicFrom (S.history graph.old.source) (first ∷ others.now)
+        → IfOk result (λ r. (c : ObjectId) → IsMaximal (S.history graph.old.source)
         (IsCommon (S.history graph.old.source) first others.now) c
         → IsTrue (is_one_of r.0.items c)) }
     ensures once { IfOk result (λ r. IsDistinct same_id r.0.items) }
@@ -126,18 +127,21 @@ pub fn paint<S: Find, A: Allocator + Copy>(
     // The pops, over the number of commits that the source has.
     ensures most { (n : ℕ) → HasSize (Has (S.history graph.old.source)) n
         → IfOk result (λ r. r.1 ≤ 3 * n + 1 + length others.now) }
-    ensures least { IsAcyclic (S.history graph.old.source) → IfOk result (λ r.
-        AtMost r.1 (IsUnreached (S.history graph.old.source) first others.now)) }
+    ensures least { IsAcyclicFrom (S.history graph.old.source) (first ∷ others.now)
+        → IfOk result (λ r. AtMost r.1
+        (IsUnreached (S.history graph.old.source) first others.now)) }
 
-    // Where keys fall along every edge, little is taken in, and each answer is a maximal one.
-    ensures taken { KeysFall (S.history graph.old.source) → (q : ObjectId) → IsHeld graph.new q
+    // Where keys fall along every edge that is reached, little is taken in, and each answer is a
+    // maximal one.
+    ensures taken { KeysFallFrom (S.history graph.old.source) (first ∷ others.now)
+        → (q : ObjectId) → IsHeld graph.new q
         → IsHeld graph.old q ⊎ MayBeTaken (S.history graph.old.source) first others.now q }
-    ensures strict { IsAcyclic (S.history graph.old.source) → KeysFall (S.history graph.old.source)
+    ensures strict { KeysFallFrom (S.history graph.old.source) (first ∷ others.now)
         → IfOk result (λ r. (c : ObjectId) → IsTrue (is_one_of r.0.items c)
         → IsMaximal (S.history graph.old.source)
         (IsCommon (S.history graph.old.source) first others.now) c) }
 
-    ensures falling { NoneRises (S.history graph.old.source)
+    ensures falling { NoneRisesFrom (S.history graph.old.source) (first ∷ others.now)
         → IfOk result (λ r. InFallingOrder (S.history graph.old.source) r.0.items) }
 
     ensures history { S.history graph.new.source ≡ S.history graph.old.source }

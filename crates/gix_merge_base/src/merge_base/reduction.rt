@@ -5,7 +5,8 @@ ghost use Rattle.std.specs.List.Sorted.{IsPermutation};
 ghost use Rattle.std.specs.List.{filter};
 ghost use Rattle.gix_base.specs.declared.hash.ObjectId.{ObjectId};
 ghost use Rattle.gix_revwalk.specs.Graph.{KeepsHeld};
-ghost use Rattle.gix_revwalk.specs.History.{IsAcyclic, is_one_of, entry_at, GenerationsNeverRise};
+ghost use Rattle.gix_revwalk.specs.History.{is_one_of, entry_at};
+ghost use Rattle.gix_merge_base.specs.Premises.{IsAcyclicFrom, GenerationsNeverRiseFrom};
 ghost use Rattle.gix_revwalk.specs.Walks.{parents_of_all};
 ghost use Rattle.gix_revwalk.specs.Faults.{count_after};
 ghost use Rattle.gix_merge_base.specs.AfterCall.{AfterCall};
@@ -242,10 +243,10 @@ fn is_met<S: Find, A: Allocator + Copy>(
 /// The ids that cannot be reached from any other of them, each once, in the order of their first
 /// places: git-merge-base, "--independent".
 ///
-/// An id that the source lacks reaches nothing, and is reached from nothing. No parent's generation
-/// may exceed its child's, an absent one counting as the greatest; otherwise each such id is answered,
-/// and perhaps others of them. The source must have no cycles; with cycles the call returns some of
-/// the ids.
+/// An id that the source lacks reaches nothing, and is reached from nothing. Among the ancestors of
+/// the ids no parent's generation may exceed its child's, an absent one counting as the greatest;
+/// otherwise each such id is answered, and perhaps others of them. There must be no cycles among
+/// these ancestors; with cycles the call returns some of the ids.
 ///
 /// # Errors
 ///
@@ -255,11 +256,11 @@ pub fn reduce<S: Find, A: Allocator + Copy>(
     ids: &[ObjectId],
     graph: &mut Graph<S, Commit<Flags, A>, A>,
 ) -> Result<Vec<ObjectId, A>, Error>
-    ensures independent { IsAcyclic (S.history graph.old.source)
-        → GenerationsNeverRise (S.history graph.old.source)
+    ensures independent { IsAcyclicFrom (S.history graph.old.source) ids.now
+        → GenerationsNeverRiseFrom (S.history graph.old.source) ids.now
         → IfOk result (λ left. (c : ObjectId) → IsTrue (is_one_of left.items c)
         ↔ IsIndependent (S.history graph.old.source) ids.now c) }
-    ensures kept { IsAcyclic (S.history graph.old.source)
+    ensures kept { IsAcyclicFrom (S.history graph.old.source) ids.now
         → IfOk result (λ left. (c : ObjectId) → IsIndependent (S.history graph.old.source) ids.now c
         → IsTrue (is_one_of left.items c)) }
     ensures some { IfOk result (λ left. SomeOf ids.now left.items) }

@@ -1,8 +1,8 @@
-use Rattle.std.proofs.Common.{◌≤◌, length, arith, subst, ◌∙◌, IsTrue, ◌↔◌}
-use Rattle.gix_revwalk.specs.History.{is_one_of}
-use Rattle.gix_merge_base.specs.Reducing.{IsIndependent, SomeOf}
-use Rattle.gix_merge_base.proofs.Best.{max_of_painted, few_are_max, few_alike, some_once, some_within}
+use Rattle.std.proofs.Common.{◌≤◌, ◌∷◌, length, arith, subst, ◌∙◌}
+use Rattle.gix_merge_base.specs.Reducing.{SomeOf}
+use Rattle.gix_merge_base.proofs.Best.{max_of_painted, painted_within, few_are_max, few_alike, some_once, some_within}
 use Rattle.gix_merge_base.proofs.Maximal.{common_has}
+use Rattle.gix_merge_base.proofs.Reached.{acyclic_within, never_within}
 use Rattle.gix_merge_base.proofs.Sorting.{few_in_order}
 use Rattle.gix_merge_base.proofs.merge_base.bases.best.Goals as goal
 
@@ -16,8 +16,11 @@ returns-then-len-le1-clause-best g c acyclic hold c' =
 pub returns-clause-best : goal.returns-clause-best
 returns-clause-best g c acyclic hold c' =
     let h = g.S.Find.history c.args.graph.now.source in
-    let max = rw c.paint.ensures.history at c.in_ok-left.ensures.independent in
-    let left = subst (λ z. IsTrue (is_one_of c.in_ok-left.left.items c') ↔ IsIndependent h z c') c.deref.ensures.value (max acyclic hold c') in
+    let max = rw (c.paint.ensures.history, c.deref.ensures.value) at c.in_ok-left.ensures.independent in
+    let within = painted_within h c.args.first c.args.others.now c.in_ok-painted.painted.items c.in_ok-painted.ensures.common in
+    let ids = c.args.first ∷ c.args.others.now in
+    let painted = c.in_ok-painted.painted.items in
+    let left = max (acyclic_within h painted ids within acyclic) (never_within h painted ids within hold) c' in
     let is = max_of_painted h c.args.first c.args.others.now c.in_ok-painted.painted.items acyclic c.in_ok-painted.ensures.common (c.in_ok-painted.ensures.best acyclic) c' in
     let same = rw (c.reduce.ensures.history, c.paint.ensures.history, c.deref-2.ensures.value) at c.in_ok-ordered.ensures.same in
     ((λ k. is.0 (left.0 ((same c').0 k).0)), (λ m. (same c').1 (left.1 (is.1 m), common_has h c.args.first c.args.others.now c' m.0)))
@@ -28,12 +31,13 @@ returns-then-len-le1-clause-covers g c acyclic = record { every = c.in_ok-painte
 pub returns-clause-covers : goal.returns-clause-covers
 returns-clause-covers g c acyclic =
     let h = g.S.Find.history c.args.graph.now.source in
-    let kept = rw c.paint.ensures.history at c.in_ok-left.ensures.kept in
+    let kept = rw (c.paint.ensures.history, c.deref.ensures.value) at c.in_ok-left.ensures.kept in
+    let within = painted_within h c.args.first c.args.others.now c.in_ok-painted.painted.items c.in_ok-painted.ensures.common in
     let some = subst (λ z. SomeOf z c.in_ok-left.left.items) c.deref.ensures.value c.in_ok-left.ensures.some in
     let same = rw (c.reduce.ensures.history, c.paint.ensures.history, c.deref-2.ensures.value) at c.in_ok-ordered.ensures.same in
     record {
       every = λ c' m.
-          let left = subst (λ z. IsIndependent h z c' → IsTrue (is_one_of c.in_ok-left.left.items c')) c.deref.ensures.value (kept acyclic c') in
+          let left = kept (acyclic_within h c.in_ok-painted.painted.items (c.args.first ∷ c.args.others.now) within acyclic) c' in
           let is = max_of_painted h c.args.first c.args.others.now c.in_ok-painted.painted.items acyclic c.in_ok-painted.ensures.common (c.in_ok-painted.ensures.best acyclic) c' in
           (same c').1 (left (is.1 m), common_has h c.args.first c.args.others.now c' m.0);
       common = λ c' k. c.in_ok-painted.ensures.common c' (some_within c.in_ok-painted.painted.items c.in_ok-left.left.items some c' ((same c').0 k).0);
@@ -55,20 +59,20 @@ returns-clause-order g c =
     order (some_once c.deref.result.now c.in_ok-left.left.items c.in_ok-left.ensures.some)
 
 pub returns-clause-taken : goal.returns-clause-taken
-returns-clause-taken g c acyclic falls alike =
-    let strict = c.in_ok-painted.ensures.strict acyclic falls in
+returns-clause-taken g c falls alike =
+    let strict = c.in_ok-painted.ensures.strict falls in
     let few = few_alike c.in_ok-painted.painted.items c.in_ok-painted.ensures.once (λ a b a_in b_in. alike a b (strict a a_in) (strict b b_in)) in
     absurd (omega arith)
 
 pub returns-in_err-left-clause-taken : goal.returns-in_err-left-clause-taken
-returns-in_err-left-clause-taken g c acyclic falls alike =
-    let strict = c.in_ok-painted.ensures.strict acyclic falls in
+returns-in_err-left-clause-taken g c falls alike =
+    let strict = c.in_ok-painted.ensures.strict falls in
     let few = few_alike c.in_ok-painted.painted.items c.in_ok-painted.ensures.once (λ a b a_in b_in. alike a b (strict a a_in) (strict b b_in)) in
     absurd (omega arith)
 
 pub returns-in_err-ordered-clause-taken : goal.returns-in_err-ordered-clause-taken
-returns-in_err-ordered-clause-taken g c acyclic falls alike =
-    let strict = c.in_ok-painted.ensures.strict acyclic falls in
+returns-in_err-ordered-clause-taken g c falls alike =
+    let strict = c.in_ok-painted.ensures.strict falls in
     let few = few_alike c.in_ok-painted.painted.items c.in_ok-painted.ensures.once (λ a b a_in b_in. alike a b (strict a a_in) (strict b b_in)) in
     absurd (omega arith)
 

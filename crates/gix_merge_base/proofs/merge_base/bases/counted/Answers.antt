@@ -29,18 +29,18 @@ pub returns-clause-order : goal.returns-clause-order
 returns-clause-order g c = subst (IsInOrder (g.S.Find.history c.args.graph.now.source)) (sym (from-vec c.from_vec.result c.in_ok-found.found.items c.from_vec.ensures.none c.from_vec.ensures.same)) c.in_ok-found.ensures.order
 
 pub returns-clause-taken : goal.returns-clause-taken
-returns-clause-taken g c acyclic falls alike =
+returns-clause-taken g c falls alike =
     let plain = not_plain c.args.others.now c.args.first _ _ c.is_empty.ensures c.if-is_empty.false c.stands_in.ensures c.if-stands_in.false in
-    c.in_ok-found.ensures.taken acyclic falls (λ a b x y. alike a b (base-from_max _ c.args.first c.args.others.now plain a x) (base-from_max _ c.args.first c.args.others.now plain b y))
+    c.in_ok-found.ensures.taken falls (λ a b x y. alike a b (base-from_max _ c.args.first c.args.others.now plain a x) (base-from_max _ c.args.first c.args.others.now plain b y))
 
 pub returns-clause-without_generations : goal.returns-clause-without_generations
 returns-clause-without_generations g c acyclic trivial =
     subst (λ l. CoverBases (g.S.Find.history c.args.graph.now.source) c.args.first c.args.others.now l) (sym (from-vec c.from_vec.result c.in_ok-found.found.items c.from_vec.ensures.none c.from_vec.ensures.same)) (c.in_ok-found.ensures.covers acyclic)
 
 pub returns-in_err-found-clause-taken : goal.returns-in_err-found-clause-taken
-returns-in_err-found-clause-taken g c acyclic falls alike =
+returns-in_err-found-clause-taken g c falls alike =
     let plain = not_plain c.args.others.now c.args.first _ _ c.is_empty.ensures c.if-is_empty.false c.stands_in.ensures c.if-stands_in.false in
-    c.best.ensures.taken acyclic falls (λ a b x y. alike a b (base-from_max _ c.args.first c.args.others.now plain a x) (base-from_max _ c.args.first c.args.others.now plain b y))
+    c.best.ensures.taken falls (λ a b x y. alike a b (base-from_max _ c.args.first c.args.others.now plain a x) (base-from_max _ c.args.first c.args.others.now plain b y))
 
 pub returns-clause-most : goal.returns-clause-most
 returns-clause-most g c = c.in_ok-found.ensures.most

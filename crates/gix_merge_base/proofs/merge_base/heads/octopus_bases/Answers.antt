@@ -5,6 +5,7 @@ use Rattle.gix_revwalk.specs.History.{Has, is_one_of}
 use Rattle.gix_merge_base.specs.Reducing.{firsts}
 use Rattle.gix_merge_base.proofs.Heads.{nothing_common, some_head, found_has, same_heads}
 use Rattle.gix_merge_base.proofs.OctopusLaws.{bases_same}
+use Rattle.gix_merge_base.proofs.Reached.{reach_among, acyclic_within}
 use Rattle.gix_merge_base.proofs.Reduction.{firsts_once}
 use Rattle.gix_merge_base.proofs.merge_base.heads.octopus_bases.Goals as goal
 
@@ -37,8 +38,10 @@ returns-clause-bases g c acyclic =
     let all : newest ∷ c.deref-2.result.now ≡ get_or found 0 newest ∷ found = ap (λ z. z ∷ c.deref-2.result.now) c.index-newest.ensures ∙ ap (λ l. get_or found 0 newest ∷ l) c.deref-2.ensures.value in
     let has = found_has h c.args.first c.args.others.now found (once (firsts_once (c.args.first ∷ c.args.others.now))) known enough newest in
     let same = same_heads h c.args.first c.args.others.now found (once (firsts_once (c.args.first ∷ c.args.others.now))) known enough newest in
+    let heads_same = subst (λ l. (i : ObjectId) → IsTrue (is_one_of l i) ↔ IsTrue (is_one_of (c.args.first ∷ c.args.others.now) i)) (sym all) same in
+    let reached = acyclic_within h (newest ∷ c.deref-2.result.now) (c.args.first ∷ c.args.others.now)
+    (reach_among h (newest ∷ c.deref-2.result.now) (c.args.first ∷ c.args.others.now) (λ i m. (heads_same i).0 m)) acyclic in
     let bases = rw c.in_ok-known.ensures.after.graph.same_history at c.steps.ensures.bases in
     IfOk-weaker c.steps.result _ _
-    (λ left are. bases_same h newest c.args.first c.deref-2.result.now c.args.others.now
-    (subst (λ l. (i : ObjectId) → IsTrue (is_one_of l i) ↔ IsTrue (is_one_of (c.args.first ∷ c.args.others.now) i)) (sym all) same) left.items are)
-    (bases acyclic (subst (λ l. (i : ObjectId) → IsTrue (is_one_of l i) → Has h i) (sym all) has))
+    (λ left are. bases_same h newest c.args.first c.deref-2.result.now c.args.others.now heads_same left.items are)
+    (bases reached (subst (λ l. (i : ObjectId) → IsTrue (is_one_of l i) → Has h i) (sym all) has))

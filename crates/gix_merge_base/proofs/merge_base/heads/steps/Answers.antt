@@ -2,7 +2,7 @@ use Rattle.std.proofs.Common.{◌≡◌, ◌<◌, ◌≤◌, ◌∷◌, [], leng
 use Rattle.std.proofs.lemmas.List.{take_all}
 use Rattle.gix_revwalk.proofs.Members.{one_of-head, one_of-tail, one_of-at}
 use Rattle.gix_merge_base.proofs.AfterCalls.{after_none, after_more, after_ok}
-use Rattle.gix_merge_base.proofs.Heads.{stand_first, stand_next, stand_last}
+use Rattle.gix_merge_base.proofs.Heads.{stand_first, stand_next, stand_acyclic, stand_last}
 use Rattle.gix_merge_base.proofs.merge_base.heads.steps.Goals as goal
 
 pub loop-other-init : goal.loop-other-init
@@ -17,8 +17,9 @@ loop-other-preserved g c =
     let step = rw (c.loop-other.invariant.after.graph.same_history, c.deref.ensures.value) at next.step in
     record {
       stand = λ acyclic has.
-          stand_next _ _ _ _ _ _ _ test (c.loop-other.invariant.stand acyclic has)
-          (step acyclic (has _ (one_of-tail c.args.first c.args.others.now _ (one_of-at c.args.others.now c.loop-other.other-index _ test))));
+          let stand = c.loop-other.invariant.stand acyclic has in
+          stand_next _ _ _ _ _ _ _ test stand
+          (step (stand_acyclic _ _ _ _ _ _ test stand acyclic) (has _ (one_of-tail c.args.first c.args.others.now _ (one_of-at c.args.others.now c.loop-other.other-index _ test))));
       after = after_more _ _ _ _ c.loop-other.invariant.after (after_ok _ _ _ next.after);
     }
 
