@@ -23,7 +23,7 @@ fn add(alloc: Global, source: &mut MemorySource, byte: u8, parents: &[ObjectId])
     source.insert(ObjectId([byte; 20]), commit).ok()
 }
 
-/// Where two branches part, as git-describe writes it by one name; none where there is no memory.
+/// Where two branches part, as git-describe writes it by one name; none where there is no base, no name or no memory.
 fn fork_point(
     alloc: Global,
     source: MemorySource,
