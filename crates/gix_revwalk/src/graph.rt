@@ -15,14 +15,13 @@ mod marks;
 mod memory;
 
 use crate::numbers::{self, Number};
+use crate::past::Past;
 pub use commit::{Commit, FullCommit};
 pub use find::{Find, FindFault, SourceCommit};
 use gix_base::hash::ObjectId;
 pub use memory::{InsertError, MemorySource};
 use std::alloc::{AllocError, AllocFailed, Allocator, Global};
-use std::collections::HashMap;
 use std::fmt;
-use std::hash::{BuildHasherDefault, FoldHasher};
 use std::marker::Model;
 use thiserror::Error as StdError;
 
@@ -106,7 +105,7 @@ pub(crate) struct Row {
 pub struct Graph<S: Find, T: Held, A: Allocator = Global> {
     pub(crate) source: S,
     pub(crate) nodes: Vec<Node<T>, A>,
-    pub(crate) index: HashMap<ObjectId, Number, BuildHasherDefault<FoldHasher>, A>,
+    pub(crate) past: Past<A>,
     pub(crate) edges: Vec<Number, A>,
     pub(crate) turn: u32,
 }
@@ -127,12 +126,12 @@ impl<S: Find, T: Held, A: Allocator> Model for Graph<S, T, A> {
       marked = map (mark_of g.turn) g.nodes.items;
     } };
 
-    // Every held value agrees with the source's entry for its id, and the index, the rows and the
-    // turns are right.
+    // Every held value agrees with the source's entry for its id, and what is remembered, the rows and
+    // the turns are right.
     ghost invariant = { λ g. ((id : ObjectId) (x : T)
         → lookup (same_id id) (map pair_of g.nodes.items) ≡ Some x
         → T.agrees x (entry_at (S.history g.source) id))
-        × AreNodes (S.history g.source) g.nodes.items g.index.entries g.edges.items g.turn };
+        × AreNodes (S.history g.source) g.nodes.items g.past g.edges.items g.turn };
 }
 
 impl<S: Find, T: Held, A: Allocator> Graph<S, T, A> {
@@ -147,7 +146,7 @@ impl<S: Find, T: Held, A: Allocator> Graph<S, T, A> {
         Graph {
             source,
             nodes: Vec::new(alloc),
-            index: HashMap::new(alloc),
+            past: Past::new(alloc),
             edges: Vec::new(alloc),
             turn: 1,
         }
@@ -167,7 +166,7 @@ impl<S: Find, T: Held, A: Allocator> Graph<S, T, A> {
         let Graph {
             source,
             nodes,
-            index,
+            past,
             edges,
             turn,
         } = self;
@@ -175,13 +174,16 @@ impl<S: Find, T: Held, A: Allocator> Graph<S, T, A> {
     }
 
     /// Empties it. The source stays as it is.
+    ///
+    /// What the source told of commits that `describe` met stays in memory until the graph is dropped, with the
+    /// ids that were held, so that a further walk does not ask for it again. Nothing is remembered of an id that
+    /// the source lacked.
     pub fn clear(&mut self)
         ensures source { self.new.source ≡ self.old.source }
         ensures empty { (id : ObjectId) → held_at self.new id ≡ None }
         ensures len { held_len self.new ≡ 0 }
     {
         self.nodes.clear();
-        self.index.clear();
         self.edges.clear();
     }
 
@@ -197,7 +199,7 @@ impl<S: Find, T: Held, A: Allocator> Graph<S, T, A> {
     pub fn contains(&self, id: &ObjectId) -> bool
         ensures { result ≡ is_some (held_at self.now id.now) }
     {
-        self.index.contains_key(id)
+        numbers::number_of(self, id).is_some()
     }
 
     /// The value under an id, which agrees with the source; `None` where the id is not held.

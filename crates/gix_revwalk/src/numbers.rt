@@ -1,7 +1,9 @@
 //! The held ids of a graph by their numbers, for walks: a look-up by a number asks no hash, and the
 //! parents of a commit that was walked once are remembered as numbers.
 //!
-//! A number stands for one held id of one graph, until that graph is cleared.
+//! A number stands for one held id of one graph, until that graph is cleared. The spot of an id, which is
+//! held or was, stays the same after that. It is handed in as a guess: one that is right saves a look-up by
+//! hash, and one that is wrong costs nothing more.
 
 ghost use Rattle.std.specs.Prelude.{◌≡◌, ◌<◌, ◌||◌, List, [], ◌∷◌, ◌++◌, length, Some, None, IsTrue, IsOk, is_some, IfSome, IfOk, OnOk, OnErr, false, map};
 ghost use Rattle.std.specs.Option.{option_map};
@@ -13,6 +15,7 @@ ghost use Rattle.gix_revwalk.specs.Graph.{held_at, held_len, held_ids};
 ghost use Rattle.gix_revwalk.specs.Data.{TakesIn, SameData, len_after, mark_at, Marks};
 ghost use Rattle.gix_revwalk.specs.Held.{entry_of};
 ghost use Rattle.gix_revwalk.specs.Number.{place_in};
+ghost use Rattle.gix_revwalk.specs.Pasts.{link_id};
 ghost use Rattle.gix_revwalk.specs.Numbers.{number_at, named, value_at, item_at, Grows, Puts};
 ghost use Rattle.gix_revwalk.specs.Walks.{HoldsMore};
 ghost use Rattle.gix_revwalk.specs.Nodes.{unturned, node_lacks};
@@ -21,6 +24,7 @@ ghost use Rattle.gix_revwalk.specs.History.{same_id};
 ghost use Rattle.gix_revwalk.specs.Rows.{AreNumbers};
 
 use crate::graph::{Commit, Error, Find, Graph, Held, Node, Row, SourceCommit};
+pub use crate::past::{Link, NOWHERE};
 use gix_base::hash::ObjectId;
 use std::alloc::{AllocError, Allocator};
 
@@ -30,7 +34,7 @@ pub struct Number(u32);
 
 impl Number {
     /// The number of a place; refused where there are no more numbers.
-    fn at(place: usize) -> Result<Number, AllocError>
+    pub(crate) fn at(place: usize) -> Result<Number, AllocError>
         ensures { IfOk result (λ number. place_in number ≡ place) }
     {
         match u32::try_from(place) {
@@ -83,7 +87,24 @@ pub fn number_of<S: Find, T: Held, A: Allocator>(
 ) -> Option<Number>
     ensures { option_map place_in result ≡ number_at graph.now id.now }
 {
-    graph.index.get(id).copied()
+    number_near(graph, id, NOWHERE)
+}
+
+/// The number of an id, by a guess at its spot; `None` where it is not held.
+pub fn number_near<S: Find, T: Held, A: Allocator>(
+    graph: &Graph<S, T, A>,
+    id: &ObjectId,
+    guess: usize,
+) -> Option<Number>
+    ensures { option_map place_in result ≡ number_at graph.now id.now }
+{
+    let Some(home) = graph.past.home(id, guess) else {
+        return None;
+    };
+    let Some(node) = graph.nodes.get(home.place()) else {
+        return None;
+    };
+    if node.id == *id { Some(home) } else { None }
 }
 
 /// The id of a number.
@@ -126,6 +147,31 @@ pub fn add<S: Find, T: Held, A: Allocator + Copy>(
         ((q : ObjectId) → held_at graph.old q ≡ None → noted_at graph.old q ≡ false) }
     ensures refused { OnErr result (graph.new ≡ graph.old) }
 {
+    let (number, _spot) = add_near(graph, id, NOWHERE, value)?;
+    Ok(number)
+}
+
+/// [`add`] by a guess at the spot of the id. Its number and its spot.
+///
+/// # Errors
+///
+/// As [`add`].
+pub fn add_near<S: Find, T: Held, A: Allocator + Copy>(
+    graph: &mut Graph<S, T, A>,
+    id: ObjectId,
+    guess: usize,
+    value: T,
+) -> Result<(Number, usize), AllocError>
+    requires new { number_at graph.old id ≡ None }
+    requires agrees { T.agrees value (entry_at (S.history graph.old.source) id) }
+    ensures source { graph.new.source ≡ graph.old.source }
+    ensures number { IfOk result (λ n. place_in n.0 ≡ held_len graph.old) }
+    ensures held { OnOk result (graph.new.held ≡ graph.old.held ++ (id, value) ∷ []) }
+    ensures marked { OnOk result (graph.new.marked ≡ graph.old.marked ++ (id, None) ∷ []) }
+    ensures unnoted { OnOk result
+        ((q : ObjectId) → held_at graph.old q ≡ None → noted_at graph.old q ≡ false) }
+    ensures refused { OnErr result (graph.new ≡ graph.old) }
+{
     let number = Number::at(graph.nodes.len())?;
     let node = Node {
         id,
@@ -135,11 +181,143 @@ pub fn add<S: Find, T: Held, A: Allocator + Copy>(
         value,
     };
     graph.nodes.push(node)?;
-    if graph.index.insert(id, number).is_err() {
-        graph.nodes.pop();
-        return Err(AllocError);
+    match graph.past.settle(id, guess, number) {
+        Ok(spot) => Ok((number, spot)),
+        Err(_) => {
+            graph.nodes.pop();
+            Err(AllocError)
+        }
     }
-    Ok(number)
+}
+
+/// Holds an id that is not held, where the source has told of it before. Its time, its number and its spot;
+/// `None` where the source has not told of it, and then nothing is held.
+///
+/// # Errors
+///
+/// As [`add`].
+pub fn hold_told<S: Find, T: Held, A: Allocator + Copy>(
+    graph: &mut Graph<S, T, A>,
+    id: ObjectId,
+    guess: usize,
+    value: T,
+) -> Result<Option<(i64, Number, usize)>, AllocError>
+    requires new { number_at graph.old id ≡ None }
+    requires agrees { T.agrees value (entry_at (S.history graph.old.source) id) }
+    ensures source { graph.new.source ≡ graph.old.source }
+    ensures time { IfOk result (λ r. IfSome r (λ t. Some t.0
+        ≡ option_map (λ e. e.time) (entry_at (S.history graph.old.source) id))) }
+    ensures number { IfOk result (λ r. IfSome r (λ t. place_in t.1 ≡ held_len graph.old)) }
+    ensures held { IfOk result (λ r. IfSome r
+        (λ _. graph.new.held ≡ graph.old.held ++ (id, value) ∷ [])) }
+    ensures marked { IfOk result (λ r. IfSome r
+        (λ _. graph.new.marked ≡ graph.old.marked ++ (id, None) ∷ [])) }
+    ensures unnoted { IfOk result (λ r. IfSome r
+        (λ _. (q : ObjectId) → held_at graph.old q ≡ None → noted_at graph.old q ≡ false)) }
+    ensures none { IfOk result (λ r. r ≡ None → graph.new ≡ graph.old) }
+    ensures refused { OnErr result (graph.new ≡ graph.old) }
+{
+    let Some((spot, time)) = graph.past.recall(&id, guess) else {
+        return Ok(None);
+    };
+    let number = Number::at(graph.nodes.len())?;
+    let node = Node {
+        id,
+        row: None,
+        turn: 0,
+        queued: 0,
+        value,
+    };
+    graph.nodes.push(node)?;
+    graph.past.settle_at(id, spot, number);
+    Ok(Some((time, number, spot)))
+}
+
+/// What the source told of an id is remembered. Its spot.
+fn learn<S: Find, T: Held, A: Allocator + Copy>(
+    graph: &mut Graph<S, T, A>,
+    id: ObjectId,
+    found: &SourceCommit<A>,
+) -> Result<usize, AllocError>
+    requires { entry_at (S.history graph.old.source) id ≡ Some (entry_of found.now) }
+    ensures { graph.new ≡ graph.old }
+{
+    let spot = graph.past.learn(id, found.time, &found.parents)?;
+    Ok(spot)
+}
+
+/// The time of what the source has under an id, and the spot of the id: what the source tells is remembered.
+/// `None` where it lacks the id; then nothing is remembered.
+///
+/// # Errors
+///
+/// As [`ask`], and where it could not be remembered.
+pub fn ask_time<S: Find, T: Held, A: Allocator + Copy>(
+    graph: &mut Graph<S, T, A>,
+    alloc: A,
+    id: ObjectId,
+) -> Result<Option<(i64, usize)>, Error>
+    ensures held { graph.new.held ≡ graph.old.held }
+    ensures marked { graph.new.marked ≡ graph.old.marked }
+    ensures history { S.history graph.new.source ≡ S.history graph.old.source }
+    ensures found { IfOk result (λ r. option_map (λ t. t.0) r
+        ≡ option_map (λ e. e.time) (entry_at (S.history graph.old.source) id)) }
+    ensures count { S.fault_count graph.new.source
+        ≡ count_after (is_source_fault result) (S.fault_count graph.old.source) }
+{
+    let Some(found) = graph.ask(alloc, id)? else {
+        return Ok(None);
+    };
+    let spot = learn(graph, id, &found)?;
+    Ok(Some((found.time, spot)))
+}
+
+/// Puts the parents of a commit into `into`, in order, each with a guess at its spot, in place of what was
+/// there; none where the source lacks the commit. The source is asked where it has not told of it before.
+///
+/// # Errors
+///
+/// As [`ask`]; also where `into` could not grow.
+pub fn parents_near<S: Find, T: Held, A: Allocator + Copy>(
+    graph: &mut Graph<S, T, A>,
+    alloc: A,
+    id: &ObjectId,
+    guess: usize,
+    into: &mut Vec<Link, A>,
+) -> Result<(), Error>
+    ensures held { graph.new.held ≡ graph.old.held }
+    ensures marked { graph.new.marked ≡ graph.old.marked }
+    ensures history { S.history graph.new.source ≡ S.history graph.old.source }
+    ensures parents { OnOk result (map link_id into.new.items
+        ≡ parents_in (entry_at (S.history graph.old.source) id.now)) }
+    ensures count { S.fault_count graph.new.source
+        ≡ count_after (is_source_fault result) (S.fault_count graph.old.source) }
+{
+    if graph.past.parents_of(id, guess, into)? {
+        return Ok(());
+    }
+    let Some(found) = graph.ask(alloc, *id)? else {
+        return Ok(());
+    };
+    copy_parents(&found.parents, into)?;
+    Ok(())
+}
+
+/// Puts parents into `into`, which is empty, with no guesses.
+fn copy_parents<A: Allocator>(
+    parents: &[ObjectId],
+    into: &mut Vec<Link, A>,
+) -> Result<(), AllocError>
+    requires { into.old.items ≡ [] }
+    ensures { OnOk result (map link_id into.new.items ≡ parents.now) }
+{
+    for parent in parents {
+        into.push(Link {
+            id: *parent,
+            spot: NOWHERE,
+        })?;
+    }
+    Ok(())
 }
 
 /// Gives a held id of a graph of numbers another value. The old one.
@@ -271,7 +449,9 @@ fn known<S: Find, D: Drop, A: Allocator>(
         (λ _. IsTrue (is_some (entry_at (S.history graph.now.source) id.now))) }
     ensures ids { map (λ e. e.0) graph.now.marked ≡ held_ids graph.now }
 {
-    graph.index.get(id).copied()
+    // What is held agrees with the source.
+    let _turn = graph.turn;
+    number_of(graph, id)
 }
 
 /// The number of a commit, which is taken in from the source with data `new` unless it is held;

@@ -166,6 +166,9 @@ pub fn counted<'name, S: Find, A: Allocator + Copy>(
 /// then the smaller one by its bytes is taken, then the one of the smaller id. Afterwards the graph
 /// holds `commit` and the parents of all commits seen but the last.
 ///
+/// What the source told of the commits that were met stays in memory until the graph is dropped, and is not
+/// asked for again by a further call on it. Nothing is remembered of an id that the source lacked.
+///
 /// # Errors
 ///
 /// [`Message::ParentsOf`] only where the source failed: its count of faults is then one more, unless

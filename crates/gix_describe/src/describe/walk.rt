@@ -26,7 +26,7 @@ use crate::describe::options::Names;
 use gix_base::error::Message;
 use gix_base::hash::ObjectId;
 use gix_revwalk::graph::{Find, Graph};
-use gix_revwalk::numbers;
+use gix_revwalk::numbers::{self, Link};
 use gix_revwalk::queue::PriorityQueue;
 use std::alloc::Allocator;
 use std::cmp::Ordering;
@@ -47,6 +47,8 @@ pub(crate) struct Walk<A: Allocator> {
     candidates: Vec<ObjectId, A>,
     counts: Vec<u32, A>,
     seen: u32,
+    /// The parents of the commit whose marks are handed on.
+    row: Vec<Link, A>,
 }
 
 /// The name of a commit; no bytes where it has none.
@@ -78,7 +80,16 @@ impl<A: Allocator + Copy> Walk<A> {
             graph.old.source graph.new.source (refusal result) }
     {
         let start = search.start;
-        let Some((_, met)) = take_in(alloc, start, start, 0, search.first_parent, graph)? else {
+        let Some((_, met)) = take_in(
+            alloc,
+            start,
+            numbers::NOWHERE,
+            start,
+            0,
+            search.first_parent,
+            graph,
+        )?
+        else {
             return Err(Message::MissingStart(start));
         };
         let mut queue = PriorityQueue::new(alloc);
@@ -94,11 +105,12 @@ impl<A: Allocator + Copy> Walk<A> {
             candidates: Vec::new(alloc),
             counts: Vec::new(alloc),
             seen: 0,
+            row: Vec::new(alloc),
         })
     }
 
     /// The next commit, with its key; `None` where the queue is empty.
-    fn next(&mut self) -> Option<(Key, Met<A>)>
+    fn next(&mut self) -> Option<(Key, Met)>
         ensures none { IsNone result → self.old.queue ≡ [] }
         ensures next { IfSome result (λ p. (h : History) (s : ObjectId) (popped : List ObjectId) → IsWalk h s popped
             → IsQueue h s self.old.queue (is_open h s popped)
@@ -113,11 +125,7 @@ impl<A: Allocator + Copy> Walk<A> {
 
     /// A popped commit becomes a candidate: it gets the next mark, and all that were popped before
     /// it are late.
-    fn take_up<S: Find>(
-        &mut self,
-        met: &Met<A>,
-        graph: &mut Graph<S, u32, A>,
-    ) -> Result<(), Message>
+    fn take_up<S: Find>(&mut self, met: &Met, graph: &mut Graph<S, u32, A>) -> Result<(), Message>
         requires room { length self.old.candidates.items < 32 }
         requires numbered { IsNumbered graph.old met.now }
         ensures candidates { OnOk result (self.new.candidates.items ≡ self.old.candidates.items ++ met.now.id ∷ []) }
@@ -142,11 +150,11 @@ impl<A: Allocator + Copy> Walk<A> {
     /// back to the queue: `None`.
     fn admit<'name, S: Find>(
         &mut self,
-        next: (Key, Met<A>),
+        next: (Key, Met),
         names: &Names<'name, A>,
         search: Search,
         graph: &mut Graph<S, u32, A>,
-    ) -> Result<Option<Met<A>>, Message>
+    ) -> Result<Option<Met>, Message>
         requires some { 0 < search.cap }
         requires cap { search.cap ≤ 32 }
         requires taken { Takes (followed search.first_parent (S.history graph.old.source)) search.start
@@ -179,7 +187,7 @@ impl<A: Allocator + Copy> Walk<A> {
     fn pass<S: Find>(
         &mut self,
         alloc: A,
-        met: &Met<A>,
+        met: &Met,
         names: &Names<'_, A>,
         search: Search,
         graph: &mut Graph<S, u32, A>,
@@ -213,7 +221,15 @@ impl<A: Allocator + Copy> Walk<A> {
             place: None,
         };
         let mut uncounted = 0;
-        hand_on(alloc, met, hand, &mut uncounted, &mut self.queue, graph)?;
+        hand_on(
+            alloc,
+            met,
+            hand,
+            &mut self.row,
+            &mut uncounted,
+            &mut self.queue,
+            graph,
+        )?;
         Ok(false)
     }
 
@@ -312,7 +328,7 @@ impl<A: Allocator + Copy> Walk<A> {
     fn pass_for<S: Find>(
         &mut self,
         alloc: A,
-        met: &Met<A>,
+        met: &Met,
         place: usize,
         count: u32,
         lacking: &mut usize,
@@ -356,7 +372,15 @@ impl<A: Allocator + Copy> Walk<A> {
             first_parent: search.first_parent,
             place: Some(place),
         };
-        hand_on(alloc, met, hand, lacking, &mut self.queue, graph)?;
+        hand_on(
+            alloc,
+            met,
+            hand,
+            &mut self.row,
+            lacking,
+            &mut self.queue,
+            graph,
+        )?;
         Ok((count + late, false))
     }
 

@@ -1,9 +1,7 @@
-use Rattle.std.proofs.Common.{refl}
+use Rattle.std.proofs.Common.{◌≡◌, ap, sym, Some, refl}
+use Rattle.gix_describe.proofs.LookedUp.{asks_hand}
 use Rattle.gix_describe.proofs.describe.met.asked_for.Goals as goal
 
-pub returns-in-Err-Source-clause-asked : goal.returns-in-Err-Source-clause-asked
-returns-in-Err-Source-clause-asked g c h = record {
-  same_history = c.ask.ensures.history;
-  count = rw c.in-Err-Source.field-0-is at c.in-Err-Source.ensures.count;
-  cause = refl;
-}
+pub returns-in-Err-clause-asked : goal.returns-in-Err-clause-asked
+returns-in-Err-clause-asked g c h =
+    rw c.refused_for.ensures (asks_hand g.S.Find.history g.S.Find.fault_count h c.args.child _ _ c.in-Err.error c.ask_time.result c.in-Err.is c.ask_time.ensures.history c.ask_time.ensures.count)

@@ -1,0 +1,13 @@
+use Rattle.std.proofs.Common.{◌≡◌, ◌∙◌, ap, cond, Some}
+use Rattle.gix_revwalk.specs.History.{same_id}
+use Rattle.gix_revwalk.specs.Number.{place_in}
+use Rattle.gix_revwalk.proofs.past.Past.settle.Goals as goal
+
+pub settle_at-requires : goal.settle_at-requires
+settle_at-requires g c = c.in_ok-spot.ensures.spot
+
+pub returns-clause-homes : goal.returns-clause-homes
+returns-clause-homes g c q = c.settle_at.ensures.homes q ∙ ap (cond (same_id c.args.id q) (Some (place_in c.args.home))) (c.in_ok-spot.ensures.homes q)
+
+pub returns-clause-told : goal.returns-clause-told
+returns-clause-told g c q = c.settle_at.ensures.told q ∙ c.in_ok-spot.ensures.told q

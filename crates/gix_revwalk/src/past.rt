@@ -1,0 +1,274 @@
+//! What a graph remembers of ids: where each was last held, and what the source told of its commit. It stays
+//! where the graph is cleared, so that a further walk need not ask the source again, nor a hash.
+//!
+//! A spot is the place of an id in it. A spot that is handed in is a guess: the id that stands there is
+//! compared, and a guess that is wrong costs a look-up by hash.
+
+ghost use Rattle.std.specs.Prelude.{◌≡◌, ◌≤◌, ◌+◌, [], is_some, false, cond, Some, None, IfSome, IfOk, OnOk, OnErr, map, take, drop, length};
+ghost use Rattle.std.specs.Option.{option_map};
+ghost use Rattle.gix_base.specs.declared.hash.ObjectId.{ObjectId};
+ghost use Rattle.gix_revwalk.specs.History.{same_id};
+ghost use Rattle.gix_revwalk.specs.Number.{place_in};
+ghost use Rattle.gix_revwalk.specs.Pasts.{home_in, told_in, spot_in, link_id, SameHomes, SameTold};
+
+use crate::graph::Row;
+use crate::numbers::Number;
+use gix_base::hash::ObjectId;
+use std::alloc::{AllocError, Allocator};
+use std::collections::HashMap;
+use std::hash::{BuildHasherDefault, FoldHasher};
+use std::marker::Model;
+
+/// What is remembered of one id.
+#[derive(Clone, Copy)]
+pub(crate) struct Memory {
+    pub(crate) id: ObjectId,
+    /// Its number when it was last held.
+    pub(crate) home: Option<Number>,
+    /// Where its parents stand, once the source has told of its commit.
+    pub(crate) row: Option<Row>,
+    /// Its time, where there is a row; 0 otherwise.
+    pub(crate) time: i64,
+}
+
+/// A parent of a commit, and a guess at its spot.
+#[derive(Clone, Copy)]
+pub struct Link {
+    pub id: ObjectId,
+    pub spot: usize,
+}
+
+/// No guess: there is no such spot.
+pub const NOWHERE: usize = usize::MAX;
+
+/// What is remembered, by spots, with an index from ids to their spots, and the parents of all commits of
+/// which the source told, row by row.
+#[derive(Drop)]
+pub(crate) struct Past<A: Allocator> {
+    memories: Vec<Memory, A>,
+    index: HashMap<ObjectId, Number, BuildHasherDefault<FoldHasher>, A>,
+    parents: Vec<ObjectId, A>,
+    /// A guess at the spot of each parent, as far as they were looked up.
+    guesses: Vec<usize, A>,
+}
+
+impl<A: Allocator> Model for Past<A> {
+    ghost use Rattle.gix_revwalk.specs.Pasts.{Pasts, kept_of, link_id, ArePast};
+    ghost use Rattle.std.specs.Prelude.{map};
+
+    ghost Value = { Pasts };
+
+    ghost view = { λ p. record { kept = map kept_of p.memories.items; parents = p.parents.items } };
+
+    ghost invariant = { λ p. ArePast p.memories.items p.index.entries p.parents.items };
+}
+
+impl<A: Allocator + Copy> Past<A> {
+    /// Nothing is remembered.
+    pub(crate) fn new(alloc: A) -> Self
+        ensures homes { (q : ObjectId) → home_in result q ≡ None }
+        ensures told { (q : ObjectId) → told_in result q ≡ None }
+    {
+        Past {
+            memories: Vec::new(alloc),
+            index: HashMap::new(alloc),
+            parents: Vec::new(alloc),
+            guesses: Vec::new(alloc),
+        }
+    }
+}
+
+impl<A: Allocator> Past<A> {
+    /// The spot of an id; `None` where it is not remembered.
+    fn spot(&self, id: &ObjectId, guess: usize) -> Option<usize>
+        ensures { result ≡ spot_in self.now id.now }
+    {
+        if let Some(memory) = self.memories.get(guess) {
+            if memory.id == *id {
+                return Some(guess);
+            }
+        }
+        match self.index.get(id) {
+            Some(number) => Some(number.place()),
+            None => None,
+        }
+    }
+
+    /// The number that an id had when it was last held.
+    pub(crate) fn home(&self, id: &ObjectId, guess: usize) -> Option<Number>
+        ensures { option_map place_in result ≡ home_in self.now id.now }
+    {
+        match self.spot(id, guess) {
+            Some(spot) => self.memories[spot].home,
+            None => None,
+        }
+    }
+
+    /// The spot of an id and its time, where the source has told of its commit.
+    pub(crate) fn recall(&self, id: &ObjectId, guess: usize) -> Option<(usize, i64)>
+        ensures time { option_map (λ r. r.1) result ≡ option_map (λ t. t.time) (told_in self.now id.now) }
+        ensures spot { IfSome result (λ r. spot_in self.now id.now ≡ Some r.0) }
+    {
+        match self.spot(id, guess) {
+            Some(spot) => {
+                let memory = self.memories[spot];
+                match memory.row {
+                    Some(_) => Some((spot, memory.time)),
+                    None => None,
+                }
+            }
+            None => None,
+        }
+    }
+}
+
+impl<A: Allocator + Copy> Past<A> {
+    /// The spot of an id, which is remembered from then on; nothing more is known of one that is new.
+    fn enter(&mut self, id: ObjectId, guess: usize) -> Result<usize, AllocError>
+        ensures spot { IfOk result (λ k. spot_in self.new id ≡ Some k) }
+        ensures homes { SameHomes self.old self.new }
+        ensures told { SameTold self.old self.new }
+    {
+        if let Some(spot) = self.spot(&id, guess) {
+            return Ok(spot);
+        }
+        let spot = self.memories.len();
+        let number = Number::at(spot)?;
+        self.memories.push(Memory {
+            id,
+            home: None,
+            row: None,
+            time: 0,
+        })?;
+        if self.index.insert(id, number).is_err() {
+            self.memories.pop();
+            return Err(AllocError);
+        }
+        Ok(spot)
+    }
+
+    /// Remembers the number of an id whose spot is known.
+    pub(crate) fn settle_at(&mut self, id: ObjectId, spot: usize, home: Number)
+        requires { spot_in self.old id ≡ Some spot }
+        ensures homes { (q : ObjectId)
+            → home_in self.new q ≡ cond (same_id id q) (Some (place_in home)) (home_in self.old q) }
+        ensures told { SameTold self.old self.new }
+    {
+        let memory = &mut self.memories[spot];
+        memory.home = Some(home);
+    }
+
+    /// Remembers the number of an id. Its spot.
+    pub(crate) fn settle(
+        &mut self,
+        id: ObjectId,
+        guess: usize,
+        home: Number,
+    ) -> Result<usize, AllocError>
+        ensures homes { OnOk result ((q : ObjectId)
+            → home_in self.new q ≡ cond (same_id id q) (Some (place_in home)) (home_in self.old q)) }
+        ensures told { SameTold self.old self.new }
+        ensures refused { OnErr result (SameHomes self.old self.new) }
+    {
+        let spot = self.enter(id, guess)?;
+        self.settle_at(id, spot, home);
+        Ok(spot)
+    }
+
+    /// Remembers what the source told of the commit of an id. Its spot.
+    pub(crate) fn learn(
+        &mut self,
+        id: ObjectId,
+        time: i64,
+        parents: &[ObjectId],
+    ) -> Result<usize, AllocError>
+        ensures told { OnOk result ((q : ObjectId) → told_in self.new q
+            ≡ cond (same_id id q) (Some (record { time = time; parents = parents.now })) (told_in self.old q)) }
+        ensures homes { SameHomes self.old self.new }
+        ensures refused { OnErr result (SameTold self.old self.new) }
+    {
+        let spot = self.enter(id, NOWHERE)?;
+        let start = self.parents.len();
+        self.parents.extend_from_slice(parents)?;
+        let memory = &mut self.memories[spot];
+        memory.row = Some(Row {
+            start,
+            len: parents.len(),
+        });
+        memory.time = time;
+        Ok(spot)
+    }
+
+    /// A guess at the spot of the parent at a place. One that was looked up is kept.
+    fn guess(&mut self, at: usize, id: &ObjectId) -> Result<usize, AllocError>
+        ensures { self.new ≡ self.old }
+    {
+        if let Some(guess) = self.guesses.get(at) {
+            if *guess != NOWHERE {
+                return Ok(*guess);
+            }
+        }
+        let Some(number) = self.index.get(id) else {
+            return Ok(NOWHERE);
+        };
+        let spot = number.place();
+        self.guesses.resize(self.parents.len(), NOWHERE)?;
+        if let Some(guess) = self.guesses.get_mut(at) {
+            *guess = spot;
+        }
+        Ok(spot)
+    }
+
+    /// Where the parents of an id stand; `None` where the source has not told of its commit.
+    fn row(&self, id: &ObjectId, guess: usize) -> Option<Row>
+        ensures parents { option_map (λ r. take r.len (drop r.start self.now.parents)) result
+            ≡ option_map (λ t. t.parents) (told_in self.now id.now) }
+        ensures fits { IfSome result (λ r. r.start + r.len ≤ length self.now.parents) }
+    {
+        match self.spot(id, guess) {
+            Some(spot) => self.memories[spot].row,
+            None => None,
+        }
+    }
+
+    /// Puts the parents of a row into `into`, which is empty, each with a guess at its spot.
+    fn copy_row(&mut self, row: Row, into: &mut Vec<Link, A>) -> Result<(), AllocError>
+        requires fits { row.start + row.len ≤ length self.old.parents }
+        requires empty { into.old.items ≡ [] }
+        ensures parents { OnOk result
+            (map link_id into.new.items ≡ take row.len (drop row.start self.old.parents)) }
+        ensures same { self.new ≡ self.old }
+    {
+        for i in 0..row.len {
+            // No place is past the end of the parents.
+            let _count = self.parents.len();
+            let at = row.start + i;
+            let id = self.parents[at];
+            let spot = self.guess(at, &id)?;
+            into.push(Link { id, spot })?;
+        }
+        Ok(())
+    }
+
+    /// Puts the parents of an id into `into`, in place of what was there. `false`, and none, where the source
+    /// has not told of its commit.
+    pub(crate) fn parents_of(
+        &mut self,
+        id: &ObjectId,
+        guess: usize,
+        into: &mut Vec<Link, A>,
+    ) -> Result<bool, AllocError>
+        ensures same { self.new ≡ self.old }
+        ensures told { IfOk result (λ b. b ≡ is_some (told_in self.old id.now)) }
+        ensures parents { IfOk result (λ b. IfSome (told_in self.old id.now)
+            (λ t. map link_id into.new.items ≡ t.parents)) }
+        ensures untold { IfOk result (λ b. b ≡ false → into.new.items ≡ []) }
+    {
+        into.clear();
+        let Some(row) = self.row(id, guess) else {
+            return Ok(false);
+        };
+        self.copy_row(row, into)?;
+        Ok(true)
+    }
+}
