@@ -44,6 +44,19 @@ impl<'s, 't, A: Allocator + Copy> Descriptions<'s, 't, A> {
         })
     }
 
+    // Whether a walk from a commit would be refused since the source lacks it: a commit without a name is walked from
+    // where there is a name. Such a refusal would keep the names that it was handed.
+    fn is_missing(
+        &self,
+        alloc: A,
+        commit: &ObjectId,
+        options: &Options<'t, A>,
+    ) -> Result<bool, AllocError> {
+        let found = self.graph.source().get(alloc, *commit)?;
+        let names = &options.name_by_oid;
+        Ok(found.is_none() && !names.is_empty() && !names.contains_key(commit))
+    }
+
     // The outcome without its names, which are kept for the next line.
     fn describe(
         &mut self,
@@ -51,6 +64,9 @@ impl<'s, 't, A: Allocator + Copy> Descriptions<'s, 't, A> {
         commit: &ObjectId,
         options: &Options<'t, A>,
     ) -> Result<Option<describe::Outcome<'t, A>>, Message> {
+        if self.is_missing(alloc, commit, options)? {
+            return Err(Message::MissingStart(*commit));
+        }
         let options = self.take_options(options)?;
         let Some(mut outcome) = describe(alloc, commit, &mut self.graph, options)? else {
             return Ok(None);
