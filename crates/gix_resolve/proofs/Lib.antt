@@ -17,3 +17,4 @@ pub mod ListTaken
 pub mod ListAlone
 pub mod ListPages
 pub mod StepTaken
+pub mod StepAsked

@@ -1,8 +1,9 @@
--- What calls take into a graph.
-use Rattle.std.specs.Prelude.{◌≡◌, ◌⊎◌, ◌≤◌, ℕ, [], ◌∷◌, Bool, true, false, IsTrue, Option, Some, is_some}
+-- What calls take into a graph, and what they ask its source for.
+use Rattle.std.specs.Prelude.{◌≡◌, ◌⊎◌, ◌<◌, ◌≤◌, ◌-◌, ℕ, [], ◌∷◌, Bool, true, false, IsTrue, Option, Some, None, is_some}
+use Rattle.std.specs.List.{slice_get}
 use Rattle.gix_revision.specs.Call.{Call, traverse, peel, object}
 use Rattle.gix_revision.specs.Graph.{Graphed, held_at}
-use Rattle.gix_revision.specs.History.{History, Has, IsAncestor, IsAncestorOfOne}
+use Rattle.gix_revision.specs.History.{History, Has, IsAncestor, IsAncestorOfOne, entry_at, parents_in}
 use Rattle.gix_revision.specs.Types.ObjectId.{ObjectId}
 use Rattle.gix_revision.specs.Types.ObjectKind.TheVariants.{Commit}
 use Rattle.gix_revision.specs.Types.Spec.{Spec}
@@ -45,3 +46,28 @@ abbrev pub IsOnCall : History → Option ObjectId → Call → ObjectId → Type
 IsOnCall h (Some id) (traverse step) q = IsOnStep h step id q
 IsOnCall h (Some id) (peel (object Commit)) q = q ≡ id
 IsOnCall h _ _ q = ⊥
+
+-- n does not hold one of these
+abbrev pub LacksOne : {S T : Type 0} → (ObjectId → Type 0) → Graphed S T → Type 0
+LacksOne wanted n = (q : ObjectId) × wanted q × (held_at n q ≡ None)
+
+-- n holds the revision that was read before a call, and the one that is read after it
+abbrev pub HoldsBoth : {S T : Type 0} → (before after : Option ObjectId) → Graphed S T → Type 0
+HoldsBoth before after n = (q : ObjectId) → (before ≡ Some q) ⊎ (after ≡ Some q) → IsTrue (is_some (held_at n q))
+
+-- q is the commit, or what it has at a place of its parents, also where the history lacks that
+abbrev pub IsAskedNear : History → (place : ℕ) → (id q : ObjectId) → Type 0
+IsAskedNear h place id q = (q ≡ id) ⊎ (slice_get (parents_in (entry_at h id)) place ≡ Some q)
+
+-- q is asked for on a step: the commit from which it goes; of `~n` each commit on its way but the last, and the first
+-- parent of each; of `^n` the parent of that number; also a parent that the history lacks
+abbrev pub IsAskedOnStep : History → Traversal → (id q : ObjectId) → Type 0
+IsAskedOnStep h (NthAncestor n) id q =
+    (q ≡ id) ⊎ ((k : ℕ) × (p : ObjectId) × (k < n) × (ancestor_at h k id ≡ Some p) × IsAskedNear h 0 p q)
+IsAskedOnStep h (NthParent n) id q = (q ≡ id) ⊎ ((0 < n) × IsAskedNear h (n - 1) id q)
+
+-- q is asked for at a call, where that revision is read: on a step; or it is the commit that `^{commit}` asks for
+abbrev pub IsAskedAt : History → Option ObjectId → Call → ObjectId → Type 0
+IsAskedAt h (Some id) (traverse step) q = IsAskedOnStep h step id q
+IsAskedAt h (Some id) (peel (object Commit)) q = q ≡ id
+IsAskedAt h _ _ q = ⊥

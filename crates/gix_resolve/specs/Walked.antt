@@ -1,8 +1,8 @@
--- What a revision text takes into a graph: the commits on its steps.
-use Rattle.std.specs.Prelude.{◌≡◌, ℕ, List, Some, Result, Ok, Err}
-use Rattle.gix_revision.specs.Answer.{Answer}
+-- What a revision text takes into a graph, the commits on its steps, and at which of them its source did not answer.
+use Rattle.std.specs.Prelude.{◌≡◌, ℕ, List, Some, Result, Ok, Err, IsTrue}
+use Rattle.gix_revision.specs.Answer.{Answer, accepted}
 use Rattle.gix_revision.specs.Call.{Call}
-use Rattle.gix_revision.specs.Graph.{Graphed}
+use Rattle.gix_revision.specs.Graph.{Graphed, KeepsHeld}
 use Rattle.gix_revision.specs.History.{History}
 use Rattle.gix_revision.specs.Parse.{meaning_of, Fails}
 use Rattle.gix_revision.specs.Run.{IsRun, ended}
@@ -10,16 +10,21 @@ use Rattle.gix_revision.specs.Tree.{fine}
 use Rattle.gix_revision.specs.Types.Error.{Error}
 use Rattle.gix_revision.specs.Types.Spec.{Spec}
 use Rattle.gix_revision.specs.Types.Time.{Time}
-use Rattle.gix_resolve.specs.Resolved.{IsStepOrFault}
+use Rattle.gix_resolve.specs.Resolved.{IsStepOrFault, asks_source, goes_unanswered}
 use Rattle.gix_resolve.specs.Steps.{start}
-use Rattle.gix_resolve.specs.Taken.{TakesOnly, IsOnCall}
+use Rattle.gix_resolve.specs.Taken.{TakesOnly, IsOnCall, HoldsBoth, LacksOne, IsAskedAt}
 use Rattle.gix_resolve.specs.declared.state.State.{State}
 use Rattle.gix_resolve.specs.declared.table.Table.{Table}
 
--- a step over a source that may fail, with the graph before and after it: what is newly held lies on the call
+-- A step over a source that may fail, with the graph before and after it: what was held is held, and what is newly held
+-- lies on the call. Where a call that asks the source is accepted, the revision from which it goes and the one to which
+-- it comes are held. Where the source did not answer, some commit that the call asks for is not held.
 pub record Walks {S T A : Type 0} (t : Table A) (h : History) (s : State × Graphed S T) (c : Call) (a : Answer) (u : State × Graphed S T) : Type 0 where
   pub step : IsStepOrFault t h s.0 c a u.0
+  pub held : KeepsHeld s.1 u.1
   pub taken : TakesOnly (IsOnCall h s.0.current c) s.1 u.1
+  pub there : a ≡ accepted → IsTrue (asks_source c) → HoldsBoth s.0.current u.0.current u.1
+  pub lacks : IsTrue (goes_unanswered a) → LacksOne (IsAskedAt h s.0.current c) u.1
 
 -- the answer is the outcome of a run of such steps, from the graph before the text to the one after it, and its spec
 abbrev pub WalkedTo : {S T A : Type 0} → (text : List ℕ) → Time → Table A → History → Graphed S T → Result Spec Error → Graphed S T → Type 0

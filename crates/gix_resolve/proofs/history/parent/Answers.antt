@@ -1,6 +1,8 @@
-use Rattle.std.proofs.Common.{◌≡◌, ◌∙◌, sym, Some}
+use Rattle.std.proofs.Common.{◌≡◌, ◌∙◌, inl, inr, sym, refl, Some}
 use Rattle.std.specs.List.{slice_get}
 use Rattle.gix_revision.specs.History.{entry_at, parents_in}
+use Rattle.gix_resolve.specs.Taken.{LacksOne, IsAskedNear}
+use Rattle.gix_resolve.proofs.StepAsked.{where_refused}
 use Rattle.gix_resolve.proofs.StepTaken.{near_start, near_found}
 use Rattle.gix_resolve.proofs.history.parent.Goals as goal
 
@@ -28,3 +30,17 @@ returns-then-branch-clause-taken g c =
 pub returns-in_default-clause-taken : goal.returns-in_default-clause-taken
 returns-in_default-clause-taken g c =
     near_start (g.S.Find.history c.args.graph.now.source) c.args.place c.args.id c.args.graph.now c.take_in.new.graph c.take_in.ensures.taken
+
+pub returns-in_err-take_in-clause-lacks : goal.returns-in_err-take_in-clause-lacks
+returns-in_err-take_in-clause-lacks g c =
+    let h = g.S.Find.history c.args.graph.now.source in
+    let lacks : LacksOne (IsAskedNear h c.args.place c.args.id) c.take_in.new.graph = (c.args.id, inl refl, c.in_err-take_in.ensures.lacks) in
+    where_refused _ lacks
+
+pub returns-in_err-take_in-2-clause-lacks : goal.returns-in_err-take_in-2-clause-lacks
+returns-in_err-take_in-2-clause-lacks g c =
+    let h = g.S.Find.history c.args.graph.now.source in
+    let same = c.take_in.ensures.after.same_history in
+    let found : slice_get (parents_in (entry_at h c.args.id)) c.args.place ≡ Some c.in-Some.found = rw same at (sym c.listed.ensures ∙ c.in-Some.is) in
+    let lacks : LacksOne (IsAskedNear h c.args.place c.args.id) c.take_in-2.new.graph = (c.in-Some.found, inr found, c.in_err-take_in-2.ensures.lacks) in
+    where_refused _ lacks
