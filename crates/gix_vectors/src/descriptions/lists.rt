@@ -99,12 +99,13 @@ fn list_with_one_failed(alloc: Global, before: u64) -> Result<(Tally, Tally, u64
     two_lists(alloc, source)
 }
 
-/// Whether one query of a list is refused where each look-up fails in turn, and the others are answered.
+/// Whether one query of a list is refused where each look-up fails in turn, and the others are answered. Each of the
+/// three commits is looked up once for the queries of both lists.
 fn is_list_answered_after_each_fault(alloc: Global) -> Result<bool, AllocError> {
     for before in 0..50u64 {
         let (first, again, faults) = list_with_one_failed(alloc, before)?;
         if first == ALL_RIGHT {
-            return Ok(before > 3);
+            return Ok(before == 3 && again == ALL_RIGHT && faults == 0);
         }
         if first != ONE_FOR_THE_SOURCE || again != ALL_RIGHT || faults != 1 {
             return Ok(false);
