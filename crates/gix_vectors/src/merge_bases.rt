@@ -3,11 +3,11 @@
 use crate::faults::{first_lost, first_wrong};
 use crate::histories::{CRISS_CROSS, OLD_PATH, OLDER_CHILD, Row, id, source_of};
 use crate::printed::prints;
-use crate::questions::Call::Bases;
-use crate::questions::Question;
-use crate::sources::{Failing, Turn};
+use crate::questions::Call::{Bases, Counted, Octopus, Paint, Reduce};
+use crate::questions::{Call, Question, refusal_of};
+use crate::sources::Turn;
 use bitflags::Flags as BitFlags;
-use gix_revision::graph::{FindFault, Graph};
+use gix_revision::graph::Graph;
 use gix_revision::merge_base::{Error, Flags, Simple, merge_base, octopus};
 use std::alloc::{AllocError, Global};
 use std::test::Fail;
@@ -102,43 +102,79 @@ fn calls_return_on_a_cycle(rt: HostRuntime) -> Result<(), Fail> {
     Ok(())
 }
 
-/// What the look-ups of the criss-cross are answered with where they fail: those of ids that were handed
-/// in, and those of parents.
-const TEXTS: [&str; 5] = [
-    "could not insert commit into graph",
-    "could not insert commit into graph",
-    "could not insert parent commit into graph",
-    "could not insert parent commit into graph",
-    "could not insert parent commit into graph",
-];
+/// The text of a refusal where an id that was handed in could not be asked for, and where a parent could not.
+const OF_ID: &str = "could not insert commit into graph";
 
-/// The refusal of the criss-cross where the look-up after that many fails; none where it makes no more.
-fn refusal_of(alloc: Global, turn: u64) -> Result<Option<Error>, AllocError> {
-    let inner = source_of(alloc, &CRISS_CROSS)?;
-    let source = Failing::new(inner, Turn::After(turn), FindFault::Failed, 0);
-    let mut graph = Graph::new(alloc, source);
-    Ok(merge_base(alloc, id(4), &[id(5)], &mut graph).err())
-}
+const OF_PARENT: &str = "could not insert parent commit into graph";
 
-/// The first look-up of the criss-cross that is not answered with its text where it fails. They are all.
+/// The text of each look-up that is made for the bases of 4 and 5 in the criss-cross, in their order.
+const IN_ORDER: [&str; 5] = [OF_ID, OF_ID, OF_PARENT, OF_PARENT, OF_PARENT];
+
+/// The first of these look-ups that is not answered with its text where it fails. They are all.
 fn first_untold(alloc: Global) -> Result<Option<u64>, AllocError> {
-    let mut turn: u64 = 0;
-    for text in &TEXTS {
-        if refusal_of(alloc, turn)? != Some(Error::Source(Simple(text))) {
-            return Ok(Some(turn));
+    let question = Question(Bases, &CRISS_CROSS, 4, &[5], &[2, 3]);
+    let mut before: u64 = 0;
+    for text in &IN_ORDER {
+        let refusal = refusal_of(alloc, &question, Turn::After(before))?;
+        if refusal != Some(Error::Source(Simple(text))) {
+            return Ok(Some(before));
         }
-        turn = turn.saturating_add(1);
+        before = before.saturating_add(1);
     }
-    Ok(if refusal_of(alloc, turn)? == None {
+    Ok(if refusal_of(alloc, &question, Turn::After(before))? == None {
         None
     } else {
-        Some(turn)
+        Some(before)
     })
+}
+
+/// The other calls, each of 4 and 5.
+const CALLS: [(Call, &[u8]); 4] = [
+    (Counted, &[5]),
+    (Octopus, &[5]),
+    (Paint, &[5]),
+    (Reduce, &[4, 5]),
+];
+
+/// Each commit of the criss-cross, and the text of a refusal since the source failed for it.
+const OF_EACH: [(u8, &str); 5] = [
+    (4, OF_ID),
+    (5, OF_ID),
+    (2, OF_PARENT),
+    (3, OF_PARENT),
+    (1, OF_PARENT),
+];
+
+/// The first commit for which a call of 4 and 5 is not refused with its text.
+fn first_untold_of(
+    alloc: Global,
+    call: Call,
+    others: &'static [u8],
+) -> Result<Option<u8>, AllocError> {
+    let question = Question(call, &CRISS_CROSS, 4, others, &[]);
+    for (digit, text) in OF_EACH {
+        let refusal = refusal_of(alloc, &question, Turn::For(id(digit)))?;
+        if refusal != Some(Error::Source(Simple(text))) {
+            return Ok(Some(digit));
+        }
+    }
+    Ok(None)
+}
+
+/// Whether each of the other calls is refused with the text of each commit.
+fn are_told(alloc: Global) -> Result<bool, AllocError> {
+    for (call, others) in CALLS {
+        if first_untold_of(alloc, call, others)?.is_some() {
+            return Ok(false);
+        }
+    }
+    Ok(true)
 }
 
 #[test]
 fn refused_look_ups_and_memory_refuse_the_call(rt: HostRuntime) -> Result<(), Fail> {
     assert_eq!(rt; first_untold(rt.alloc())?, None);
+    assert!(rt; are_told(rt.alloc())?);
     assert_eq!(rt; first_lost(rt.alloc(), &WORKED)?, None);
     assert_eq!(rt; first_lost(rt.alloc(), &LACKED)?, None);
     Ok(())

@@ -1,7 +1,7 @@
 //! Painting, the reduction and the counts of pops, on worked histories.
 
 use crate::faults::first_lost;
-use crate::histories::{CRISS_CROSS, OLD_PATH, OLDER_CHILD, Row, id, ids, source_of};
+use crate::histories::{CRISS_CROSS, OLD_PATH, OLDER_CHILD, Row, are, id, ids, source_of};
 use crate::questions::Call::{Counted, Paint, Reduce};
 use crate::questions::{Question, are_bases, are_set};
 use crate::sources::{Failing, Turn};
@@ -60,8 +60,10 @@ const SKEWED: [Row<'static>; 6] = [
 /// A history, two commits of it, their merge bases in order, and the pops where they are worked out.
 type Worked = (&'static [Row<'static>], u8, u8, &'static [u8], Option<u128>);
 
-const WORKED: [Worked; 8] = [
+const WORKED: [Worked; 9] = [
     (&OLDER_CHILD, 3, 4, &[2], Some(7)),
+    // The source lacks both.
+    (&OLDER_CHILD, 8, 9, &[], Some(0)),
     (&NEAR, 4, 5, &[3], Some(4)),
     (&CRISS_CROSS, 4, 4, &[4], Some(0)),
     (&CRISS_CROSS, 4, 5, &[2, 3], None),
@@ -104,13 +106,25 @@ fn pops_of_worked_histories(rt: HostRuntime) -> Result<(), Fail> {
     Ok(())
 }
 
-/// Whether painting finds 1 and 2 of the history with an older child, and of these and of an id that
-/// the source lacks the reduction leaves the last two.
+/// Two commits of the history with an older child, what painting finds, in any order, and its pops.
+const PAINTED: [(u8, u8, &[u8], u128); 2] = [
+    (3, 4, &[1, 2], 7),
+    // The source lacks both.
+    (8, 9, &[], 0),
+];
+
+/// Whether painting finds what each row says, with its pops, and of 1, 2 and an id that the source lacks the
+/// reduction leaves the last two.
 fn paints_and_reduces(alloc: Global) -> Result<bool, Fail> {
     let mut graph = Graph::new(alloc, source_of(alloc, &OLDER_CHILD)?);
-    let (painted, pops) = paint(alloc, id(3), &[id(4)], &mut graph)?;
+    for (first, other, wanted, pops) in PAINTED {
+        let (painted, made) = paint(alloc, id(first), &[id(other)], &mut graph)?;
+        if !are_set(&painted, wanted) || made != pops {
+            return Ok(false);
+        }
+    }
     let left = reduce(alloc, &ids(alloc, &[1, 2, 9])?, &mut graph)?;
-    Ok(are_set(&painted, &[1, 2]) && pops == 7 && left.as_slice() == [id(2), id(9)].as_slice())
+    Ok(are(&left, &[2, 9]))
 }
 
 /// Whether a walk to a near base leaves the far end of the line alone.

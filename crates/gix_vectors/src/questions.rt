@@ -1,9 +1,10 @@
 //! Questions of the calls of `merge_base`, as tables have them.
 
 use crate::faults::{Answered, Asks};
-use crate::histories::{Row, are, id, ids};
+use crate::histories::{Row, are, id, ids, source_of};
+use crate::sources::{Failing, Turn};
 use gix_revision::error::NonEmpty;
-use gix_revision::graph::{Commit, Find, Graph};
+use gix_revision::graph::{Commit, Find, FindFault, Graph};
 use gix_revision::hash::ObjectId;
 use gix_revision::merge_base::{Error, Flags, counted, merge_base, octopus, paint, reduce};
 use std::alloc::{AllocError, Allocator, Global};
@@ -90,4 +91,16 @@ impl Asks for Question {
             Err(Error::OutOfMemory) => Answered::OutOfMemory,
         })
     }
+}
+
+/// Why the call of a question is refused, over a source that fails at each such turn; none where it is not.
+pub fn refusal_of(
+    alloc: Global,
+    question: &Question,
+    turn: Turn,
+) -> Result<Option<Error>, AllocError> {
+    let others = ids(alloc, question.3)?;
+    let inner = source_of(alloc, question.1)?;
+    let mut graph = Graph::new(alloc, Failing::new(inner, turn, FindFault::Failed, 0));
+    Ok(is_right(alloc, &mut graph, question, &others).err())
 }

@@ -1,7 +1,8 @@
-//! What is described as text, as git-describe prints it (`--long`, `--abbrev`, `--dirty`), and copies.
+//! What is described as text and as bytes, as git-describe prints it (`--long`, `--abbrev`, `--dirty`), and copies.
 
 use super::cases::{FIRST_PARENT, Want, names_of, options_of, says};
 use crate::histories::id;
+use crate::printed::prints;
 use gix_base::hash::ObjectId;
 use gix_revision::describe::{Format, Outcome};
 use std::alloc::{AllocError, Global};
@@ -42,7 +43,26 @@ const PRINTED: &[Printed] = &[
         "v1-2-g0123456789abcdeffedcba987654321076543210",
     ),
     Printed(None, 0, false, 7, None, "0123456"),
-    Printed(Some(b"v\xff"), 0, false, 7, None, "v\u{fffd}"),
+    Printed(None, 0, false, 7, Some("dirty"), "0123456-dirty"),
+];
+
+/// Names that are not UTF-8, and the bytes that are written.
+const WRITTEN: &[(Printed, &[u8])] = &[
+    (
+        Printed(Some(b"v\xff"), 0, false, 7, None, "v\u{fffd}"),
+        b"v\xff",
+    ),
+    (
+        Printed(
+            Some(b"caf\xe9"),
+            2,
+            false,
+            7,
+            None,
+            "caf\u{fffd}-2-g0123456",
+        ),
+        b"caf\xe9-2-g0123456",
+    ),
 ];
 
 const DIGITS: &str = "0123456789abcdeffedcba987654321076543210";
@@ -65,20 +85,36 @@ fn format_of(alloc: Global, id: ObjectId, row: &Printed) -> Result<Format<'stati
     Ok(format)
 }
 
-/// Whether a row is printed as it should be, and its copy is equal.
-fn is_printed(alloc: Global, row: &Printed) -> Result<bool, AllocError> {
+/// Whether these bytes are written of what is described.
+fn writes(alloc: Global, format: &Format<'static>, bytes: &[u8]) -> bool {
+    let mut written = Vec::new(alloc);
+    format.write_to(&mut written).is_ok() && written.as_slice() == bytes
+}
+
+/// Whether a row is printed as it should be, these bytes are written of it, and its copy is equal.
+fn is_printed(alloc: Global, row: &Printed, bytes: &[u8]) -> Result<bool, AllocError> {
     let Ok(id) = ObjectId::from_hex(DIGITS.as_bytes()) else {
         return Ok(false);
     };
     let format = format_of(alloc, id, row)?;
-    let text = format!(in alloc; "{format}")?;
-    Ok(text.as_str() == row.5 && format.clone()? == format)
+    let text = row.5;
+    Ok(prints(alloc, &format, text)? && writes(alloc, &format, bytes) && format.clone()? == format)
 }
 
-/// The text of the first row that is not printed so.
+/// The text of the first row that is not printed so, or not written as its text.
 fn first_misprinted(alloc: Global) -> Result<Option<&'static str>, AllocError> {
     for row in PRINTED {
-        if !is_printed(alloc, row)? {
+        if !is_printed(alloc, row, row.5.as_bytes())? {
+            return Ok(Some(row.5));
+        }
+    }
+    Ok(None)
+}
+
+/// The text of the first row with such a name that is not printed so, or not written with its bytes.
+fn first_miswritten(alloc: Global) -> Result<Option<&'static str>, AllocError> {
+    for (row, bytes) in WRITTEN {
+        if !is_printed(alloc, row, bytes)? {
             return Ok(Some(row.5));
         }
     }
@@ -111,6 +147,7 @@ fn are_copied(alloc: Global) -> Result<bool, AllocError> {
 #[test]
 fn descriptions_are_printed_and_copied(rt: HostRuntime) -> Result<(), Fail> {
     assert_eq!(rt; first_misprinted(rt.alloc())?, None);
+    assert_eq!(rt; first_miswritten(rt.alloc())?, None);
     assert!(rt; are_copied(rt.alloc())?);
     Ok(())
 }

@@ -1,7 +1,7 @@
 //! The answers to `describe` lines, on a graph of their own.
 
 use crate::answers::Outcome;
-use gix_revision::describe::{self, Names, Options, describe};
+use gix_revision::describe::{self, Format, Names, Options, describe};
 use gix_revision::error::Message;
 use gix_revision::graph::{Graph, MemorySource};
 use gix_revision::hash::ObjectId;
@@ -87,12 +87,22 @@ pub(super) fn answer_describe<'t, W: Write, A: Allocator + Copy>(
 ) -> io::Result<Outcome> {
     match descriptions.describe(alloc, commit, options) {
         Ok(Some(outcome)) if outcome.name.is_some() => {
-            writeln!(output, "describe {}", outcome.into_format(HEX_LEN))?;
+            print_described(&outcome.into_format(HEX_LEN), output)?;
         }
         Ok(_) => output.write_all(b"describe none\n")?,
         Err(message) => return print_refusal(message, output),
     }
     Ok(Outcome::Answered)
+}
+
+// The name as its bytes.
+fn print_described<W: Write, A: Allocator>(
+    format: &Format<'_, A>,
+    output: &mut W,
+) -> io::Result<()> {
+    output.write_all(b"describe ")?;
+    format.write_to(output)?;
+    output.write_all(b"\n")
 }
 
 // The number of the refusal.
