@@ -1,8 +1,10 @@
 //! Refusals of a delegate, and lists that are never empty.
 
+ghost use Rattle.gix_base.specs.Exn.{causes_of};
 ghost use Rattle.gix_base.specs.NonEmpty.{all_of, left_of};
+ghost use Rattle.gix_base.specs.Refusals.{refusals_among, refusals_in};
 ghost use Rattle.std.specs.Iterator.{YieldsFirstRef, item_count};
-ghost use Rattle.std.specs.Prelude.{◌≡◌, ◌∷◌, [], IfSome, IsNone, None, Some, false, true, codes, length, min, slice_get, ◌↔◌};
+ghost use Rattle.std.specs.Prelude.{◌≡◌, ◌+◌, ◌∷◌, [], IfSome, IsNone, None, Some, false, true, codes, length, min, slice_get, ◌↔◌};
 
 mod message;
 
@@ -10,6 +12,7 @@ use bstr::BString;
 pub use message::Message;
 use std::alloc::{Allocator, Global};
 use std::borrow::CowStr;
+use std::mem::swap;
 use std::slice::Iter;
 
 /// A list that has a first item.
@@ -92,7 +95,7 @@ impl<'a, T> Iterator for NonEmptyIter<'a, T> {
 }
 
 /// A refusal by a delegate, with what led to it.
-#[derive(Debug, Drop)]
+#[derive(Debug)]
 pub struct Exn {
     /// What was refused, for a reader.
     pub message: CowStr<'static>,
@@ -105,7 +108,7 @@ pub struct Exn {
 }
 
 impl Exn {
-    ghost use Rattle.gix_base.specs.Exn.{message_of, input_of, causes_of, is_out_of_memory};
+    ghost use Rattle.gix_base.specs.Exn.{message_of, input_of, is_out_of_memory};
 
     /// A refusal with that message, no input and no causes. It takes no memory.
     pub fn new(alloc: Global, message: &'static str) -> Exn
@@ -135,5 +138,55 @@ impl Exn {
             causes: Vec::new(alloc),
             out_of_memory: true,
         }
+    }
+
+    // What led to it. All else is let go.
+    fn into_causes(self) -> Vec<Exn>
+        ensures causes { result.items ≡ causes_of self }
+        ensures count { refusals_among result.items + 1 ≡ refusals_in self }
+    {
+        let Exn {
+            message: _,
+            input: _,
+            causes,
+            out_of_memory: _,
+        } = self;
+        causes
+    }
+}
+
+// All refusals but one, without memory.
+fn without_one(mut last: Exn, mut others: Vec<Exn>) -> Vec<Exn>
+    ensures { refusals_among result.items + 1
+        ≡ refusals_in last + refusals_among others.items }
+{
+    // `last` goes to the place of the first that led to it, and the others to the place of all that led to `last`.
+    while !others.is_empty() && !last.causes.is_empty() {
+        swap(&mut last.causes, &mut others);
+        swap(&mut last, &mut others[0]);
+    }
+    let causes = last.into_causes();
+    if others.is_empty() {
+        others.destroy_empty();
+        causes
+    } else {
+        causes.destroy_empty();
+        others
+    }
+}
+
+impl Drop for Exn {
+    // In a loop, so that the stack does not grow with what led to it.
+    fn drop(self) {
+        let Exn {
+            message: _,
+            input: _,
+            mut causes,
+            out_of_memory: _,
+        } = self;
+        while let Some(last) = causes.pop() {
+            causes = without_one(last, causes);
+        }
+        causes.destroy_empty();
     }
 }

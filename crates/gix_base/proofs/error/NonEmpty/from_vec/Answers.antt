@@ -1,4 +1,4 @@
-use Rattle.std.proofs.Common.{◌∷◌, get_or, sym, arith}
+use Rattle.std.proofs.Common.{sym, arith}
 use Rattle.std.proofs.lemmas.List.{drop_more}
 use Rattle.gix_base.proofs.error.NonEmpty.from_vec.Goals as goal
 
