@@ -12,10 +12,10 @@ use Rattle.gix_revwalk.specs.History.{History, same_id, is_one_of, Has, IsAncest
 use Rattle.gix_merge_base.specs.Premises.{IsAcyclicFrom, GenerationsNeverRiseFrom}
 use Rattle.gix_revwalk.specs.History.IsAncestor.{itself}
 use Rattle.gix_merge_base.specs.Bases.{IsCommon, IsMaximal, CoverBases}
-use Rattle.gix_merge_base.specs.Octopus.{IsOctopusBase, IsCommonToAll}
+use Rattle.gix_merge_base.specs.Octopus.{IsOctopusBase, IsCommonToAll, AreOctopusBases}
 use Rattle.gix_merge_base.specs.Keys.{choice}
 use Rattle.gix_merge_base.specs.Reducing.{firsts}
-use Rattle.gix_merge_base.specs.OctopusSteps.{AreApart, IsStep, AreOctopusBases, IsBestOf}
+use Rattle.gix_merge_base.specs.OctopusSteps.{AreApart, IsStep, IsBestOf}
 use Rattle.gix_revwalk.proofs.Ids.{same_id-laws}
 use Rattle.gix_revwalk.proofs.Members.{one_of-left, one_of-right, one_of-cases, one_of-cons_cases, one_of-single, one_of-head, one_of-tail, one_of-at, take_next}
 use Rattle.gix_revwalk.proofs.Ancestors.{anc-trans, has_ancestor}

@@ -33,3 +33,4 @@ pub mod Unmet
 pub mod Alone
 pub mod Best
 pub mod Answered
+pub mod Ancestry

@@ -7,9 +7,8 @@ use Rattle.std.specs.Ordering.{is_gt}
 use Rattle.gix_base.specs.declared.hash.ObjectId.{ObjectId}
 use Rattle.gix_revwalk.specs.History.{History, same_id, is_one_of, IsAncestorOfAll}
 use Rattle.gix_merge_base.specs.Bases.{IsMaximal}
-use Rattle.gix_merge_base.specs.Octopus.{IsOctopusBase}
+use Rattle.gix_merge_base.specs.Octopus.{IsOctopusBase, AreOctopusBases}
 use Rattle.gix_merge_base.specs.Keys.{choice}
-use Rattle.gix_merge_base.specs.OctopusSteps.{AreOctopusBases}
 use Rattle.gix_revwalk.proofs.Ids.{same_id-true, same_id-equal}
 use Rattle.gix_revwalk.proofs.Members.{one_of-head, one_of-tail, one_of-cons_cases}
 use Rattle.gix_merge_base.proofs.Choice.{choice-unique}

@@ -9,7 +9,7 @@ use Rattle.std.proofs.Math.Seq.{take-suc}
 use Rattle.gix_base.specs.declared.hash.ObjectId.{ObjectId}
 use Rattle.gix_revwalk.specs.History.{History, entry_at, Has, IsAncestor, is_one_of, same_id}
 use Rattle.gix_revwalk.specs.History.IsAncestor.{itself}
-use Rattle.gix_merge_base.specs.Painting.{IsHandedIn, IsOutside, MayBeTaken}
+use Rattle.gix_merge_base.specs.Painting.{IsHandedIn, IsOutside, MayBeMet, MayBeTaken}
 use Rattle.gix_merge_base.specs.Marks.{MarkSet, joined, no_marks}
 use Rattle.gix_merge_base.specs.PaintSteps.{Begins, Begun}
 use Rattle.gix_revwalk.proofs.Ids.{same_id-true, same_id-itself, same_id-equal}
@@ -164,6 +164,7 @@ walk_begins h f os began held m q b holds =
       best = λ falls r k. cc;
       ordered = λ none. record { falling = tt; above = λ r z k j. cc };
       taken = λ falls p k. elim (holds p k) as (λ _. began p ⊎ MayBeTaken h f os p) [ inl a ↦ inl a | inr x ↦ inr (inl x) ];
+      met = λ p k. elim (holds p k) as (λ _. began p ⊎ MayBeMet h f os p) [ inl a ↦ inl a | inr x ↦ inr (inl x) ];
     }
   where
     no_stale : (c : ObjectId) → (m c).one ≡ false → IsTrue ((m c).stale || ((m c).one && (m c).two)) → ⊥

@@ -8,7 +8,7 @@ use Rattle.gix_revwalk.specs.History.{History, entry_at, parents_in, Has, IsAnce
 use Rattle.gix_merge_base.specs.Keys.{KeyAtMost}
 use Rattle.gix_merge_base.specs.Premises.{KeysFallFrom, NoneRisesFrom}
 use Rattle.gix_merge_base.specs.Bases.{IsCommon, IsMaximal}
-use Rattle.gix_merge_base.specs.Painting.{MayBeTaken}
+use Rattle.gix_merge_base.specs.Painting.{MayBeMet, MayBeTaken}
 use Rattle.gix_merge_base.specs.Marks.{marks_of, MarkSet, HasMarksOf, handed_on, marks_in, level}
 use Rattle.gix_merge_base.specs.PaintSteps.{Hands, Covers, total, results_after, Notes, Steps}
 use Rattle.std.specs.Map.{lookup}
@@ -21,7 +21,7 @@ use Rattle.gix_merge_base.specs.Counting.{unstale}
 use Rattle.std.proofs.lemmas.List.Sums.{sum_by-cons}
 use Rattle.std.proofs.Math.Path.{fun_ext}
 use Rattle.gix_revwalk.proofs.Members.{one_of-head, one_of-tail, one_of-cons_cases}
-use Rattle.gix_merge_base.proofs.Painting.{Handed, Painting, popped_keeps, grew, marked_reached}
+use Rattle.gix_merge_base.proofs.Painting.{Handed, Painting, popped_keeps, grew, marked_reached, reached_further}
 use Rattle.gix_merge_base.proofs.PaintingEnds.{Fresh, Ordered, fresh_keeps, results_best, ordered_keeps, parents_may}
 
 -- between two pops; `held` are the ids that are held, and `began` those at the start
@@ -34,6 +34,7 @@ pub record Walk (h : History) (f : ObjectId) (os : List ObjectId) (began held : 
   pub best : KeysFallFrom h (f ∷ os) → (r : ObjectId) → IsTrue (is_one_of results r) → IsMaximal h (IsCommon h f os) r
   pub ordered : NoneRisesFrom h (f ∷ os) → Ordered h q results
   pub taken : KeysFallFrom h (f ∷ os) → (p : ObjectId) → held p → began p ⊎ MayBeTaken h f os p
+  pub met : (p : ObjectId) → held p → began p ⊎ MayBeMet h f os p
 
 painting_permuted : (h : History) (f : ObjectId) (os : List ObjectId) (m : ObjectId → MarkSet) (q q' results popped : List ObjectId) → IsPermutation q q' → Painting h f os m q results popped → Painting h f os m q' results popped
 painting_permuted h f os m q q' results popped perm at =
@@ -66,7 +67,18 @@ walk_permuted h f os began held m q q' results pops perm w =
       best = w.best;
       ordered = λ none. let o = w.ordered none in record { falling = o.falling; above = λ r z k j. o.above r z k (inside z ∙ j) };
       taken = w.taken;
+      met = w.met;
     }
+
+-- what is taken in with the parents of a queued commit
+pub met_next : (h : History) (f : ObjectId) (os : List ObjectId) (began held held' : ObjectId → Type 0) (m : ObjectId → MarkSet) (id : ObjectId) (q results : List ObjectId) (pops : ℕ)
+    → Walk h f os began held m q results pops → IsTrue (is_one_of q id)
+    → ((p : ObjectId) → held' p → held p ⊎ (IsTrue (is_one_of (parents_in (entry_at h id)) p) × Has h p))
+    → (p : ObjectId) → held' p → began p ⊎ MayBeMet h f os p
+met_next h f os began held held' m id q results pops w queued takes p k = elim (takes p k) as (λ _. began p ⊎ MayBeMet h f os p) [
+  | inl a ↦ w.met p a
+  | inr e ↦ inr (inr (reached_further h f os id p (marked_reached h f os m q results w.popped w.painting id (w.painting.queued id queued)) e))
+]
 
 -- a pop of c
 module _ (h : History) (f : ObjectId) (os : List ObjectId) (began held held' : ObjectId → Type 0) (m m1 m2 : ObjectId → MarkSet) (c : ObjectId) (q q2 results : List ObjectId) (pops : ℕ)
@@ -91,6 +103,7 @@ module _ (h : History) (f : ObjectId) (os : List ObjectId) (began held held' : O
       | inl a ↦ w.taken falls p a
       | inr e ↦ inr (parents_may h f os m m1 m2 c q q2 results w.popped w.painting note did top (w.fresh falls) z z_in z_open p e)
     ];
+    met = λ p k. met_next h f os began held held' m c (c ∷ q) results pops w (one_of-head c q) takes p k;
   }
     where
       level_grows : (a b : Bool) → (IsTrue a → IsTrue b) → level a ≤ level b
@@ -221,6 +234,14 @@ step_takes h f os began held held' m id q0 q1 results pops w rest top open_one t
         | inr o ↦ inr (inr (id, marked_reached h f os m q0 results w.popped w.painting id (w.painting.queued id id_in), e, z.0, o.0, o.1, top z.0 z.1))
       ]
     ]
+
+-- what a step has met, also where it was refused
+pub step_meets : (h : History) (f : ObjectId) (os : List ObjectId) (began held held' : ObjectId → Type 0) (m : ObjectId → MarkSet) (id : ObjectId) (q0 q1 results : List ObjectId) (pops : ℕ)
+    → Walk h f os began held m q0 results pops → IsPermutation q0 (id ∷ q1)
+    → ((p : ObjectId) → held' p → held p ⊎ (IsTrue (is_one_of (parents_in (entry_at h id)) p) × Has h p))
+    → (p : ObjectId) → held' p → began p ⊎ MayBeMet h f os p
+step_meets h f os began held held' m id q0 q1 results pops w rest takes p k =
+    met_next h f os began held held' m id q0 results pops w (list_any-IsPermutation (same_id id) q0 (id ∷ q1) rest ∙ one_of-head id q1) takes p k
 
 -- pops are left while something is queued
 pub pops_left : (h : History) (f : ObjectId) (os : List ObjectId) (began held : ObjectId → Type 0) (m : ObjectId → MarkSet) (id : ObjectId) (q0 q1 results : List ObjectId) (pops : ℕ)

@@ -1,10 +1,10 @@
 -- How an octopus goes from head to head: with each head it follows every base that it has.
-use Rattle.std.specs.Prelude.{◌≡◌, ◌↔◌, List, ◌∷◌, IsTrue, MatchOption, Option}
+use Rattle.std.specs.Prelude.{◌≡◌, List, ◌∷◌, IsTrue, MatchOption, Option}
 use Rattle.std.specs.Ordering.{is_gt}
 use Rattle.gix_base.specs.declared.hash.ObjectId.{ObjectId}
-use Rattle.gix_revwalk.specs.History.{History, Has, is_one_of, IsAncestor, IsAncestorOfOne, IsAncestorOfAll}
+use Rattle.gix_revwalk.specs.History.{History, Has, is_one_of, IsAncestor, IsAncestorOfOne}
 use Rattle.gix_merge_base.specs.Premises.{GenerationsNeverRiseFrom}
-use Rattle.gix_merge_base.specs.Bases.{IsCommon, IsMaximal}
+use Rattle.gix_merge_base.specs.Bases.{IsCommon}
 use Rattle.gix_merge_base.specs.Keys.{choice}
 
 -- no one of ids is reached from another
@@ -17,13 +17,6 @@ pub record IsStep (h : History) (bs : List ObjectId) (o : ObjectId) (ys : List O
   pub common : (c : ObjectId) → IsTrue (is_one_of ys c) → IsCommon h o bs c
   pub below : (c : ObjectId) → IsCommon h o bs c → IsAncestorOfOne h ys c
   pub apart : GenerationsNeverRiseFrom h (o ∷ bs) → AreApart h ys
-
--- ids are ancestors common to f and all of os, all of these ancestors lie below them, and as a set
--- they are the maximal ones where no parent's generation exceeds its child's among what these reach
-pub record AreOctopusBases (h : History) (f : ObjectId) (os ids : List ObjectId) : Type 0 where
-  pub each : (c : ObjectId) → IsTrue (is_one_of ids c) → IsAncestorOfAll h (f ∷ os) c
-  pub cover : (c : ObjectId) → IsAncestorOfAll h (f ∷ os) c → IsAncestorOfOne h ids c
-  pub maximal : GenerationsNeverRiseFrom h (f ∷ os) → (c : ObjectId) → IsTrue (is_one_of ids c) ↔ IsMaximal h (IsAncestorOfAll h (f ∷ os)) c
 
 -- x is one of ids and in the history, and no other such is chosen before it
 pub record IsFirstChoice (h : History) (ids : List ObjectId) (x : ObjectId) : Type 0 where

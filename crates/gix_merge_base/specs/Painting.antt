@@ -18,6 +18,10 @@ IsUnreached h f os c =
 abbrev pub IsHandedIn : ObjectId → List ObjectId → ObjectId → Type 0
 IsHandedIn f os x = (x ≡ f) ⊎ IsTrue (is_one_of os x)
 
+-- f or one of os, or an ancestor of one of them
+abbrev pub MayBeMet : History → ObjectId → List ObjectId → ObjectId → Type 0
+MayBeMet h f os q = IsHandedIn f os q ⊎ IsReached h f os q
+
 -- handed in, or a parent of an ancestor that is not common
 abbrev pub IsOutside : History → ObjectId → List ObjectId → ObjectId → Type 0
 IsOutside h f os x =

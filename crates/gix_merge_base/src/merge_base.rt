@@ -1,5 +1,6 @@
 //! The best common ancestors of commits.
 
+mod ancestry;
 mod bases;
 mod error;
 mod flags;
@@ -13,12 +14,13 @@ mod painting;
 mod queries;
 mod reduction;
 
+pub use ancestry::is_ancestor;
 pub use bases::counted;
 pub use error::{Error, Simple};
 pub use flags::Flags;
 pub use function::merge_base;
 pub use gen_then_time::GenThenTime;
-pub use heads::octopus;
+pub use heads::{octopus, octopus_bases};
 pub use painting::paint;
 pub use queries::{Answer, Query, run};
 pub use reduction::reduce;

@@ -33,10 +33,31 @@ fn both_say_so(alloc: Global) -> bool {
         && says(&Exn::out_of_memory(alloc), "out of memory", true)
 }
 
+/// A refusal that another one led to, with a leaf before it or behind it.
+fn one_more(alloc: Global, inner: Exn, is_leaf_first: bool) -> Result<Exn, AllocError> {
+    let mut outer = Exn::new(alloc, "outer");
+    outer.causes.push(inner)?;
+    outer.causes.push(Exn::new(alloc, "leaf"))?;
+    if is_leaf_first {
+        outer.causes.reverse();
+    }
+    Ok(outer)
+}
+
+/// A refusal that 200,000 others led to, each inside the next, is let go on the stack of a test.
+fn lets_go_of_deep_causes(alloc: Global) -> Result<bool, AllocError> {
+    let mut deep = Exn::new(alloc, "innermost");
+    for i in 0..200_000 {
+        deep = one_more(alloc, deep, i % 2 == 0)?;
+    }
+    Ok(deep.causes.len() == 2)
+}
+
 #[test]
 fn lists_and_refusals_keep_what_they_are_given(rt: HostRuntime) -> Result<(), Fail> {
     assert!(rt; holds_one(rt.alloc()));
     assert!(rt; holds_three(rt.alloc())?);
     assert!(rt; both_say_so(rt.alloc()));
+    assert!(rt; lets_go_of_deep_causes(rt.alloc())?);
     Ok(())
 }

@@ -3,7 +3,7 @@
 use crate::faults::{first_lost, first_wrong};
 use crate::histories::{CRISS_CROSS, OLD_PATH, OLDER_CHILD, Row, id, source_of};
 use crate::printed::prints;
-use crate::questions::Call::{Bases, Counted, Octopus, Paint, Reduce};
+use crate::questions::Call::{Ancestor, Bases, Counted, Octopus, Paint, Reduce};
 use crate::questions::{Call, Question, refusal_of};
 use crate::sources::Turn;
 use bitflags::Flags as BitFlags;
@@ -55,7 +55,7 @@ static TRIVIAL: [Question; 4] = [
     Question(Bases, &CRISS_CROSS, 4, &[5, 4, 4], &[4]),
 ];
 
-static WORKED: [Question; 12] = [
+static WORKED: [Question; 19] = [
     // Both sides, several others, an ancestor, repeated others.
     Question(Bases, &CRISS_CROSS, 4, &[5], &[2, 3]),
     Question(Bases, &CRISS_CROSS, 5, &[4], &[2, 3]),
@@ -71,13 +71,24 @@ static WORKED: [Question; 12] = [
     // Generations at their ends, and parents listed twice.
     Question(Bases, &FAR_GENERATIONS, 4, &[5], &[2, 3]),
     Question(Bases, &LISTED_TWICE, 4, &[5], &[2, 3]),
+    // Ancestors, also under wrong clocks, descendants, neither, and the commit itself.
+    Question(Ancestor, &CRISS_CROSS, 1, &[4], &[1]),
+    Question(Ancestor, &OLDER_CHILD, 1, &[3], &[1]),
+    Question(Ancestor, &OLD_PATH, 9, &[7], &[9]),
+    Question(Ancestor, &FAR_GENERATIONS, 3, &[5], &[3]),
+    Question(Ancestor, &CRISS_CROSS, 4, &[1], &[]),
+    Question(Ancestor, &CRISS_CROSS, 4, &[5], &[]),
+    Question(Ancestor, &CRISS_CROSS, 4, &[4], &[4]),
 ];
 
 /// One of the others is not in the source, or the first is not.
-static LACKED: [Question; 3] = [
+static LACKED: [Question; 6] = [
     Question(Bases, &CRISS_CROSS, 4, &[5, 5, 9, 5], &[2, 3]),
     Question(Bases, &CRISS_CROSS, 4, &[9, 5], &[2, 3]),
     Question(Bases, &CRISS_CROSS, 9, &[4], &[]),
+    Question(Ancestor, &CRISS_CROSS, 9, &[4], &[]),
+    Question(Ancestor, &CRISS_CROSS, 4, &[9], &[]),
+    Question(Ancestor, &CRISS_CROSS, 9, &[9], &[]),
 ];
 
 #[test]

@@ -11,7 +11,7 @@
 
 use crate::faults::{first_lost, first_wrong};
 use crate::histories::{CRISS_CROSS, OLDER_CHILD, Row};
-use crate::questions::Call::Octopus;
+use crate::questions::Call::{Octopus, OctopusBases};
 use crate::questions::Question;
 use std::test::Fail;
 
@@ -82,14 +82,15 @@ const PARENT_LACKED: [Row<'static>; 4] = [
 ];
 
 /// All ids are equal, so nothing is looked up.
-static TRIVIAL: [Question; 4] = [
+static TRIVIAL: [Question; 5] = [
     Question(Octopus, &CRISS_CROSS, 4, &[4, 4], &[4]),
     Question(Octopus, &CRISS_CROSS, 4, &[], &[4]),
     Question(Octopus, &CRISS_CROSS, 9, &[9], &[9]),
     Question(Octopus, &CRISS_CROSS, 9, &[], &[9]),
+    Question(OctopusBases, &CRISS_CROSS, 9, &[9, 9], &[9]),
 ];
 
-static WORKED: [Question; 22] = [
+static WORKED: [Question; 27] = [
     Question(Octopus, &CRISS_CROSS, 4, &[5], &[2]),
     Question(Octopus, &CRISS_CROSS, 4, &[5, 4], &[2]),
     Question(Octopus, &YOUNGER_THIRD, 4, &[5], &[3]),
@@ -116,10 +117,16 @@ static WORKED: [Question; 22] = [
     Question(Octopus, &CRISS_CROSS, 1, &[2, 4], &[1]),
     Question(Octopus, &OLDER_CHILD, 1, &[3, 2], &[1]),
     Question(Octopus, &OLDER_CHILD, 3, &[4], &[2]),
+    // All of them, the first in front.
+    Question(OctopusBases, &CRISS_CROSS, 4, &[5], &[2, 3]),
+    Question(OctopusBases, &YOUNGER_THIRD, 4, &[5, 4], &[3, 2]),
+    Question(OctopusBases, &THREE_HEADS, 3, &[4, 5], &[2]),
+    Question(OctopusBases, &GENERATIONS_RISE, 4, &[3], &[2, 1]),
+    Question(OctopusBases, &CRISS_CROSS, 5, &[3, 4], &[3]),
 ];
 
 /// One of the ids is not in the source, or a parent that they have in common is not.
-static LACKED: [Question; 7] = [
+static LACKED: [Question; 8] = [
     Question(Octopus, &CRISS_CROSS, 4, &[9], &[]),
     Question(Octopus, &CRISS_CROSS, 9, &[4], &[]),
     Question(Octopus, &CRISS_CROSS, 9, &[9, 4], &[]),
@@ -127,6 +134,7 @@ static LACKED: [Question; 7] = [
     Question(Octopus, &THREE_HEADS, 1, &[2, 9], &[]),
     Question(Octopus, &PARENT_LACKED, 1, &[2], &[]),
     Question(Octopus, &PARENT_LACKED, 3, &[4], &[1]),
+    Question(OctopusBases, &CRISS_CROSS, 4, &[5, 9], &[]),
 ];
 
 #[test]

@@ -6,7 +6,9 @@ use crate::sources::{Failing, Turn};
 use gix_revision::error::NonEmpty;
 use gix_revision::graph::{Commit, Find, FindFault, Graph};
 use gix_revision::hash::ObjectId;
-use gix_revision::merge_base::{Error, Flags, counted, merge_base, octopus, paint, reduce};
+use gix_revision::merge_base::{
+    Error, Flags, counted, is_ancestor, merge_base, octopus, octopus_bases, paint, reduce,
+};
 use std::alloc::{AllocError, Allocator, Global};
 
 /// Which function is called.
@@ -15,9 +17,12 @@ pub enum Call {
     Bases,
     Counted,
     Octopus,
+    OctopusBases,
     Paint,
     /// Of the others alone.
     Reduce,
+    /// Of the first and one other: the answer is the first where the other reaches it.
+    Ancestor,
 }
 
 /// A call: the function, the history, the first id, the others, and the ids of the answer in order, but
@@ -55,6 +60,19 @@ pub fn is_one(found: Option<ObjectId>, digits: &[u8]) -> bool {
     found == digits.first().map(|digit| id(*digit))
 }
 
+/// Whether it is answered that the only one of the others reaches the first.
+fn is_reached<S: Find, A: Allocator + Copy>(
+    alloc: A,
+    graph: &mut Graph<S, Commit<Flags, A>, A>,
+    first: ObjectId,
+    others: &[ObjectId],
+) -> Result<bool, Error> {
+    match others {
+        [of] => is_ancestor(alloc, first, *of, graph),
+        _ => Ok(false),
+    }
+}
+
 /// Whether the answer is the one of the question, whose others these are.
 fn is_right<S: Find, A: Allocator + Copy>(
     alloc: A,
@@ -67,6 +85,8 @@ fn is_right<S: Find, A: Allocator + Copy>(
         Call::Bases => are_bases(&merge_base(alloc, first, others, graph)?, answer),
         Call::Counted => are_bases(&counted(alloc, first, others, graph)?.0, answer),
         Call::Octopus => is_one(octopus(alloc, first, others, graph)?, answer),
+        Call::OctopusBases => are(&octopus_bases(alloc, first, others, graph)?, answer),
+        Call::Ancestor => is_reached(alloc, graph, first, others)? != answer.is_empty(),
         Call::Paint => are_set(&paint(alloc, first, others, graph)?.0, answer),
         Call::Reduce => are(&reduce(alloc, others, graph)?, answer),
     })

@@ -1,14 +1,15 @@
 //! The best commit that all of several heads go back to.
 
-ghost use Rattle.std.specs.Prelude.{◌≡◌, ◌∷◌, Some, IfOk, Ok, IfErr, IsTrue, false};
+ghost use Rattle.std.specs.Prelude.{◌≡◌, ◌∷◌, [], Some, IfOk, Ok, IfErr, IsTrue, false};
 ghost use Rattle.std.specs.List.{list_all};
 ghost use Rattle.gix_base.specs.declared.hash.ObjectId.{ObjectId};
 ghost use Rattle.gix_revwalk.specs.History.{same_id, is_one_of, Has};
 ghost use Rattle.gix_merge_base.specs.Premises.{IsAcyclicFrom, GenerationsNeverRiseFrom};
 ghost use Rattle.gix_revwalk.specs.Faults.{count_after};
 ghost use Rattle.gix_revwalk.specs.Graph.{KeepsHeld};
-ghost use Rattle.gix_merge_base.specs.Octopus.{IsOctopusBase, IsCommonToAll};
-ghost use Rattle.gix_merge_base.specs.OctopusSteps.{IsStep, AreOctopusBases, IsBestOf};
+ghost use Rattle.gix_merge_base.specs.Keys.{IsInOrder};
+ghost use Rattle.gix_merge_base.specs.Octopus.{IsOctopusBase, IsCommonToAll, AreOctopusBases};
+ghost use Rattle.gix_merge_base.specs.OctopusSteps.{IsStep, IsBestOf};
 ghost use Rattle.gix_merge_base.specs.Reducing.{firsts};
 ghost use Rattle.gix_merge_base.specs.Refusals.{HasInsertText, is_source_fault};
 ghost use Rattle.gix_merge_base.specs.AfterCall.{AfterCall};
@@ -74,6 +75,7 @@ fn step<S: Find, A: Allocator + Copy>(
     ensures step { IsAcyclicFrom (S.history graph.old.source) (head ∷ bases.now)
         → Has (S.history graph.old.source) head
         → IfOk result (λ left. IsStep (S.history graph.old.source) bases.now head left.items) }
+    ensures order { IfOk result (λ left. IsInOrder (S.history graph.old.source) left.items) }
     ensures after { AfterCall S.history S.fault_count graph.old graph.new result }
 {
     if bases.is_empty() {
@@ -87,7 +89,7 @@ fn step<S: Find, A: Allocator + Copy>(
     Ok(left)
 }
 
-/// Goes from head to head, of which the source has each: as [`octopus_bases`], in the order given.
+/// Goes from head to head, of which the source has each: as [`bases_of_heads`], in the order given.
 fn steps<S: Find, A: Allocator + Copy>(
     alloc: A,
     first: ObjectId,
@@ -99,6 +101,7 @@ fn steps<S: Find, A: Allocator + Copy>(
         → Has (S.history graph.old.source) c)
         → IfOk result (λ left.
         AreOctopusBases (S.history graph.old.source) first others.now left.items) }
+    ensures order { IfOk result (λ left. IsInOrder (S.history graph.old.source) left.items) }
     ensures after { AfterCall S.history S.fault_count graph.old graph.new result }
 {
     let mut left = [first].to_vec(alloc)?;
@@ -111,7 +114,7 @@ fn steps<S: Find, A: Allocator + Copy>(
 /// Ancestors common to `first` and all of `others`, with all maximal ones, and these alone where no
 /// parent has a greater generation than its child. Each head is looked up, and then followed once at
 /// most, the newest first: along a chain each walk goes on where the one before it ended.
-fn octopus_bases<S: Find, A: Allocator + Copy>(
+fn bases_of_heads<S: Find, A: Allocator + Copy>(
     alloc: A,
     first: ObjectId,
     others: &[ObjectId],
@@ -120,6 +123,7 @@ fn octopus_bases<S: Find, A: Allocator + Copy>(
     ensures bases { IsAcyclicFrom (S.history graph.old.source) (first ∷ others.now)
         → IfOk result (λ left.
         AreOctopusBases (S.history graph.old.source) first others.now left.items) }
+    ensures order { IfOk result (λ left. IsInOrder (S.history graph.old.source) left.items) }
     ensures after { AfterCall S.history S.fault_count graph.old graph.new result }
 {
     let heads = distinct(alloc, first, others)?;
@@ -130,6 +134,51 @@ fn octopus_bases<S: Find, A: Allocator + Copy>(
     // At its own step the newest is the only base, which costs no walk.
     let newest = known[0];
     steps(alloc, newest, &known, graph)
+}
+
+/// All octopus bases of `first` and `others` together: git-merge-base, "--octopus" with "--all".
+///
+/// Where all ids are equal, also with no `others`, the answer is that id, and nothing is asked of the
+/// source. Otherwise it is each maximal one among the ancestors that are common to all the ids, by falling
+/// generation, an absent one counting as the greatest, then falling time, then rising id: the first of them
+/// is what [`octopus`] answers. An id that the source lacks has no ancestors.
+///
+/// The premises are those of [`octopus`]. Where a parent has a greater generation than its child, only
+/// ancestors common to all are answered, and of each such ancestor one that reaches it.
+///
+/// What the graph held it still holds, refused or not; the data beside it may have changed.
+///
+/// # Errors
+///
+/// As [`octopus`].
+pub fn octopus_bases<S: Find, A: Allocator + Copy>(
+    alloc: A,
+    first: ObjectId,
+    others: &[ObjectId],
+    graph: &mut Graph<S, Commit<Flags, A>, A>,
+) -> Result<Vec<ObjectId, A>, Error>
+    ensures bases { IsAcyclicFrom (S.history graph.old.source) (first ∷ others.now)
+        → list_all (same_id first) others.now ≡ false
+        → IfOk result (λ bases.
+        AreOctopusBases (S.history graph.old.source) first others.now bases.items) }
+    ensures order { IfOk result (λ bases. IsInOrder (S.history graph.old.source) bases.items) }
+
+    // Nothing is looked up.
+    ensures trivial { IsTrue (list_all (same_id first) others.now) → graph.new ≡ graph.old }
+    ensures trivial_answer { IsTrue (list_all (same_id first) others.now)
+        → IfOk result (λ bases. bases.items ≡ first ∷ []) }
+
+    ensures history { S.history graph.new.source ≡ S.history graph.old.source }
+    ensures cause { IfErr result HasInsertText }
+    ensures count { S.fault_count graph.new.source
+        ≡ count_after (is_source_fault result) (S.fault_count graph.old.source) }
+    ensures held { KeepsHeld graph.old graph.new }
+{
+    if all_are(others, first) {
+        let alone = [first].to_vec(alloc)?;
+        return Ok(alone);
+    }
+    bases_of_heads(alloc, first, others, graph)
 }
 
 /// The octopus base of `first` and `others` together: git-merge-base, "--octopus".
@@ -177,6 +226,6 @@ pub fn octopus<S: Find, A: Allocator + Copy>(
     if all_are(others, first) {
         return Ok(Some(first));
     }
-    let bases = octopus_bases(alloc, first, others, graph)?;
+    let bases = bases_of_heads(alloc, first, others, graph)?;
     best_of(alloc, &bases, graph)
 }

@@ -14,7 +14,7 @@ ghost use Rattle.gix_merge_base.specs.Counting.{Counts};
 ghost use Rattle.gix_merge_base.specs.Keys.{InFallingOrder};
 ghost use Rattle.gix_merge_base.specs.Premises.{IsAcyclicFrom, KeysFallFrom, NoneRisesFrom};
 ghost use Rattle.gix_merge_base.specs.Marks.{marks_of};
-ghost use Rattle.gix_merge_base.specs.Painting.{IsUnreached, IsHandedIn, MayBeTaken};
+ghost use Rattle.gix_merge_base.specs.Painting.{IsUnreached, IsHandedIn, MayBeMet, MayBeTaken};
 ghost use Rattle.gix_merge_base.specs.PaintQueue.{marks_at, queued_at, queued_ids, AreHeld, IsHeld, Keyed};
 ghost use Rattle.gix_merge_base.specs.PaintSteps.{Begins, Begun};
 ghost use Rattle.gix_merge_base.specs.Refusals.{HasInsertText, is_source_fault};
@@ -130,6 +130,9 @@ pub fn paint<S: Find, A: Allocator + Copy>(
     ensures least { IsAcyclicFrom (S.history graph.old.source) (first ∷ others.now)
         → IfOk result (λ r. AtMost r.1
         (IsUnreached (S.history graph.old.source) first others.now)) }
+
+    ensures reached { (q : ObjectId) → IsHeld graph.new q
+        → IsHeld graph.old q ⊎ MayBeMet (S.history graph.old.source) first others.now q }
 
     // Where keys fall along every edge that is reached, little is taken in, and each answer is a
     // maximal one.

@@ -1,5 +1,6 @@
 use Rattle.std.proofs.Common.{◌≡◌, ◌∙◌, ◌∷◌, [], length, sym, arith, tests}
 use Rattle.gix_merge_base.proofs.Heads.{step_none, step_alone, step_best}
+use Rattle.gix_merge_base.proofs.Sorting.{few_in_order}
 use Rattle.gix_merge_base.proofs.merge_base.heads.step.Goals as goal
 
 pub returns-then-is_empty-clause-step : goal.returns-then-is_empty-clause-step
@@ -15,3 +16,11 @@ returns-then-stands_in-clause-step g c acyclic has =
 pub returns-clause-step : goal.returns-clause-step
 returns-clause-step g c acyclic has =
     step_best (g.S.Find.history c.args.graph.now.source) c.args.bases.now c.args.head c.in_ok-left.left.items acyclic (c.in_ok-left.ensures.covers acyclic) (c.in_ok-left.ensures.best acyclic)
+
+pub returns-then-is_empty-clause-order : goal.returns-then-is_empty-clause-order
+returns-then-is_empty-clause-order g c = rw c.new.ensures.items (few_in_order (g.S.Find.history c.args.graph.now.source) [] (omega arith))
+
+pub returns-then-stands_in-clause-order : goal.returns-then-stands_in-clause-order
+returns-then-stands_in-clause-order g c =
+    let items : c.in_ok-alone.alone.items ≡ c.args.head ∷ [] = c.in_ok-alone.ensures.items_if_clones_equal (λ x y same. same) in
+    rw items (few_in_order (g.S.Find.history c.args.graph.now.source) (c.args.head ∷ []) (omega arith))

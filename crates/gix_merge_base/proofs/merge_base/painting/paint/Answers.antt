@@ -8,7 +8,7 @@ use Rattle.gix_merge_base.specs.PaintQueue.{marks_at, queued_ids, id_at, IsHeld}
 use Rattle.gix_merge_base.proofs.Numbered.{id-same}
 use Rattle.gix_merge_base.proofs.QueueKeys.{holds-before, held-same, kept-same}
 use Rattle.gix_merge_base.proofs.PaintBegins.{walk_begins}
-use Rattle.gix_merge_base.proofs.PaintWalk.{walk_pops, step_takes, pops_left, pops_bound, all_stale, pops_fit}
+use Rattle.gix_merge_base.proofs.PaintWalk.{walk_pops, step_takes, step_meets, pops_left, pops_bound, all_stale, pops_fit}
 use Rattle.gix_merge_base.proofs.PaintingEnds.{best_is_result, pops_enough}
 use Rattle.gix_merge_base.proofs.merge_base.painting.paint.Goals as goal
 
@@ -108,6 +108,9 @@ returns-clause-least g c acyclic xs distinct each =
 pub returns-clause-taken : goal.returns-clause-taken
 returns-clause-taken g c falls q k = c.loop-number.invariant.walk.taken falls q (sym (held-same c.loop-number.graph c.pop_open.new.graph c.pop_open.ensures.ids q) ∙ k)
 
+pub returns-clause-reached : goal.returns-clause-reached
+returns-clause-reached g c q k = c.loop-number.invariant.walk.met q (sym (held-same c.loop-number.graph c.pop_open.new.graph c.pop_open.ensures.ids q) ∙ k)
+
 pub returns-clause-held : goal.returns-clause-held
 returns-clause-held g c q k = kept-same c.loop-number.graph c.pop_open.new.graph c.pop_open.ensures.ids q (c.loop-number.invariant.kept q k)
 
@@ -133,6 +136,19 @@ returns-in-Err-step-clause-taken g c falls q held =
     step_takes h c.args.first c.args.others.now (IsHeld c.args.graph.now) (IsHeld c.loop-number.graph) (IsHeld c.step.new.graph) (marks_at c.loop-number.graph) id
     (queued_ids c.loop-number.graph c.loop-number.queue) (queued_ids c.pop_open.new.graph c.pop_open.new.queue) c.loop-number.results.items c.loop-number.pops c.loop-number.invariant.walk rest top
     (c.in-Some.ensures.some refl) holds falls q held
+
+pub returns-in-Err-step-clause-reached : goal.returns-in-Err-step-clause-reached
+returns-in-Err-step-clause-reached g c q held =
+    let h = g.S.Find.history c.args.graph.now.source in
+    let chain : g.S.Find.history c.pop_open.new.graph.source ≡ h = ap g.S.Find.history c.pop_open.ensures.source ∙ c.loop-number.invariant.history in
+    let k = place_in c.in-Some.number in
+    let id = id_at c.pop_open.new.graph k in
+    let is : id_at c.loop-number.graph k ≡ id = sym (id-same c.loop-number.graph c.pop_open.new.graph c.pop_open.ensures.ids k) in
+    let rest = subst (λ i. IsPermutation (queued_ids c.loop-number.graph c.loop-number.queue) (i ∷ queued_ids c.pop_open.new.graph c.pop_open.new.queue)) is c.in-Some.ensures.queue in
+    let holds_mid = rw chain at c.step.ensures.holds in
+    let holds = holds-before h (parents_in (entry_at h id)) c.loop-number.graph c.pop_open.new.graph c.step.new.graph c.pop_open.ensures.ids holds_mid in
+    step_meets h c.args.first c.args.others.now (IsHeld c.args.graph.now) (IsHeld c.loop-number.graph) (IsHeld c.step.new.graph) (marks_at c.loop-number.graph) id
+    (queued_ids c.loop-number.graph c.loop-number.queue) (queued_ids c.pop_open.new.graph c.pop_open.new.queue) c.loop-number.results.items c.loop-number.pops c.loop-number.invariant.walk rest holds q held
 
 pub returns-in-Err-step-clause-held : goal.returns-in-Err-step-clause-held
 returns-in-Err-step-clause-held g c q k = c.step.ensures.kept q (kept-same c.loop-number.graph c.pop_open.new.graph c.pop_open.ensures.ids q (c.loop-number.invariant.kept q k))
