@@ -73,13 +73,3 @@ fault_stands h s x xs held now has w next met (ParentsOf id) is until = inr (sub
 fault_stands h s x xs held now has w next met (MissingStart id) is until = tt
 fault_stands h s x xs held now has w next met CounterFull is until = tt
 fault_stands h s x xs held now has w next met OutOfMemory is until = tt
-
--- as the start is looked up
-pub fault_begins : (h : History) (s : ObjectId) (held : ObjectId → Option ℕ) → ((q : ObjectId) → held q ≡ None) → (e : Message) → IsHandRefused h s e → IsHeldAtFault h s e held
-fault_begins h s held none (ParentsOf id) is = inl (is, none)
-fault_begins h s held none (MissingStart id) is = tt
-fault_begins h s held none CounterFull is = tt
-fault_begins h s held none OutOfMemory is = tt
-
-pub fault_memory : (h : History) (s : ObjectId) (held : ObjectId → Option ℕ) (e : Message) → e ≡ OutOfMemory → IsHeldAtFault h s e held
-fault_memory h s held e is = subst (λ z. IsHeldAtFault h s z held) (sym is) tt
