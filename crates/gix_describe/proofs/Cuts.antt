@@ -58,7 +58,7 @@ module _ (h : History) (s : ObjectId) (names : Names) (zs ys more : List ObjectI
   x_out : ¬ In ys x
   x_out = open_out h s ys x last.next.0
 
-  stands : Stands zs (length ys + 1) x
+  pub stands : Stands zs (length ys + 1) x
   stands = (omega arith, (let a : length zs ≡ length upto + length more = ap length split ∙ length-append upto more in omega (arith, len, a)), at)
     where
       at : get_or zs ((length ys + 1) - 1) x ≡ x

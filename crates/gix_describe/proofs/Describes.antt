@@ -24,12 +24,12 @@ module _ (h : History) (s : ObjectId) (names : Names) (cap : ℕ) (fallback : Bo
   pub described_idle : (r : Option Description) → name_at names s ≡ None → nothing_to_find names cap ≡ true → r ≡ unnamed fallback 0 → IsDescribed h s names cap fallback r
   described_idle r absent idle is = rw (absent, idle) is
 
-  pub described_none : (r : Option Description) (seen pops : ℕ) → name_at names s ≡ None → nothing_to_find names cap ≡ false → IsFound h s names cap None seen pops → r ≡ unnamed fallback seen → IsDescribed h s names cap fallback r
-  described_none r seen pops absent busy f is = rw (absent, busy) (f.0, inl (f.1.0, seen, f.1.1, is))
+  pub described_none : (r : Option Description) (seen : ℕ) → name_at names s ≡ None → nothing_to_find names cap ≡ false → IsFound h s names cap None seen → r ≡ unnamed fallback seen → IsDescribed h s names cap fallback r
+  described_none r seen absent busy f is = rw (absent, busy) (f.0, inl (f.1.0, seen, f.1.1, is))
 
-  pub described_some : (r : Option Description) (p : ObjectId × ℕ) (seen pops : ℕ) → name_at names s ≡ None → nothing_to_find names cap ≡ false → IsFound h s names cap (Some p) seen pops → r ≡ option_map (λ name. named name p.1 seen) (name_at names p.0)
+  pub described_some : (r : Option Description) (p : ObjectId × ℕ) (seen : ℕ) → name_at names s ≡ None → nothing_to_find names cap ≡ false → IsFound h s names cap (Some p) seen → r ≡ option_map (λ name. named name p.1 seen) (name_at names p.0)
       → IsDescribed h s names cap fallback r
-  described_some r p seen pops absent busy f is = rw (absent, busy) (f.0, inr (p.0, f.1.0, p.1, seen, is ∙ ap (option_map (λ name. named name p.1 seen)) f.1.1, f.1.2))
+  described_some r p seen absent busy f is = rw (absent, busy) (f.0, inr (p.0, f.1.0, p.1, seen, is ∙ ap (option_map (λ name. named name p.1 seen)) f.1.1, f.1.2))
 
   pub refused_walk : (e : Message) → name_at names s ≡ None → nothing_to_find names cap ≡ false → IsWalkRefused h s e → IsRefused h s names cap e
   refused_walk (ParentsOf id) absent busy r = ((absent, ap not busy), r)

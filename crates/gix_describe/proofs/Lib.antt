@@ -30,4 +30,5 @@ pub mod Cuts
 pub mod CutEnds
 pub mod Tied
 pub mod WalkEnds
+pub mod Standing
 pub mod TiedLaws

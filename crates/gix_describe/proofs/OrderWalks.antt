@@ -16,9 +16,9 @@ use Rattle.gix_revwalk.specs.Walks.{parents_of_all}
 use Rattle.gix_revwalk.proofs.Ids.{same_id-true, same_id-itself}
 use Rattle.gix_revwalk.proofs.Members.{one_of-left, one_of-right, one_of-cases, one_of-single, one_of-head, one_of-tail, one_of-cons_cases, one_of-filter, one_of-filtered}
 use Rattle.gix_describe.specs.declared.describe.key.Key.{Key}
-use Rattle.gix_describe.specs.Order.{IsBefore, IsUnlisted, GoesOn, IsOrder, IsLate}
+use Rattle.gix_describe.specs.Order.{IsBefore, IsUnlisted, GoesOn, IsOrder, IsLate, IsLedTo}
 use Rattle.gix_describe.specs.Order.GoesOn.{ended, next}
-use Rattle.gix_describe.specs.Trace.{is_edge, is_open, has_mark, late_of, IsNext, IsWalk}
+use Rattle.gix_describe.specs.Trace.{is_edge, is_met, is_open, has_mark, late_of, IsNext, IsWalk}
 use Rattle.gix_describe.specs.Trace.IsWalk.{begins, goes}
 use Rattle.gix_describe.specs.Handing.{key_order, key_at}
 use Rattle.gix_describe.proofs.Early.{In, absent}
@@ -41,6 +41,19 @@ edge_any h [] p c m e = absurd (let f : false ≡ true = m in cc)
 edge_any h (x ∷ xs) p c m e = elim (one_of-cons_cases x xs p m) as (λ _. list_any (λ p. is_edge h p c) (x ∷ xs) ≡ true) [
   | inl is ↦ or_left _ _ (edge_is h x c (subst (λ z. IsEdge h z c) is e))
   | inr k ↦ or_right _ _ (edge_any h xs p c k e)
+]
+
+-- what is met is the start, or one of the popped leads to it
+pub met_led : (h : History) (s : ObjectId) (xs : List ObjectId) (c : ObjectId) → is_met h s xs c ≡ true → IsLedTo h s xs c
+met_led h s xs c m = elim (or_split (same_id s c) (list_any (λ p. is_edge h p c) xs) m) as (λ _. IsLedTo h s xs c) [
+  | inl e ↦ inl (sym (same_id-true s c e))
+  | inr r ↦ inr (any_edge h xs c r)
+]
+
+pub led_met : (h : History) (s : ObjectId) (xs : List ObjectId) (c : ObjectId) → IsLedTo h s xs c → is_met h s xs c ≡ true
+led_met h s xs c l = elim l as (λ _. is_met h s xs c ≡ true) [
+  | inl e ↦ or_left _ _ (ap (same_id s) e ∙ same_id-itself s)
+  | inr r ↦ or_right _ _ (edge_any h xs r.0 c r.1 r.2)
 ]
 
 pub unlisted_open : (h : History) (s : ObjectId) (xs : List ObjectId) (c : ObjectId) → IsUnlisted h xs c → Open h s xs c

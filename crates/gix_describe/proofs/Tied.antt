@@ -16,7 +16,8 @@ use Rattle.gix_base.specs.declared.hash.ObjectId.{ObjectId}
 use Rattle.gix_revwalk.specs.Graph.{Graphed, held_at}
 use Rattle.gix_revwalk.specs.History.{History, is_one_of, Has, same_id, IsEdge}
 use Rattle.gix_describe.specs.Described.{Names, IsNamed}
-use Rattle.gix_describe.specs.Order.{Reaches, IsLate, IsCandidate, IsFewest, IsPreferred, IsSettled, IsCut, IsTied, IsPast, HoldsFirst}
+use Rattle.gix_describe.specs.Order.{Reaches, IsLate, IsCandidate, IsFewest, IsPreferred, EndsAt, IsCut, IsTied, IsPast, IsLedTo, HoldsFirst}
+use Rattle.gix_describe.specs.Counted.{CountsNamed}
 use Rattle.gix_describe.specs.Choice.{rank_order, name_of, IsChosen}
 use Rattle.gix_describe.specs.Trace.{late_of, is_named, IsNext, IsWalk, is_edge, is_met}
 use Rattle.gix_describe.specs.WalkState.{IsCounted, IsHeld, IsEnded, IsFull, IsComplete, IsUnsettled, IsUnsettledBefore, SettlesLast}
@@ -27,7 +28,7 @@ use Rattle.gix_describe.proofs.Counts.{size_one}
 use Rattle.gix_describe.proofs.Traces.{Open, Marked, or_split, or_left, or_right}
 use Rattle.gix_describe.proofs.WalkQueue.{started}
 use Rattle.gix_describe.proofs.WalkEnds.{candidate_in, candidate_at, chosen_lowest}
-use Rattle.gix_describe.proofs.OrderWalks.{IsPrefix, walk_prefix, order_unique, late_there, late_final, any_edge, edge_any}
+use Rattle.gix_describe.proofs.OrderWalks.{IsPrefix, walk_prefix, order_unique, late_there, late_final, met_led, led_met}
 
 -- of equal counts the smaller name comes first, then the smaller id
 by_rank : (i j : ℕ) (m n a b : List ℕ) → i ≡ j → is_gt (rank_order (i, m, a) (j, n, b)) ≡ false → IsTrue (is_lt (slice_cmp nat_cmp m n)) ⊎ ((m ≡ n) × (IsTrue (is_lt (slice_cmp nat_cmp a b)) ⊎ (a ≡ b)))
@@ -121,8 +122,8 @@ module _ (h : History) (s : ObjectId) (names : Names) (popped cs : List ObjectId
         ],
       )
 
-  pub tied_by : (cap depth seen : ℕ) → IsCut h names prefix.order cap (length popped) → (IsSettled h names prefix.order (length popped) ⊎ (length popped ≡ length prefix.order) → seen ≡ length popped)
-      → (¬ (IsSettled h names prefix.order (length popped) ⊎ (length popped ≡ length prefix.order)) → IsPast h prefix.order t (length popped) seen)
+  pub tied_by : (cap depth seen : ℕ) → IsCut h names prefix.order cap (length popped) → (EndsAt h names prefix.order (length popped) → seen ≡ length popped)
+      → (¬ EndsAt h names prefix.order (length popped) → IsPast h prefix.order t (length popped) seen)
       → IsLate h prefix.order t (length prefix.order) depth → IsTied h s names cap t depth seen
   tied_by cap depth seen cut at past late = record {
     order = prefix.order;
@@ -143,15 +144,41 @@ module _ (h : History) (s : ObjectId) (names : Names) (popped cs : List ObjectId
       filled [] m = absurd (let f : false ≡ true = m in cc)
       filled (x ∷ xs) m = omega arith
 
+  ends_of : (cap : ℕ) → length cs ≤ cap → SettlesLast h s names popped ⊎ ((c : ObjectId) → ¬ Open h s popped c) → EndsAt h names prefix.order (length popped)
+  ends_of cap few stop = elim stop as (λ _. EndsAt h names prefix.order (length popped)) [
+    | inl l ↦ inl (settled_last h s names cap popped cs prefix.order prefix.rest has w are few prefix.splits prefix.goes_on some l)
+    | inr none ↦ inr (end_last h s names cap popped cs prefix.order prefix.rest has w are few prefix.splits prefix.goes_on some none)
+  ]
+
+  -- how many leave the queue, where the walk ends at the cut
+  pub counts_ended : (cap seen pops : ℕ) → length cs ≤ cap → IsUnsettledBefore h s names popped → SettlesLast h s names popped ⊎ ((c : ObjectId) → ¬ Open h s popped c) → pops ≡ seen → CountsNamed h s names cap seen pops
+  counts_ended cap seen pops few going stop is = record {
+    order = prefix.order;
+    order_is = prefix.order_is;
+    cut = length popped;
+    cut_is = cut_ended h s names cap popped cs prefix.order prefix.rest has w are few prefix.splits prefix.goes_on some going stop;
+    pops_is = inl (ends_of cap few stop, is);
+  }
+
+  -- and where the next one was given up
+  pub counts_full : (cap seen pops : ℕ) → length cs ≡ cap → IsUnsettled h s names popped → (x : ObjectId) → IsNext h s popped x → IsNamed names x → pops ≡ seen + 1 → CountsNamed h s names cap seen pops
+  counts_full cap seen pops full going x nx x_named is =
+      let first_in = some_in h s t popped w t_in.0 in
+      let few : length cs ≤ cap = omega arith in
+      record {
+        order = prefix.order;
+        order_is = prefix.order_is;
+        cut = length popped;
+        cut_is = cut_full h s names cap popped cs prefix.order prefix.rest has w are few prefix.splits prefix.goes_on some x nx x_named full first_in going;
+        pops_is = inr ((λ ends. past_full h s names cap popped cs prefix.order prefix.rest has w are few prefix.splits prefix.goes_on some x nx x_named full first_in going ends), is);
+      }
+
   -- where all that is left has the mark at the cut
   pub tied_ended : (cap seen : ℕ) → length cs ≤ cap → IsUnsettledBefore h s names popped → SettlesLast h s names popped ⊎ ((c : ObjectId) → ¬ Open h s popped c) → seen ≡ length popped
       → ((c : ObjectId) → Open h s popped c → Marked h t popped c) → IsTied h s names cap t (slice_index ns j) seen
   tied_ended cap seen few going stop seen_is left =
       tied_by cap (slice_index ns j) seen (cut_ended h s names cap popped cs prefix.order prefix.rest has w are few prefix.splits prefix.goes_on some going stop) (λ _. seen_is)
-      (λ no'. absurd (no' (elim stop as (λ _. IsSettled h names prefix.order (length popped) ⊎ (length popped ≡ length prefix.order)) [
-        | inl l ↦ inl (settled_last h s names cap popped cs prefix.order prefix.rest has w are few prefix.splits prefix.goes_on some l)
-        | inr none ↦ inr (end_last h s names cap popped cs prefix.order prefix.rest has w are few prefix.splits prefix.goes_on some none)
-      ])))
+      (λ no'. absurd (no' (ends_of cap few stop)))
       (subst (λ n. IsLate h prefix.order t (length prefix.order) n) (sym (count_at j is.0))
       (late_final h s t prefix.order popped prefix.rest has w t_in.0 (some_in h s t popped w t_in.0) prefix.splits prefix.goes_on left))
 
@@ -181,6 +208,15 @@ pub full_tied : {S A : Type 0} {held : ObjectId → Option ℕ} (h : History) (s
 full_tied {held = held} h s names cap w g f j is id id_is count seen e =
     subst (λ z. IsTied h s names cap z count seen) (sym id_is) (tied_complete h s names f.popped w.candidates.items w.counts.items f.has f.at.walk f.named f.counted j is cap count seen f.full f.going f.next f.next_is f.next_named (subst (λ n. IsComplete h s (get_or w.candidates.items j s) count seen n held) f.at.seen e))
 
+pub ended_counts : {S A : Type 0} (h : History) (s : ObjectId) (names : Names) (cap : ℕ) (w : Walk A) (g : Graphed S ℕ) (full : Bool) → full ≡ false → MatchBool full (IsFull h s names cap w g) (IsEnded h s names cap w g)
+    → (j : ℕ) → IsChosen names w.candidates.items w.counts.items j → (pops : ℕ) → pops ≡ w.seen → CountsNamed h s names cap w.seen pops
+ended_counts h s names cap w g true no' f j is pops pops_is = absurd (let k : true ≡ false = no' in cc)
+ended_counts h s names cap w g false e f j is pops pops_is = counts_ended h s names f.popped w.candidates.items w.counts.items f.has f.walk f.named f.counted j is cap w.seen pops f.few f.before f.stop pops_is
+
+pub full_counts : {S A : Type 0} (h : History) (s : ObjectId) (names : Names) (cap : ℕ) (w : Walk A) (g : Graphed S ℕ) → (f : IsFull h s names cap w g)
+    → (j : ℕ) → IsChosen names w.candidates.items w.counts.items j → (seen pops : ℕ) → pops ≡ seen + 1 → CountsNamed h s names cap seen pops
+full_counts h s names cap w g f j is seen pops pops_is = counts_full h s names f.popped w.candidates.items w.counts.items f.has f.at.walk f.named f.counted j is cap seen pops f.full f.going f.next f.next_is f.next_named pops_is
+
 -- ---- what is held
 pub holds_of : (h : History) (s : ObjectId) (popped : List ObjectId) (held : ObjectId → Option ℕ) (seen : ℕ) → Has h s → IsWalk h s popped → IsHeld h s popped held → seen ≡ length popped → HoldsFirst h s seen held
 holds_of h s popped held seen has w k seen_is =
@@ -196,14 +232,8 @@ holds_of h s popped held seen has w k seen_is =
       order = p.order;
       order_is = p.order_is;
       held_is = λ c. (
-        (λ m. elim (or_split (same_id s c) (list_any (λ q. is_edge h q c) k.ys) (sym (k.met c) ∙ m)) as (λ _. (c ≡ s) ⊎ ((q : ObjectId) × IsTrue (is_one_of (take (seen - 1) p.order) q) × IsEdge h q c)) [
-          | inl e ↦ inl (sym (same_id-true s c e))
-          | inr r ↦ let q = any_edge h k.ys c r in inr (q.0, ap (λ l. is_one_of l q.0) first ∙ q.1, q.2)
-        ]),
-        (λ d. k.met c ∙ elim d as (λ _. is_met h s k.ys c ≡ true) [
-          | inl e ↦ or_left _ _ (ap (same_id s) e ∙ same_id-itself s)
-          | inr r ↦ or_right _ _ (edge_any h k.ys r.0 c (ap (λ l. is_one_of l r.0) (sym first) ∙ r.1) r.2)
-        ]),
+        (λ m. subst (λ l. IsLedTo h s l c) (sym first) (met_led h s k.ys c (sym (k.met c) ∙ m))),
+        (λ l. k.met c ∙ led_met h s k.ys c (subst (λ l. IsLedTo h s l c) first l)),
       );
     }
 

@@ -1,5 +1,5 @@
 -- Which candidate is chosen, and what a walk finds.
-use Rattle.std.specs.Prelude.{◌≡◌, ℕ, ◌+◌, ◌<◌, ◌⊎◌, false, List, [], length, slice_index, get_or, Option, Some, None, MatchOption}
+use Rattle.std.specs.Prelude.{◌≡◌, ℕ, ◌<◌, false, List, [], length, slice_index, get_or, Option, Some, None, MatchOption}
 use Rattle.std.specs.Option.{unwrap_or}
 use Rattle.std.specs.Ordering.{nat_cmp, on, then_cmp, is_gt}
 use Rattle.std.specs.Cmp.Lexicographic.{slice_cmp}
@@ -34,10 +34,9 @@ IsChosen names candidates counts j =
     (j < length candidates) × ((d : ObjectId) (k : ℕ) → k < length candidates
     → is_gt (rank_order (rank_at names candidates counts d j) (rank_at names candidates counts d k)) ≡ false)
 
--- the named ancestor with its depth, or none; how many commits were seen, and how many were popped
-abbrev pub IsFound : History → ObjectId → Names → ℕ → Option (ObjectId × ℕ) → ℕ → ℕ → Type 0
-IsFound h s names cap best seen pops =
+-- the named ancestor with its depth, or none; and how many commits were seen
+abbrev pub IsFound : History → ObjectId → Names → ℕ → Option (ObjectId × ℕ) → ℕ → Type 0
+IsFound h s names cap best seen =
     Has h s × MatchOption best
-    (((c : ObjectId) → IsAncestor h s c → name_at names c ≡ None) × HasSize (IsAncestor h s) seen × (pops ≡ seen))
-    (λ p. (name : List ℕ) × (name_at names p.0 ≡ Some name) × IsNamedBy h s names cap p.0 name p.1 seen
-    × ((pops ≡ seen) ⊎ (pops ≡ seen + 1)))
+    (((c : ObjectId) → IsAncestor h s c → name_at names c ≡ None) × HasSize (IsAncestor h s) seen)
+    (λ p. (name : List ℕ) × (name_at names p.0 ≡ Some name) × IsNamedBy h s names cap p.0 name p.1 seen)

@@ -1,9 +1,9 @@
 -- The order in which a history is walked, and what a candidate has at a place of it.
-use Rattle.std.specs.Prelude.{◌≡◌, ℕ, ◌+◌, ◌-◌, ◌<◌, ◌≤◌, ◌⊎◌, List, [], ◌∷◌, cond, ◌++◌, ◌↔◌, length, take, get_or, Option, Some, is_some, IsTrue}
+use Rattle.std.specs.Prelude.{◌≡◌, ℕ, ◌+◌, ◌-◌, ◌<◌, ◌≤◌, ◌⊎◌, List, [], ◌∷◌, cond, ◌++◌, ◌↔◌, length, take, get_or, Option, Some, None, is_some, IsTrue}
 use Rattle.std.specs.Ordering.{nat_cmp, is_lt}
 use Rattle.std.specs.Cmp.Lexicographic.{slice_cmp}
 use Rattle.gix_base.specs.declared.hash.ObjectId.{ObjectId}
-use Rattle.gix_revwalk.specs.History.{History, entry_at, time_in, same_id, is_one_of, IsEdge}
+use Rattle.gix_revwalk.specs.History.{History, entry_at, time_in, parents_in, same_id, is_one_of, IsEdge}
 use Rattle.gix_revwalk.specs.Sizes.{HasSize, AtLeast}
 use Rattle.gix_describe.specs.Ahead.{IsPath, IsOlder}
 use Rattle.gix_describe.specs.Described.{Names, name_at, IsNamed}
@@ -74,6 +74,10 @@ IsFullAt names xs cap k = AtLeast cap (IsCandidate names xs k) × (c : ObjectId)
 abbrev pub Stops : History → Names → List ObjectId → ℕ → ℕ → Type 0
 Stops h names xs cap k = IsSettled h names xs k ⊎ IsFullAt names xs cap k ⊎ (k ≡ length xs)
 
+-- the walk needs no commit past place k: it has settled there, or k is the last place
+abbrev pub EndsAt : History → Names → List ObjectId → ℕ → Type 0
+EndsAt h names xs k = IsSettled h names xs k ⊎ (k ≡ length xs)
+
 -- the least place at which the walk stops
 abbrev pub IsCut : History → Names → List ObjectId → ℕ → ℕ → Type 0
 IsCut h names xs cap k = (1 ≤ k) × Stops h names xs cap k × ((j : ℕ) → 1 ≤ j → Stops h names xs cap j → k ≤ j)
@@ -101,11 +105,27 @@ pub record IsTied (h : History) (s : ObjectId) (names : Names) (cap : ℕ) (t : 
   pub fewest : IsFewest h names order cut t
   pub preferred : (u : ObjectId) → IsFewest h names order cut u → IsPreferred names t u
   pub depth_is : IsLate h order t (length order) depth
-  pub seen_at_cut : IsSettled h names order cut ⊎ (cut ≡ length order) → seen ≡ cut
-  pub seen_past : ¬ (IsSettled h names order cut ⊎ (cut ≡ length order)) → IsPast h order t cut seen
+  pub seen_at_cut : EndsAt h names order cut → seen ≡ cut
+  pub seen_past : ¬ EndsAt h names order cut → IsPast h order t cut seen
+
+-- c is s, or an edge leads to it from one of these
+abbrev pub IsLedTo : History → ObjectId → List ObjectId → ObjectId → Type 0
+IsLedTo h s xs c = (c ≡ s) ⊎ ((p : ObjectId) × IsTrue (is_one_of xs p) × IsEdge h p c)
 
 -- held are s and the targets of edges from the first seen - 1 places of the order
 pub record HoldsFirst (h : History) (s : ObjectId) (seen : ℕ) (held : ObjectId → Option ℕ) : Type 0 where
   pub order : List ObjectId
   pub order_is : IsOrder h s order
-  pub held_is : (c : ObjectId) → IsTrue (is_some (held c)) ↔ ((c ≡ s) ⊎ ((p : ObjectId) × IsTrue (is_one_of (take (seen - 1) order) p) × IsEdge h p c))
+  pub held_is : (c : ObjectId) → IsTrue (is_some (held c)) ↔ IsLedTo h s (take (seen - 1) order) c
+
+-- the walk stands at x, whose parents are met: held are s and the targets of edges from the places before x, and
+-- nothing else but targets of edges from x; and a parent of x is not held, or none is newly held
+pub record StandsAt (h : History) (s x : ObjectId) (held : ObjectId → Option ℕ) : Type 0 where
+  pub order : List ObjectId
+  pub order_is : IsOrder h s order
+  pub before : ℕ
+  pub x_is : Stands order (before + 1) x
+  pub kept : (c : ObjectId) → IsLedTo h s (take before order) c → IsTrue (is_some (held c))
+  pub new : (c : ObjectId) → IsTrue (is_some (held c)) → IsLedTo h s (take before order) c ⊎ IsEdge h x c
+  pub lacks : ((p : ObjectId) × IsTrue (is_one_of (parents_in (entry_at h x)) p) × (held p ≡ None))
+      ⊎ ((c : ObjectId) → IsTrue (is_some (held c)) → IsLedTo h s (take before order) c)

@@ -8,7 +8,7 @@ ghost use Rattle.gix_describe.specs.DescribeRefusals.{is_source_fault};
 ghost use Rattle.gix_describe.specs.Described.{name_at, named, nothing_to_find, unnamed};
 ghost use Rattle.gix_describe.specs.Outcomes.{names_of, names_in, cap_of, description_of, Describes, Keeps, Walks, Refuses};
 ghost use Rattle.gix_describe.specs.Counted.{CountsPops};
-ghost use Rattle.gix_describe.specs.Ties.{Holds, Ties};
+ghost use Rattle.gix_describe.specs.Ties.{Holds, HoldsAtFault, Ties};
 ghost use Rattle.gix_revwalk.specs.Graph.{held_at};
 
 use crate::describe::options::{Names, Options};
@@ -84,14 +84,17 @@ fn room(max_candidates: usize) -> usize
 
 /// What [`describe`] answers, and how many commits left the queue for it: 0 where no walk is made.
 ///
-/// Where the answer has a name the number is that of the commits seen or one more, since a commit that
-/// is given up for want of room leaves the queue again. Where no ancestor is named it is the number of
-/// ancestors.
+/// Where the answer has a name the number is that of the commits seen, and one more where the walk was cut
+/// since there was no room for one more name: the commit that was given up leaves the queue again. Where
+/// no ancestor is named it is the number of ancestors, with `fallback_to_oid` and without.
 ///
 /// # Errors
 ///
 /// [`Message::ParentsOf`] only where the source failed: its count of faults is then one more, unless
-/// it is full, and after every other answer it is as it was;
+/// it is full, and after every other answer it is as it was. It names the commit whose parents were
+/// wanted: the graph holds `commit`, the parents of all commits that were visited before that one, and
+/// nothing else but parents of it. Where `commit` itself could not be had it names `commit`, and the
+/// graph is empty;
 /// [`Message::MissingStart`] where the source lacks `commit` and the history has to be walked;
 /// [`Message::CounterFull`] only where more commits than the greatest `u32` are reachable;
 /// [`Message::OutOfMemory`] where there was no memory. The graph can be used again after each.
@@ -112,6 +115,8 @@ pub fn counted<'name, S: Find, A: Allocator + Copy>(
         (λ r. CountsPops (S.history graph.old.source) commit.now options.entry r.0 r.1) }
     ensures refused { IfErr result
         (Refuses (S.history graph.old.source) commit.now options.entry) }
+    ensures fault { IfErr result (λ e.
+        HoldsAtFault (S.history graph.old.source) commit.now options.entry e (held_at graph.new)) }
     ensures untouched { (¬ Walks commit.now options.entry) → graph.new ≡ graph.old }
     // Without a name to find no memory is taken.
     ensures no_walk { name_at (names_in options.entry) commit.now ≡ None
@@ -172,7 +177,10 @@ pub fn counted<'name, S: Find, A: Allocator + Copy>(
 /// # Errors
 ///
 /// [`Message::ParentsOf`] only where the source failed: its count of faults is then one more, unless
-/// it is full, and after every other answer it is as it was;
+/// it is full, and after every other answer it is as it was. It names the commit whose parents were
+/// wanted: the graph holds `commit`, the parents of all commits that were visited before that one, and
+/// nothing else but parents of it. Where `commit` itself could not be had it names `commit`, and the
+/// graph is empty;
 /// [`Message::MissingStart`] where the source lacks `commit` and the history has to be walked;
 /// [`Message::CounterFull`] only where more commits than the greatest `u32` are reachable;
 /// [`Message::OutOfMemory`] where there was no memory. The graph can be used again after each.
@@ -191,6 +199,8 @@ pub fn describe<'name, S: Find, A: Allocator + Copy>(
         (λ r. Holds (S.history graph.old.source) commit.now options.entry r (held_at graph.new)) }
     ensures refused { IfErr result
         (Refuses (S.history graph.old.source) commit.now options.entry) }
+    ensures fault { IfErr result (λ e.
+        HoldsAtFault (S.history graph.old.source) commit.now options.entry e (held_at graph.new)) }
     ensures untouched { (¬ Walks commit.now options.entry) → graph.new ≡ graph.old }
     // Without a name to find no memory is taken.
     ensures no_walk { name_at (names_in options.entry) commit.now ≡ None

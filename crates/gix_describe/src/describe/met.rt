@@ -1,6 +1,6 @@
 //! Commits that a walk meets, as the source has them.
 
-ghost use Rattle.std.specs.Prelude.{◌≡◌, ◌&&◌, IfOk, IfSome, OnOk, Some, None, is_some, cond, false, map};
+ghost use Rattle.std.specs.Prelude.{◌≡◌, ◌&&◌, IfOk, IfSome, OnErr, OnOk, Some, None, is_some, cond, false, map};
 ghost use Rattle.gix_revwalk.specs.Followed.{followed};
 ghost use Rattle.gix_revwalk.specs.Pasts.{link_id};
 ghost use Rattle.gix_revwalk.specs.History.{History, entry_at, parents_in, same_id};
@@ -133,6 +133,7 @@ fn ask_in<S: Find, A: Allocator + Copy>(
     ensures noted { OnOk result ((q : ObjectId) → noted_at graph.new q ≡ noted_at graph.old q) }
     ensures unnoted { IfOk result (λ found. IfSome found
         (λ _. (q : ObjectId) → held_at graph.old q ≡ None → noted_at graph.new q ≡ false)) }
+    ensures kept { OnErr result (graph.new.held ≡ graph.old.held) }
     ensures asked { Asks S.history S.fault_count
         (IsHandRefused (followed first_parent (S.history graph.old.source)) child)
         graph.old.source graph.new.source (refusal result) }
@@ -175,6 +176,7 @@ pub(crate) fn take_in<S: Find, A: Allocator + Copy>(
     ensures noted { OnOk result ((q : ObjectId) → noted_at graph.new q ≡ noted_at graph.old q) }
     ensures unnoted { IfOk result (λ found. IfSome found
         (λ _. (q : ObjectId) → held_at graph.old q ≡ None → noted_at graph.new q ≡ false)) }
+    ensures kept { OnErr result (graph.new.held ≡ graph.old.held) }
     ensures asked { Asks S.history S.fault_count
         (IsHandRefused (followed first_parent (S.history graph.old.source)) child)
         graph.old.source graph.new.source (refusal result) }

@@ -12,12 +12,14 @@ ghost use Rattle.std.specs.Ordering.{is_lt, is_gt};
 ghost use Rattle.gix_describe.specs.Asks.{Asks, IsHandRefused, IsWalkRefused};
 ghost use Rattle.gix_describe.specs.DescribeRefusals.{refusal};
 ghost use Rattle.gix_describe.specs.Choice.{rank_order, rank_at, name_of, IsChosen, IsFound};
+ghost use Rattle.gix_describe.specs.Counted.{CountsNamed};
 ghost use Rattle.gix_describe.specs.Described.{name_at};
 ghost use Rattle.gix_describe.specs.Handing.{bits};
 ghost use Rattle.gix_describe.specs.Lacking.{lacks, lacking_in};
 ghost use Rattle.gix_describe.specs.Numbered.{IsNumbered, KeepsNumbers};
 ghost use Rattle.gix_describe.specs.Order.{HoldsFirst, IsTied};
 ghost use Rattle.gix_describe.specs.Outcomes.{names_of};
+ghost use Rattle.gix_describe.specs.Ties.{IsHeldAtFault};
 
 use crate::describe::handing::{Hand, bit_of, count_late, hand_on, is_settled, mark, marks_of};
 use crate::describe::key::Key;
@@ -75,6 +77,8 @@ impl<A: Allocator + Copy> Walk<A> {
         requires empty { (q : ObjectId) → held_at graph.old q ≡ None }
         ensures begun { IfOk result (λ w. (names : List (ObjectId × List ℕ))
             → Rests (followed search.first_parent (S.history graph.old.source)) search.start names search.cap w graph.new) }
+        ensures fault { IfErr result (λ e. IsHeldAtFault (followed search.first_parent (S.history graph.old.source))
+            search.start e (held_at graph.new)) }
         ensures asked { Asks S.history S.fault_count
             (IsHandRefused (followed search.first_parent (S.history graph.old.source)) search.start)
             graph.old.source graph.new.source (refusal result) }
@@ -202,6 +206,8 @@ impl<A: Allocator + Copy> Walk<A> {
             (Rests (followed search.first_parent (S.history graph.old.source)) search.start
             (names_of names.now.entries) search.cap self.new graph.new)) }
         ensures seen { OnOk result (self.new.seen ≡ self.old.seen + 1) }
+        ensures fault { IfErr result (λ e. IsHeldAtFault (followed search.first_parent (S.history graph.old.source))
+            search.start e (held_at graph.new)) }
         ensures asked { Asks S.history S.fault_count
             (IsWalkRefused (followed search.first_parent (S.history graph.old.source)) search.start)
             graph.old.source graph.new.source (refusal result) }
@@ -252,6 +258,8 @@ impl<A: Allocator + Copy> Walk<A> {
             (names_of names.now.entries) search.cap self.new graph.new)
             (IsEnded (followed search.first_parent (S.history graph.old.source)) search.start
             (names_of names.now.entries) search.cap self.new graph.new)) }
+        ensures fault { IfErr result (λ e. IsHeldAtFault (followed search.first_parent (S.history graph.old.source))
+            search.start e (held_at graph.new)) }
         ensures asked { Asks S.history S.fault_count
             (IsWalkRefused (followed search.first_parent (S.history graph.old.source)) search.start)
             graph.old.source graph.new.source (refusal result) }
@@ -353,6 +361,8 @@ impl<A: Allocator + Copy> Walk<A> {
             → lacking.new ≡ lacking_in (Some place) (held_at graph.new) self.new.queue) }
         ensures seen { OnOk result (self.new.seen ≡ self.old.seen + 1) }
         ensures candidates { self.new.candidates ≡ self.old.candidates }
+        ensures fault { IfErr result (λ e. IsHeldAtFault (followed search.first_parent (S.history graph.old.source))
+            search.start e (held_at graph.new)) }
         ensures asked { Asks S.history S.fault_count
             (IsWalkRefused (followed search.first_parent (S.history graph.old.source)) search.start)
             graph.old.source graph.new.source (refusal result) }
@@ -400,6 +410,8 @@ impl<A: Allocator + Copy> Walk<A> {
             IsComplete (followed search.first_parent (S.history graph.old.source)) search.start
             (get_or self.old.candidates.items place search.start) depth self.new.seen self.old.seen
             (held_at graph.new)) }
+        ensures fault { IfErr result (λ e. IsHeldAtFault (followed search.first_parent (S.history graph.old.source))
+            search.start e (held_at graph.new)) }
         ensures asked { Asks S.history S.fault_count
             (IsWalkRefused (followed search.first_parent (S.history graph.old.source)) search.start)
             graph.old.source graph.new.source (refusal result) }
@@ -456,12 +468,17 @@ pub(crate) fn find_name<'name, S: Find, A: Allocator + Copy>(
     requires unnamed { name_at (names_of names.now.entries) search.start ≡ None }
     requires empty { (q : ObjectId) → held_at graph.old q ≡ None }
     ensures found { IfOk result (λ f. IsFound (followed search.first_parent (S.history graph.old.source)) search.start
-        (names_of names.now.entries) search.cap f.best f.seen f.pops) }
+        (names_of names.now.entries) search.cap f.best f.seen) }
     ensures tied { IfOk result (λ f. IfSome f.best (λ p. IsTied
         (followed search.first_parent (S.history graph.old.source)) search.start
         (names_of names.now.entries) search.cap p.0 p.1 f.seen)) }
     ensures held { IfOk result (λ f. HoldsFirst
         (followed search.first_parent (S.history graph.old.source)) search.start f.seen (held_at graph.new)) }
+    ensures pops { IfOk result (λ f. MatchOption f.best (f.pops ≡ f.seen) (λ _. CountsNamed
+        (followed search.first_parent (S.history graph.old.source)) search.start
+        (names_of names.now.entries) search.cap f.seen f.pops)) }
+    ensures fault { IfErr result (λ e. IsHeldAtFault (followed search.first_parent (S.history graph.old.source))
+        search.start e (held_at graph.new)) }
     ensures asked { Asks S.history S.fault_count
         (IsWalkRefused (followed search.first_parent (S.history graph.old.source)) search.start)
         graph.old.source graph.new.source (refusal result) }

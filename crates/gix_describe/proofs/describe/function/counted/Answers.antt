@@ -57,14 +57,15 @@ pub returns-in_default-clause-described : goal.returns-in_default-clause-describ
 returns-in_default-clause-described g c =
     let found = rw (c.in_default.is, c.clear.ensures.source) at c.in_ok-found.ensures.found in
     described_none (followed c.args.options.first_parent (g.S.Find.history c.args.graph.now.source)) c.args.commit.now (names_of c.args.options.name_by_oid.entries)
-    (min c.args.options.max_candidates 32) c.args.options.fallback_to_oid (option_map description_of c.without_name-answer.result) c.in_ok-found.found.seen c.in_ok-found.found.pops
+    (min c.args.options.max_candidates 32) c.args.options.fallback_to_oid (option_map description_of c.without_name-answer.result) c.in_ok-found.found.seen
     (unnamed_from c.args.options.name_by_oid.entries c.args.commit.now (sym c.contains_key.ensures ∙ c.if-contains_key.false)) (sym c.is_idle.ensures ∙ c.if-is_idle.false) found c.without_name-answer.ensures.answer
 
 pub returns-in_default-clause-pops : goal.returns-in_default-clause-pops
 returns-in_default-clause-pops g c =
     let found = rw (c.in_default.is, c.clear.ensures.source) at c.in_ok-found.ensures.found in
+    let counts = rw c.in_default.is at c.in_ok-found.ensures.pops in
     let w : Walks c.args.commit.now c.args.options = (unnamed_from c.args.options.name_by_oid.entries c.args.commit.now (sym c.contains_key.ensures ∙ c.if-contains_key.false), walks _ (sym c.is_idle.ensures) c.if-is_idle.false) in
-    pops_none (g.S.Find.history c.args.graph.now.source) c.args.commit.now c.args.options c.without_name-answer.result c.args.options.fallback_to_oid c.in_ok-found.found.seen c.in_ok-found.found.pops w found c.without_name-answer.ensures.answer
+    pops_none (g.S.Find.history c.args.graph.now.source) c.args.commit.now c.args.options c.without_name-answer.result c.args.options.fallback_to_oid c.in_ok-found.found.seen c.in_ok-found.found.pops w found counts c.without_name-answer.ensures.answer
 
 pub returns-in_default-clause-untouched : goal.returns-in_default-clause-untouched
 returns-in_default-clause-untouched g c = λ no. absurd (no (unnamed_from c.args.options.name_by_oid.entries c.args.commit.now (sym c.contains_key.ensures ∙ c.if-contains_key.false), walks _ (sym c.is_idle.ensures) c.if-is_idle.false))
@@ -73,14 +74,15 @@ pub returns-clause-described : goal.returns-clause-described
 returns-clause-described g c =
     let found = rw (c.in-Some.is, c.clear.ensures.source, c.room.ensures) at c.in_ok-found.ensures.found in
     described_some (followed c.args.options.first_parent (g.S.Find.history c.args.graph.now.source)) c.args.commit.now (names_of c.args.options.name_by_oid.entries)
-    (min c.args.options.max_candidates 32) c.args.options.fallback_to_oid (option_map description_of c.in_ok-named.named) (c.in-Some.id, c.in-Some.depth) c.in_ok-found.found.seen c.in_ok-found.found.pops
+    (min c.args.options.max_candidates 32) c.args.options.fallback_to_oid (option_map description_of c.in_ok-named.named) (c.in-Some.id, c.in-Some.depth) c.in_ok-found.found.seen
     (unnamed_from c.args.options.name_by_oid.entries c.args.commit.now (sym c.contains_key.ensures ∙ c.if-contains_key.false)) (sym c.is_idle.ensures ∙ c.if-is_idle.false) found c.in_ok-named.ensures.answer
 
 pub returns-clause-pops : goal.returns-clause-pops
 returns-clause-pops g c =
     let found = rw (c.in-Some.is, c.clear.ensures.source, c.room.ensures) at c.in_ok-found.ensures.found in
+    let counts = rw (c.in-Some.is, c.clear.ensures.source, c.room.ensures) at c.in_ok-found.ensures.pops in
     let w : Walks c.args.commit.now c.args.options = (unnamed_from c.args.options.name_by_oid.entries c.args.commit.now (sym c.contains_key.ensures ∙ c.if-contains_key.false), walks _ (sym c.is_idle.ensures) c.if-is_idle.false) in
-    pops_some (g.S.Find.history c.args.graph.now.source) c.args.commit.now c.args.options c.in_ok-named.named (c.in-Some.id, c.in-Some.depth) c.in_ok-found.found.seen c.in_ok-found.found.pops w found c.in_ok-named.ensures.answer
+    pops_some (g.S.Find.history c.args.graph.now.source) c.args.commit.now c.args.options c.in_ok-named.named (c.in-Some.id, c.in-Some.depth) c.in_ok-found.found.seen c.in_ok-found.found.pops w found counts c.in_ok-named.ensures.answer
 
 pub returns-clause-untouched : goal.returns-clause-untouched
 returns-clause-untouched g c = λ no. absurd (no (unnamed_from c.args.options.name_by_oid.entries c.args.commit.now (sym c.contains_key.ensures ∙ c.if-contains_key.false), walks _ (sym c.is_idle.ensures) c.if-is_idle.false))
@@ -126,3 +128,8 @@ returns-clause-held g c = λ w.
     let held = rw c.clear.ensures.source at c.in_ok-found.ensures.held in
     held_some (followed c.args.options.first_parent (g.S.Find.history c.args.graph.now.source)) c.args.commit.now (names_of c.args.options.name_by_oid.entries) (held_at c.find_name.new.graph)
     c.in_ok-found.found.seen c.in-Some.depth c.in-Some.id (option_map description_of c.in_ok-named.named) c.in_ok-named.ensures.answer held
+
+pub returns-in_err-found-clause-fault : goal.returns-in_err-found-clause-fault
+returns-in_err-found-clause-fault g c =
+    let fault = rw c.clear.ensures.source at c.in_err-found.ensures.fault in
+    rw (err_came c.from_residual-in_err-found.result _ c.from_residual-in_err-found.ensures.1) fault

@@ -40,3 +40,6 @@ returns-in_err-answer-clause-history g c = c.counted.ensures.history
 
 pub returns-in_err-answer-clause-count : goal.returns-in_err-answer-clause-count
 returns-in_err-answer-clause-count g c = rw (err_came c.from_residual.result _ c.from_residual.ensures.1) c.in_err-answer.ensures.count
+
+pub returns-in_err-answer-clause-fault : goal.returns-in_err-answer-clause-fault
+returns-in_err-answer-clause-fault g c = rw (err_came c.from_residual.result _ c.from_residual.ensures.1) c.in_err-answer.ensures.fault

@@ -2,7 +2,7 @@ use Rattle.std.proofs.Common.{refl, Some, None, ◌≡◌, ◌≤◌, ◌<◌, �
 use Rattle.gix_revwalk.specs.History.{History, is_one_of}
 use Rattle.gix_revwalk.specs.Followed.{followed}
 use Rattle.gix_describe.proofs.WalkSteps.{bounded}
-use Rattle.gix_describe.proofs.Asked.{asks_nothing, asks_on, refusal_came}
+use Rattle.gix_describe.proofs.Asked.{asks_nothing, asks_on, err_came, refusal_came}
 use Rattle.gix_describe.proofs.WalkEnds.{taken_of, completes_ended}
 use Rattle.gix_revwalk.specs.Graph.{held_at}
 use Rattle.gix_describe.proofs.Lacking.{lacking_popped, lacking_unnoted}
@@ -75,3 +75,8 @@ pub returns-clause-complete : goal.returns-clause-complete
 returns-clause-complete g c =
     rw (← c.loop-met.invariant.candidates) (completes_ended (followed c.args.search.first_parent (g.S.Find.history c.args.graph.now.source)) c.args.search.start c.args.place c.loop-met.depth c.args.self.now.seen c.loop-met.self c.loop-met.graph c.loop-met.invariant.completes
     (c.in_default.ensures.none refl) c.next.new.self.seen c.next.ensures.seen)
+
+pub returns-in_err-counted-clause-fault : goal.returns-in_err-counted-clause-fault
+returns-in_err-counted-clause-fault g c =
+    let fault = rw c.loop-met.invariant.asked.same_history at c.in_err-counted.ensures.fault in
+    rw (err_came c.from_residual.result _ c.from_residual.ensures.1) fault

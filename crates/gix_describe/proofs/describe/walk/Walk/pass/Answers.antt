@@ -11,8 +11,9 @@ use Rattle.gix_describe.specs.Outcomes.{names_of}
 use Rattle.gix_describe.specs.Handing.{bits, IsLowest}
 use Rattle.gix_describe.proofs.WalkSteps.{counted_more, marked_more_by, queue_more, goes_more, hand_refused, next_there, met_there, many, left_marked, late_le, queue_none, bit_true, no_length, some_length, split_push, settled_at, are_settled, zero_from, none_left, queue_some}
 use Rattle.gix_describe.proofs.describe.walk.Walk.pass.Goals.{else-is_empty-via-then-is_empty+then-not-is_empty+else-is_settled, else-is_empty-via-then-is_empty+else-not-is_empty, else-is_empty-via-else-is_empty}
-use Rattle.gix_describe.proofs.Asked.{asks_more, asks_answered, refusal_came}
+use Rattle.gix_describe.proofs.Asked.{asks_more, asks_answered, err_came, refusal_came}
 use Rattle.gix_describe.proofs.Lacking.{noted_more}
+use Rattle.gix_describe.proofs.Standing.{fault_stands}
 use Rattle.gix_describe.proofs.describe.walk.Walk.pass.Goals as goal
 
 pub returns-then-self-clause-asked : goal.returns-then-self-clause-asked
@@ -149,3 +150,10 @@ pub hand_on-requires-clause-known : goal.hand_on-requires-clause-known
 hand_on-requires-clause-known g c = λ q held.
     let a = c.requires.admitted in
     met_there (followed c.args.search.first_parent (g.S.Find.history c.args.graph.now.source)) c.args.search.start a.popped q a.at.has (sym (a.at.marked.met q) ∙ held)
+
+pub returns-in_err-hand_on-clause-fault : goal.returns-in_err-hand_on-clause-fault
+returns-in_err-hand_on-clause-fault g c =
+    let a = c.requires.admitted in
+    let h = followed c.args.search.first_parent (g.S.Find.history c.args.graph.now.source) in
+    rw (err_came c.from_residual.result _ c.from_residual.ensures.1) (fault_stands h c.args.search.start c.args.met.now.id a.popped (held_at c.args.graph.now) (held_at c.hand_on.new.graph) a.at.has a.at.walk a.next a.at.marked.met
+    c.in_err-hand_on.field-0.0 c.in_err-hand_on.ensures.asked.cause c.in_err-hand_on.ensures.fault)

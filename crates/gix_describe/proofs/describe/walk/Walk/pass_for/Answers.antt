@@ -13,7 +13,8 @@ use Rattle.gix_describe.specs.Handing.{bits, queued_ids}
 use Rattle.gix_describe.specs.Lacking.{lacking_in}
 use Rattle.gix_describe.proofs.Lacking.{all_have, counts_taken, has_bit, none_lacks, noted_more}
 use Rattle.gix_revwalk.specs.Noted.{noted_at}
-use Rattle.gix_describe.proofs.Asked.{asks_more, asks_answered, refusal_came}
+use Rattle.gix_describe.proofs.Asked.{asks_more, asks_answered, err_came, refusal_came}
+use Rattle.gix_describe.proofs.Standing.{fault_stands}
 use Rattle.gix_describe.proofs.describe.walk.Walk.pass_for.Goals as goal
 
 pub returns-then-self-clause-asked : goal.returns-then-self-clause-asked
@@ -132,3 +133,10 @@ returns-clause-lacking g c = λ _.
     let less : c.saturating_sub.result ≡ c.args.lacking.now - (1 - c.bit_of-late.result) = c.saturating_sub.ensures in
     let is : c.saturating_sub.result ≡ lacking_in (Some c.args.place) (held_at c.args.graph.now) w.queue = omega (arith, late, had, less) in
     (c.in_ok-hand_on.ensures.counts (counts_taken h s a.popped w.candidates.items x (Some c.args.place) (held_at c.args.graph.now) (noted_at c.args.graph.now) w.queue c.saturating_sub.result a.at.queue a.at.marked a.at.noted is)).count
+
+pub returns-in_err-hand_on-clause-fault : goal.returns-in_err-hand_on-clause-fault
+returns-in_err-hand_on-clause-fault g c =
+    let a = c.requires.taken.1 in
+    let h = followed c.args.search.first_parent (g.S.Find.history c.args.graph.now.source) in
+    rw (err_came c.from_residual.result _ c.from_residual.ensures.1) (fault_stands h c.args.search.start c.args.met.now.id a.popped (held_at c.args.graph.now) (held_at c.hand_on.new.graph) a.at.has a.at.walk a.next a.at.marked.met
+    c.in_err-hand_on.field-0.0 c.in_err-hand_on.ensures.asked.cause c.in_err-hand_on.ensures.fault)

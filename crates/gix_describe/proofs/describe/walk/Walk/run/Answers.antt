@@ -3,7 +3,7 @@ use Rattle.gix_revwalk.specs.History.{History}
 use Rattle.gix_revwalk.specs.Followed.{followed}
 use Rattle.gix_describe.specs.Outcomes.{names_of}
 use Rattle.gix_describe.proofs.WalkSteps.{bounded}
-use Rattle.gix_describe.proofs.Asked.{asks_on, refusal_came}
+use Rattle.gix_describe.proofs.Asked.{asks_on, err_came, refusal_came}
 use Rattle.gix_describe.proofs.WalkEnds.{rests_ended, takes_of}
 use Rattle.gix_describe.proofs.describe.walk.Walk.run.Goals as goal
 
@@ -44,3 +44,8 @@ pub returns-clause-ended : goal.returns-clause-ended
 returns-clause-ended g c =
     rests_ended (followed c.args.search.first_parent (g.S.Find.history c.args.graph.now.source)) c.args.search.start (names_of c.args.names.now.entries) c.args.search.cap c.loop-next.self c.next.new.self c.loop-next.graph c.loop-next.invariant.rests
     (c.in_default.ensures.none refl) (ap (λ v. v.items) c.next.ensures.candidates) (ap (λ v. v.items) c.next.ensures.counts) c.next.ensures.seen
+
+pub returns-in_err-settled-clause-fault : goal.returns-in_err-settled-clause-fault
+returns-in_err-settled-clause-fault g c =
+    let fault = rw (c.admit.ensures.source, c.loop-next.invariant.asked.same_history) at c.in_err-settled.ensures.fault in
+    rw (err_came c.from_residual-in_err-settled.result _ c.from_residual-in_err-settled.ensures.1) fault
