@@ -1,5 +1,5 @@
 -- A text without names that could be digits has the same runs in both orders.
-use Rattle.std.proofs.Common.{◌≡◌, ℕ, ◌==◌, List, [], ◌∷◌, length, Option, Some, None, Bool, true, false, if◌then◌else◌, Result, Err, refl, sym, ap, ◌∙◌}
+use Rattle.std.proofs.Common.{◌≡◌, ℕ, ◌==◌, List, [], ◌∷◌, length, Option, Some, None, Bool, true, false, Err, refl, sym, ap, ◌∙◌}
 use Rattle.std.specs.Cmp.Lexicographic.{slice_cmp}
 use Rattle.std.specs.BTreeMap.{get_by}
 use Rattle.std.specs.List.{AllByRecursion, list_all}
@@ -25,9 +25,8 @@ use Rattle.gix_revision.specs.Types.Fault.{Fault}
 use Rattle.gix_revision.specs.Types.Fault.TheVariants.{ReflogWithoutName, SiblingWithoutName, AtRefused, DoneRefusedInNavigation}
 use Rattle.gix_resolve.specs.Resolved.{Way, IsStepBy, asked_as, asks_source, digits_first}
 use Rattle.gix_resolve.specs.RevLaws.{IsPlain, IsSameDemand, OrdersAgree}
-use Rattle.gix_resolve.specs.RevParse.{by_attempt, by_digits, by_rev_target, commit_for, digits_in, is_whole_id, names_first, or_else}
-use Rattle.gix_resolve.specs.Steps.{at_found, by_name, by_target}
-use Rattle.gix_resolve.specs.declared.refusal.Refusal.{Refusal}
+use Rattle.gix_resolve.specs.RevParse.{by_attempt, digits_in, is_whole_id, names_first, or_else}
+use Rattle.gix_resolve.specs.Steps.{at_found}
 use Rattle.gix_resolve.specs.declared.refusal.Refusal.TheVariants.{NoName}
 use Rattle.gix_resolve.specs.declared.state.State.{State}
 use Rattle.gix_resolve.specs.declared.table.Table.{Table}

@@ -1,5 +1,5 @@
 -- From the resolver of digits first to the one of names first.
-use Rattle.std.proofs.Common.{◌≡◌, inl, inr, ℕ, IsTrue, true, refl, sym, ap, subst, ◌∙◌}
+use Rattle.std.proofs.Common.{◌≡◌, inl, inr, ℕ, sym, ap, subst, ◌∙◌}
 use Rattle.gix_revision.specs.Answer.{Answer, accepted, refused, no_memory}
 use Rattle.gix_revision.specs.Call.{Call}
 use Rattle.gix_revision.specs.History.{History}

@@ -3,7 +3,6 @@ use Rattle.std.proofs.Common.{◌≡◌, inl, inr, ◌||◌, ℕ, List, [], ◌�
 use Rattle.gix_revision.specs.Call as calls
 use Rattle.gix_revision.specs.Call.{Target}
 use Rattle.gix_revision.specs.Context.{Context, start}
-use Rattle.gix_revision.specs.History.{History}
 use Rattle.gix_revision.specs.Pieces.{Piece, exclude, regex, index, head, name, branch, reflog, sibling, date, unescaped, step, peel, path, closer, without_parent, range, finish, finished, fault}
 use Rattle.gix_revision.specs.Reading.{pieces_of}
 use Rattle.gix_revision.specs.Run.{IsRun, goes_on, turns, runs_out, has_room, has_none, without_memory, short_of_memory}
@@ -17,7 +16,6 @@ use Rattle.gix_revision.specs.Types.Spec.{Spec}
 use Rattle.gix_revision.specs.Types.Time.{Time}
 use Rattle.gix_resolve.specs.Resolved.{Way, IsStepOrFaultBy, Ends, asked_as, asks_source, may_want_memory_by}
 use Rattle.gix_resolve.specs.declared.state.State.{State}
-use Rattle.gix_resolve.specs.declared.table.Table.{Table}
 
 module _ (demand : Target → Target) where
   -- no way through the tree asks the source or takes memory
