@@ -21,6 +21,15 @@ export GIT_AUTHOR_NAME=a GIT_AUTHOR_EMAIL=a@example.org GIT_COMMITTER_NAME=a GIT
 repository=$room/repository
 declare -a ids=()
 
+# For awk: numbers that a seed, `state`, fixes, and one of some words.
+# shellcheck disable=SC2016,SC2034
+numbers='
+    function drawn(below) {
+        state = (state * 69069 + 12345) % 4294967296
+        return int(state / 65536) % below
+    }
+    function one_of(words,   parts) { return parts[drawn(split(words, parts, "|")) + 1] }'
+
 # An empty repository, in which `make` makes commits.
 begin() {
     git init -q "$repository"

@@ -1,12 +1,17 @@
 pub mod Rounds
+pub mod Near
+pub mod Beginnings
 pub mod Completed
+pub mod IdMarks
 pub mod Answered
 pub mod TellsFaults
 pub mod LastCall
 pub mod Frugal
 pub mod Resolves
 pub mod AnOutcome
+pub mod ByNames
 pub mod OneOutcome
+pub mod BothOrders
 pub mod ListWalks
 pub mod ListMarks
 pub mod ListAfter

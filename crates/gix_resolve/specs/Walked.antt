@@ -10,7 +10,7 @@ use Rattle.gix_revision.specs.Tree.{fine}
 use Rattle.gix_revision.specs.Types.Error.{Error}
 use Rattle.gix_revision.specs.Types.Spec.{Spec}
 use Rattle.gix_revision.specs.Types.Time.{Time}
-use Rattle.gix_resolve.specs.Resolved.{IsStepOrFault, asks_source, goes_unanswered}
+use Rattle.gix_resolve.specs.Resolved.{Way, IsStepOrFaultBy, asked_as, asks_source, digits_first, goes_unanswered}
 use Rattle.gix_resolve.specs.Steps.{start}
 use Rattle.gix_resolve.specs.Taken.{TakesOnly, IsOnCall, HoldsBoth, LacksOne, IsAskedAt}
 use Rattle.gix_resolve.specs.declared.state.State.{State}
@@ -19,15 +19,19 @@ use Rattle.gix_resolve.specs.declared.table.Table.{Table}
 -- A step over a source that may fail, with the graph before and after it: what was held is held, and what is newly held
 -- lies on the call. Where a call that asks the source is accepted, the revision from which it goes and the one to which
 -- it comes are held. Where the source did not answer, some commit that the call asks for is not held.
-pub record Walks {S T A : Type 0} (t : Table A) (h : History) (s : State × Graphed S T) (c : Call) (a : Answer) (u : State × Graphed S T) : Type 0 where
-  pub step : IsStepOrFault t h s.0 c a u.0
+pub record WalksBy {S T : Type 0} (w : Way) (h : History) (s : State × Graphed S T) (c : Call) (a : Answer) (u : State × Graphed S T) : Type 0 where
+  pub step : IsStepOrFaultBy w s.0 c a u.0
   pub held : KeepsHeld s.1 u.1
-  pub taken : TakesOnly (IsOnCall h s.0.current c) s.1 u.1
-  pub there : a ≡ accepted → IsTrue (asks_source c) → HoldsBoth s.0.current u.0.current u.1
-  pub lacks : IsTrue (goes_unanswered a) → LacksOne (IsAskedAt h s.0.current c) u.1
+  pub taken : TakesOnly (IsOnCall h s.0.current (asked_as w.demand c)) s.1 u.1
+  pub there : a ≡ accepted → IsTrue (asks_source (asked_as w.demand c)) → HoldsBoth s.0.current u.0.current u.1
+  pub lacks : IsTrue (goes_unanswered a) → LacksOne (IsAskedAt h s.0.current (asked_as w.demand c)) u.1
 
 -- the answer is the outcome of a run of such steps, from the graph before the text to the one after it, and its spec
+abbrev pub WalkedBy : {S T : Type 0} → Way → History → (text : List ℕ) → Time → Graphed S T → Result Spec Error → Graphed S T → Type 0
+WalkedBy w h text now m (Ok spec) n =
+    (u : State) × IsRun (WalksBy w h) (start, m) (meaning_of text now) (u, n) (ended fine) × (u.spec ≡ Some spec)
+WalkedBy w h text now m (Err e) n = (u : State) × Fails (WalksBy w h) (start, m) (meaning_of text now) (u, n) e
+
+-- the same by the steps of `resolve`
 abbrev pub WalkedTo : {S T A : Type 0} → (text : List ℕ) → Time → Table A → History → Graphed S T → Result Spec Error → Graphed S T → Type 0
-WalkedTo text now t h m (Ok spec) n =
-    (u : State) × IsRun (Walks t h) (start, m) (meaning_of text now) (u, n) (ended fine) × (u.spec ≡ Some spec)
-WalkedTo text now t h m (Err e) n = (u : State) × Fails (Walks t h) (start, m) (meaning_of text now) (u, n) e
+WalkedTo text now t h m r n = WalkedBy (digits_first t h) h text now m r n

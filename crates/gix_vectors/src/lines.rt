@@ -34,6 +34,10 @@ parse prefix([2]); done|
 ref [4] HEAD|spec HEAD^2|spec 5555|ref [9] a b|spec a b|base [4] [5]|spec @...5555| => 0 \
 spec [3]|spec [5]|spec [9]|base [2] [3]|spec [4]...[5]|
 spec HEAD|spec|spec | => 1 spec refused P12|spec refused P5|spec refused P5|
+ref [4] 2222-x|spec 2222-x|rev-parse 2222-x|rev-parse 2222|rev-parse 1-g2222^{}..2222-x| => 0 \
+spec [2]|rev-parse [4]|rev-parse [2]|rev-parse [2]..[4]|
+rev-parse HEAD|rev-parse|rev-parse |rev-parse 2222^{tree}| => 1 \
+rev-parse refused P12|rev-parse refused P5|rev-parse refused P5|rev-parse refused P25|
 ref [4] HEAD|ref [5] HEAD| => 2 line 7 is unreadable|
 ref [4] HEAD|ref [4] head|name [4] HEAD|spec HEAD^!| => 0 spec [4]^!|
 base [4] [5]|commit [9] x -| => 2 line 7 is unreadable|";
@@ -324,19 +328,20 @@ fn nothing_is_written_after_a_write_that_failed(rt: HostRuntime) -> Result<(), F
 /// All commands after the criss-cross, and a text that takes memory of its own, as the rows above.
 const COMMANDS: &str =
     "name [1] v|ref [4] HEAD|base [4] [5]|octopus [4] [5]|parse [1]..[2]|describe [2]|base [4]|parse|octopus [5] [4]|\
-describe [2]|parse a^{/\\{}^{/\\}}|base [4] [5]|spec HEAD~2|list HEAD^!|list HEAD^@|list ^HEAD| => 0 \
+describe [2]|parse a^{/\\{}^{/\\}}|base [4] [5]|spec HEAD~2|rev-parse HEAD^2^{}|list HEAD^!|list HEAD^@|list ^HEAD| => 0 \
 base [2] [3]|octopus [2]|parse prefix([1]); kind(RangeBetween); prefix([2]); done|describe v-1-g2222222|base [4]|\
-parse done|octopus [2]|describe v-1-g2222222|parse find_ref(a); find({); find(}); done|base [2] [3]|spec [1]|list [4]|\
+parse done|octopus [2]|describe v-1-g2222222|parse find_ref(a); find({); find(}); done|base [2] [3]|spec [1]|rev-parse [3]|list [4]|\
 list [1] [2] [3]|list none|";
 
 /// Whether a line is this row, or says in its place that memory was wanting: after the word alone, or of a
 /// text after some of its calls.
 fn is_row_or_refusal(line: &[u8], row: &[u8]) -> bool {
-    let words: [(&[u8], &[u8]); 6] = [
+    let words: [(&[u8], &[u8]); 7] = [
         (b"base ", b"refused M2"),
         (b"octopus ", b"refused M2"),
         (b"describe ", b"refused D4"),
         (b"spec ", b"refused P0"),
+        (b"rev-parse ", b"refused P0"),
         (b"list ", b"refused P0"),
         (b"list ", b"refused E2"),
     ];

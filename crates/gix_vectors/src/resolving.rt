@@ -2,7 +2,7 @@
 
 use crate::faults::{Answered, Asks, refusals};
 use crate::histories::{CRISS_CROSS, Row, id, written_out};
-use gix_resolve::{Table, resolve};
+use gix_resolve::{Table, resolve, rev_parse};
 use gix_revision::date::Time;
 use gix_revision::error::Exn;
 use gix_revision::graph::{Commit, Find, Graph};
@@ -19,10 +19,20 @@ const NOW: Time = Time {
     offset: 0,
 };
 
-/// A history, names and the digits of their ids, ids of the table beside those of the history, and rows.
-/// A row is a text and what it is resolved to: a spec, or the number of a refusal, the part of the text
-/// that it names in round brackets, and what the resolver said.
+/// What is tried first on a name that could be digits of an id.
+#[derive(Clone, Copy)]
+enum Order {
+    /// The digits: `resolve`.
+    DigitsFirst,
+    /// The name: `rev_parse`.
+    NamesFirst,
+}
+
+/// The order, a history, names and the digits of their ids, ids of the table beside those of the history,
+/// and rows. A row is a text and what it is resolved to: a spec, or the number of a refusal, the part of
+/// the text that it names in round brackets, and what the resolver said.
 struct Case {
+    order: Order,
     history: &'static [Row<'static>],
     names: &'static [(&'static str, u8)],
     more_ids: &'static [ObjectId],
@@ -30,6 +40,7 @@ struct Case {
 }
 
 static CROSSED: Case = Case {
+    order: Order::DigitsFirst,
     history: &CRISS_CROSS,
     names: &[("HEAD", 4), ("main", 5), ("gone", 9)],
     more_ids: &[],
@@ -87,6 +98,7 @@ main@{u} => P20 (u) not supported here
 
 /// A second id begins as the first does.
 static AMBIGUOUS: Case = Case {
+    order: Order::DigitsFirst,
     history: &CRISS_CROSS,
     names: &[("HEAD", 4), ("main", 5)],
     more_ids: &[ObjectId([
@@ -102,6 +114,7 @@ main..4444 => P12 (4444) prefix is ambiguous; no such name
 
 /// Rounds of one, two and three commits, and one commit before a round.
 static ROUNDS: Case = Case {
+    order: Order::DigitsFirst,
     history: &[
         Row(1, 1, None, &[1]),
         Row(2, 1, None, &[3]),
@@ -124,10 +137,113 @@ static ROUNDS: Case = Case {
 ",
 };
 
+/// Names that could be digits: of an id, of another one or of none, of two ids.
+static NAMES_FIRST: Case = Case {
+    order: Order::NamesFirst,
+    history: &CRISS_CROSS,
+    names: &[
+        ("HEAD", 4),
+        ("main", 5),
+        ("gone", 9),
+        ("2222", 5),
+        ("222", 4),
+        ("[3]", 5),
+        ("[6]", 5),
+        ("1111-login", 5),
+        ("v1-2-g2222", 4),
+        ("x-g4444-more", 1),
+        ("AbCd", 4),
+        ("dead", 1),
+        ("topic-g", 3),
+        ("caf#", 2),
+    ],
+    more_ids: &[
+        ObjectId([
+            0xab, 0xcd, 0, 0, 0, 0, 0, 0, 0, 0, 0, 0, 0, 0, 0, 0, 0, 0, 0, 0,
+        ]),
+        ObjectId([
+            0x55, 0x55, 0, 0, 0, 0, 0, 0, 0, 0, 0, 0, 0, 0, 0, 0, 0, 0, 0, 0,
+        ]),
+    ],
+    rows: "\
+@ => [4]
+main => [5]
+2222 => [5]
+22222 => [2]
+222 => [4]
+[2] => [2]
+[3] => [3]
+3333 => [3]
+333 => P12 (333) no such name
+[6] => P12 ([6]) a name comes first; no object with this prefix
+[6]6 => P12 ([6]6) no such name
+6666 => P12 (6666) a name comes first; no object with this prefix
+5555 => P12 (5555) a name comes first; prefix is ambiguous
+55555 => [5]
+1111-login => [5]
+4444-login => P12 (4444-login) a name comes first; no such name
+v1-2-g2222 => [4]
+v1-3-g2222 => [2]
+v1-3-g222 => P12 (v1-3-g222) no such name
+v1-3-g5555 => P12 (v1-3-g5555) a name comes first; prefix is ambiguous
+v1-3-g6666 => P12 (v1-3-g6666) a name comes first; no object with this prefix
+v1-3-g[2] => [2]
+v1-3-g[2]2 => P12 (v1-3-g[2]2) no such name
+v1-g3333-g2222 => [2]
+any-g2222 => [2]
+-g2222 => P12 (-g2222) no such name
+x-g4444-more => [1]
+y-g4444-more => P12 (y-g4444-more) a name comes first; no such name
+AbCd => [4]
+ABCD => abcd000000000000000000000000000000000000
+v1-3-gAbCd => abcd000000000000000000000000000000000000
+dead => [1]
+DEAD => P12 (DEAD) a name comes first; no object with this prefix
+topic-g => [3]
+topic-g2222 => [2]
+caf# => [2]
+caf#-1-g2222 => [2]
+#2222 => P12 (#2222) no such name
+2222~1 => [2]
+22222~1 => [1]
+2222^2 => [3]
+1111-login^ => [2]
+^2222 => ^[5]
+2222..22222 => [5]..[2]
+22222...1111-login => [2]...[5]
+..2222 => [4]..[5]
+2222^- => [2]..[5]
+22222^- => [1]..[2]
+v1-3-g2222^! => [2]^!
+[3]^@ => [3]^@
+2222@{0} => P20 (0) not supported here
+22222@{0} => P20 (0) not supported here
+66666@{0} => P12 (66666@{0}) a name comes first; no object with this prefix
+2222:a.txt => P25 (a.txt) not supported here
+main^{} => [5]
+main^{object} => [5]
+main^{commit} => [5]
+main^0 => [5]
+v1-3-g2222^{}^{object}~1 => [1]
+main^{tag} => P25 ({tag}) commits alone are known
+main^{tree} => P25 ({tree}) commits alone are known
+main^{blob} => P25 ({blob}) commits alone are known
+gone => [9]
+gone^{} => P25 ({}) no such commit
+gone^{object} => P25 ({object}) no such commit
+gone^0 => P25 (0) no such commit
+main^{/fix} => P10 (fix) not supported here
+@{-1} => P20 (-1) not supported here
+ => P5 no revision
+^{} => P5 no revision
+no..2222 => P12 (no..2222) no such name
+",
+};
+
 fn table_of<A: Allocator + Copy>(alloc: A, case: &Case) -> Result<Table<A>, AllocError> {
     let mut names = BTreeMap::new(alloc);
     for (name, digit) in case.names {
-        names.insert(name.as_bytes().to_vec(alloc)?, id(*digit))?;
+        names.insert(written_out(alloc, name)?, id(*digit))?;
     }
     let mut ids = BTreeSet::new(alloc);
     for row in case.history {
@@ -219,7 +335,10 @@ impl Asks for Wanted<'_> {
         graph: &mut Graph<S, Commit<Flags, A>, A>,
     ) -> Result<Answered, AllocError> {
         let table = table_of(alloc, self.case)?;
-        let answer = resolve(alloc, to, self.text, NOW, &table, graph);
+        let answer = match self.case.order {
+            Order::DigitsFirst => resolve(alloc, to, self.text, NOW, &table, graph),
+            Order::NamesFirst => rev_parse(alloc, to, self.text, NOW, &table, graph),
+        };
         judged(to, &answer, self.answer)
     }
 }
@@ -247,5 +366,6 @@ fn texts_are_resolved(rt: HostRuntime) -> Result<(), Fail> {
     assert_eq!(rt; first_wrong(rt.alloc(), &CROSSED)?, None);
     assert_eq!(rt; first_wrong(rt.alloc(), &AMBIGUOUS)?, None);
     assert_eq!(rt; first_wrong(rt.alloc(), &ROUNDS)?, None);
+    assert_eq!(rt; first_wrong(rt.alloc(), &NAMES_FIRST)?, None);
     Ok(())
 }

@@ -1,4 +1,4 @@
-use Rattle.gix_resolve.specs.declared.refusal.Refusal.TheVariants.{NoName, NoObject, Ambiguous, GivenTwice, NoRevision, NoCommit, NoParent, NotSupported}
+use Rattle.gix_resolve.specs.declared.refusal.Refusal.TheVariants.{NoName, NoObject, Ambiguous, GivenTwice, NoRevision, NoCommit, NoParent, NotSupported, NameFirst, CommitsAlone}
 use Rattle.gix_resolve.proofs.refusal.refusals_are_said.Goals as goal
 
 pub returns : goal.returns
@@ -10,3 +10,5 @@ returns c NoRevision = (c.exn-5.result, c.exn-5.ensures)
 returns c NoCommit = (c.exn-6.result, c.exn-6.ensures)
 returns c NoParent = (c.exn-7.result, c.exn-7.ensures)
 returns c NotSupported = (c.exn-8.result, c.exn-8.ensures)
+returns c NameFirst = (c.exn-9.result, c.exn-9.ensures)
+returns c CommitsAlone = (c.exn-10.result, c.exn-10.ensures)

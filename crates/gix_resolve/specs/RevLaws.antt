@@ -1,0 +1,34 @@
+-- Where both orders of names and digits mean the same.
+use Rattle.std.specs.Prelude.{◌≡◌, ◌↔◌, ℕ, List, None}
+use Rattle.std.specs.List.{AllByRecursion}
+use Rattle.gix_revision.specs.Call.{Target, object, path}
+use Rattle.gix_revision.specs.DescribeText.{prefix_with}
+use Rattle.gix_revision.specs.History.{History}
+use Rattle.gix_revision.specs.Pieces as pieces
+use Rattle.gix_revision.specs.Pieces.{Piece}
+use Rattle.gix_revision.specs.Reading.{pieces_of}
+use Rattle.gix_revision.specs.Tree.{Leaf}
+use Rattle.gix_revision.specs.Types.ObjectKind.TheVariants.{Commit}
+use Rattle.gix_revision.specs.Types.Time.{Time}
+use Rattle.gix_resolve.specs.Resolved.{IsStep, IsStepBy, EndsAs}
+use Rattle.gix_resolve.specs.RevParse.{digits_in, names_first}
+use Rattle.gix_resolve.specs.declared.state.State.{State}
+use Rattle.gix_resolve.specs.declared.table.Table.{Table}
+
+-- `^{commit}`, or a path
+abbrev pub IsSameDemand : Target → Type 0
+IsSameDemand (object Commit) = Unit {0}
+IsSameDemand (path p) = Unit {0}
+IsSameDemand _ = ⊥
+
+-- a name that could be no digits of an id, in either order; and no other object is asked for than a commit
+abbrev pub IsPlain : Piece → Type 0
+IsPlain (pieces.name text whole attempt) = (attempt ≡ None) × (prefix_with text None ≡ None) × (prefix_with (digits_in text) None ≡ None)
+IsPlain (pieces.peel target after) = IsSameDemand target
+IsPlain _ = Unit {0}
+
+-- a text of such pieces alone means the same in both orders
+abbrev pub OrdersAgree : {A : Type 0} → Table A → History → Type 0
+OrdersAgree t h =
+    (text : List ℕ) (now : Time) (u : State) (l : Leaf) → AllByRecursion IsPlain (pieces_of text)
+    → EndsAs (IsStep t h) text now u l ↔ EndsAs (IsStepBy (names_first t h)) text now u l

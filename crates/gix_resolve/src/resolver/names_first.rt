@@ -1,0 +1,200 @@
+//! The resolver in git's own order: names before the first digits of ids.
+
+ghost use Rattle.std.specs.Prelude.{◌≡◌, ℕ, List, Option, IsErrOf, false};
+ghost use Rattle.gix_revision.specs.Answer.{answer_of};
+ghost use Rattle.gix_revision.specs.Call.{Hint, find_ref, prefix, peel, target_of};
+ghost use Rattle.gix_revision.specs.Faults.{count_after};
+ghost use Rattle.gix_revision.specs.Graph.{KeepsHeld};
+ghost use Rattle.gix_revision.specs.Reading.{pieces_of};
+ghost use Rattle.gix_resolve.specs.Resolved.{is_fault};
+ghost use Rattle.gix_resolve.specs.ResolverStep.{state_of};
+ghost use Rattle.gix_resolve.specs.RevParse.{RevParsed, RevParsedOrFault, RevWalkedTo};
+ghost use Rattle.gix_resolve.specs.RevParse.{rev_may_want_memory};
+ghost use Rattle.gix_resolve.specs.RevStep.{AnswersByNames, RevAnswers, resolver_of};
+ghost use Rattle.gix_resolve.specs.Steps.{start};
+
+use super::Resolver;
+use crate::history::peeled_to_commit;
+use crate::refusal::{Refusal, Trouble, answer, without_source};
+use crate::table::Table;
+use gix_revision::date::Time;
+use gix_revision::error::Exn;
+use gix_revision::graph::{Commit, Find, Graph};
+use gix_revision::hash::Prefix;
+use gix_revision::laws;
+use gix_revision::merge_base::Flags;
+use gix_revision::spec::parse::delegate::{
+    Kind, Listener, Navigate, PeelTo, PrefixHint, ReflogLookup, Revision, SiblingBranch, Traversal,
+};
+use gix_revision::spec::parse::{Delegate, Error, parse};
+use gix_revision::spec::{self, Spec};
+use std::alloc::{Allocator, Global};
+
+/// A resolver that takes no prefix, and each name in git's own order.
+#[derive(Drop)]
+pub(crate) struct NamesFirst<'a, S: Find, A: Allocator> {
+    resolver: Resolver<'a, S, A>,
+}
+
+impl<'a, S: Find, A: Allocator + Copy> Resolver<'a, S, A> {
+    // A name.
+    fn call_name(&mut self, name: &[u8]) -> Result<(), Exn>
+        ensures { AnswersByNames S.history S.fault_count
+            self.old (find_ref name.now) (answer_of result) self.new }
+    {
+        let next = self.state.called(self.table, name);
+        answer(self.refusals, &mut self.state, without_source(next))
+    }
+
+    // A prefix, which is none: then the parse asks for the name.
+    fn pass_prefix(&mut self) -> Result<(), Exn>
+        ensures { (digits : List ℕ) (hint : Option Hint) → AnswersByNames S.history S.fault_count
+            self.old (prefix digits hint) (answer_of result) self.new }
+    {
+        let next = Err(Trouble::Refused(Refusal::NameFirst));
+        answer(self.refusals, &mut self.state, next)
+    }
+
+    // What is peeled.
+    fn peel_to_commit(&mut self, kind: PeelTo<'_>) -> Result<(), Exn>
+        ensures { AnswersByNames S.history S.fault_count
+            self.old (peel (target_of kind.entry)) (answer_of result) self.new }
+    {
+        let next = peeled_to_commit(*self.alloc, self.state, kind, self.graph);
+        answer(self.refusals, &mut self.state, next)
+    }
+}
+
+impl<S: Find, A: Allocator + Copy> Listener for NamesFirst<'_, S, A> {
+    ghost step = { RevAnswers S.history S.fault_count };
+}
+
+impl<S: Find, A: Allocator + Copy> Revision for NamesFirst<'_, S, A> {
+    fn find_ref(&mut self, name: &[u8]) -> Result<(), Exn> {
+        self.resolver.call_name(name)
+    }
+
+    fn disambiguate_prefix(
+        &mut self,
+        prefix: Prefix,
+        hint: Option<PrefixHint<'_>>,
+    ) -> Result<(), Exn> {
+        self.resolver.pass_prefix()
+    }
+
+    fn reflog(&mut self, query: ReflogLookup) -> Result<(), Exn> {
+        self.resolver.refuse()
+    }
+
+    fn nth_checked_out_branch(&mut self, branch_no: usize) -> Result<(), Exn> {
+        self.resolver.refuse()
+    }
+
+    fn sibling_branch(&mut self, kind: SiblingBranch) -> Result<(), Exn> {
+        self.resolver.refuse()
+    }
+}
+
+impl<S: Find, A: Allocator + Copy> Kind for NamesFirst<'_, S, A> {
+    fn kind(&mut self, kind: spec::Kind) -> Result<(), Exn> {
+        self.resolver.kind(kind)
+    }
+}
+
+impl<S: Find, A: Allocator + Copy> Navigate for NamesFirst<'_, S, A> {
+    fn traverse(&mut self, kind: Traversal) -> Result<(), Exn> {
+        self.resolver.traverse(kind)
+    }
+
+    fn peel_until(&mut self, kind: PeelTo<'_>) -> Result<(), Exn> {
+        self.resolver.peel_to_commit(kind)
+    }
+
+    fn find(&mut self, regex: &[u8], negated: bool) -> Result<(), Exn> {
+        self.resolver.refuse()
+    }
+
+    fn index_lookup(&mut self, path: &[u8], stage: u8) -> Result<(), Exn> {
+        self.resolver.refuse()
+    }
+}
+
+impl<S: Find, A: Allocator + Copy> Delegate for NamesFirst<'_, S, A> {
+    fn done(&mut self) -> Result<(), Exn> {
+        self.resolver.done()
+    }
+}
+
+// Tells a text to a resolver that has heard nothing.
+fn tell_names<'a, S: Find, A: Allocator + Copy>(
+    alloc: A,
+    text: &'a [u8],
+    now: Time,
+    names: &mut NamesFirst<'_, S, A>,
+) -> Result<Spec, Error<'a>>
+    requires { state_of (resolver_of names.now) ≡ start }
+    ensures resolved { is_fault result ≡ false
+        → RevParsed text.now now (resolver_of names.old).table.now
+        (S.history (resolver_of names.old).graph.now.source) result }
+    ensures fault { RevParsedOrFault text.now now (resolver_of names.old).table.now
+        (S.history (resolver_of names.old).graph.now.source) result }
+    ensures memory { rev_may_want_memory (pieces_of text.now) ≡ false
+        → IsErrOf result Error.OutOfMemory → ⊥ }
+    ensures count { S.fault_count (resolver_of names.new).graph.now.source
+        ≡ count_after (is_fault result) (S.fault_count (resolver_of names.old).graph.now.source) }
+    ensures history { S.history (resolver_of names.new).graph.now.source
+        ≡ S.history (resolver_of names.old).graph.now.source }
+    ensures held { KeepsHeld (resolver_of names.old).graph.now (resolver_of names.new).graph.now }
+    ensures walked { RevWalkedTo text.now now (resolver_of names.old).table.now
+        (S.history (resolver_of names.old).graph.now.source) (resolver_of names.old).graph.now
+        result (resolver_of names.new).graph.now }
+    ensures same_reference { (resolver_of names.new).graph.ghost_name
+        ≡ (resolver_of names.old).graph.ghost_name }
+{
+    laws::spec::done_is_last();
+    if let Err(error) = parse(alloc, text, now, names) {
+        return Err(error);
+    }
+    // A text that was read to its end has ended, so there is a spec.
+    match names.resolver.spec() {
+        Some(spec) => Ok(spec),
+        None => unreachable!(),
+    }
+}
+
+/// As [`resolve`](super::resolve), with each name in git's own order: git-rev-parse, "Specifying
+/// Revisions". A name of 40 hex digits is that id alone. Any other one is the reference of exactly
+/// these bytes; or else the one id that begins with the digits in it, which are 4 or more and stand
+/// behind its last `-g`, or are all of it. So a branch `1059-login` is a branch, though `resolve`
+/// takes it for an id that begins with `1059`. And `^{}`, `^{object}` and `^{commit}` of a commit
+/// that the source has are that commit.
+///
+/// # Errors
+///
+/// Those of [`resolve`](super::resolve). Where that would read digits in a name, `first` says
+/// `a name comes first`, and `second` why the name is none. `^{tag}`, `^{tree}` and `^{blob}` are
+/// refused with `commits alone are known`. Memory may be wanting for `^{}` and `^{object}`, too.
+pub fn rev_parse<'a, S: Find, A: Allocator + Copy>(
+    alloc: A,
+    refusals: Global,
+    text: &'a [u8],
+    now: Time,
+    table: &Table<A>,
+    graph: &mut Graph<S, Commit<Flags, A>, A>,
+) -> Result<Spec, Error<'a>>
+    ensures resolved { is_fault result ≡ false
+        → RevParsed text.now now table.now (S.history graph.old.source) result }
+    ensures fault { RevParsedOrFault text.now now table.now (S.history graph.old.source) result }
+    ensures memory { rev_may_want_memory (pieces_of text.now) ≡ false
+        → IsErrOf result Error.OutOfMemory → ⊥ }
+    ensures count { S.fault_count graph.new.source
+        ≡ count_after (is_fault result) (S.fault_count graph.old.source) }
+    ensures history { S.history graph.new.source ≡ S.history graph.old.source }
+    ensures held { KeepsHeld graph.old graph.new }
+    ensures walked { RevWalkedTo text.now now table.now (S.history graph.old.source)
+        graph.old result graph.new }
+{
+    let resolver = Resolver::new(&alloc, refusals, table, graph);
+    let mut names = NamesFirst { resolver };
+    tell_names(alloc, text, now, &mut names)
+}
