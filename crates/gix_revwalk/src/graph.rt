@@ -81,7 +81,7 @@ pub trait Held: Drop {
 #[derive(Drop)]
 pub(crate) struct Node<T> {
     pub(crate) id: ObjectId,
-    /// Where the numbers of its known parents stand, once all of its parents were asked for.
+    /// Where the numbers of its parents stand, once all of them are held.
     pub(crate) row: Option<Row>,
     /// The walk that last marked it.
     pub(crate) turn: u32,

@@ -596,7 +596,8 @@ fn row_of<S: Find, D: Drop, A: Allocator>(
     }
 }
 
-/// Remembers the numbers of the known parents of a commit, where there is memory for them.
+/// Remembers the numbers of the known parents of a commit, where the source has all of its parents and there
+/// is memory for them.
 fn remember<S: Find, D: Drop, A: Allocator>(
     graph: &mut Graph<S, Commit<D, A>, A>,
     number: Number,
@@ -608,6 +609,9 @@ fn remember<S: Find, D: Drop, A: Allocator>(
         (parents_in (entry_at (S.history graph.old.source) id)) row.now }
     ensures { graph.new ≡ graph.old }
 {
+    if row.len() != parent_count(graph, number) {
+        return;
+    }
     let start = graph.edges.len();
     if graph.edges.extend_from_slice(row).is_err() {
         return;
@@ -621,7 +625,8 @@ fn remember<S: Find, D: Drop, A: Allocator>(
 
 /// Puts the numbers of those parents of a commit that the source has into `into`, in order, in
 /// place of what was there. Those that were not held are taken in, with data `new`, and marked by
-/// no walk. From the second time on nothing is looked up.
+/// no walk. Where the source has all of them their numbers are remembered, if there is memory for them, until
+/// the graph is cleared.
 ///
 /// # Errors
 ///
