@@ -24,6 +24,7 @@ ghost use Rattle.gix_revwalk.specs.History.{same_id};
 ghost use Rattle.gix_revwalk.specs.Rows.{AreNumbers};
 
 use crate::graph::{Commit, Error, Find, Graph, Held, Node, Row, SourceCommit};
+use crate::past::is_same;
 pub use crate::past::{Link, NOWHERE};
 use gix_base::hash::ObjectId;
 use std::alloc::{AllocError, Allocator};
@@ -34,6 +35,7 @@ pub struct Number(u32);
 
 impl Number {
     /// The number of a place; refused where there are no more numbers.
+    #[inline(always)]
     pub(crate) fn at(place: usize) -> Result<Number, AllocError>
         ensures { IfOk result (λ number. place_in number ≡ place) }
     {
@@ -44,6 +46,7 @@ impl Number {
     }
 
     /// Its place.
+    #[inline(always)]
     pub(crate) fn place(&self) -> usize
         ensures { result ≡ place_in self.now }
     {
@@ -91,6 +94,7 @@ pub fn number_of<S: Find, T: Held, A: Allocator>(
 }
 
 /// The number of an id, by a guess at its spot; `None` where it is not held.
+#[inline(always)]
 pub fn number_near<S: Find, T: Held, A: Allocator>(
     graph: &Graph<S, T, A>,
     id: &ObjectId,
@@ -104,7 +108,11 @@ pub fn number_near<S: Find, T: Held, A: Allocator>(
     let Some(node) = graph.nodes.get(home.place()) else {
         return None;
     };
-    if node.id == *id { Some(home) } else { None }
+    if is_same(&node.id, id) {
+        Some(home)
+    } else {
+        None
+    }
 }
 
 /// The id of a number.
@@ -117,6 +125,7 @@ pub fn id_of<S: Find, T: Held, A: Allocator>(graph: &Graph<S, T, A>, number: Num
 }
 
 /// The value under a number.
+#[inline(always)]
 pub fn value<S: Find, T: Held, A: Allocator>(graph: &Graph<S, T, A>, number: Number) -> &T
     requires { place_in number < held_len graph.now }
     ensures value { value_at graph.now (place_in number) ≡ Some result.now }
@@ -196,6 +205,7 @@ pub fn add_near<S: Find, T: Held, A: Allocator + Copy>(
 /// # Errors
 ///
 /// As [`add`].
+#[inline(always)]
 pub fn hold_told<S: Find, T: Held, A: Allocator + Copy>(
     graph: &mut Graph<S, T, A>,
     id: ObjectId,
@@ -278,6 +288,7 @@ pub fn ask_time<S: Find, T: Held, A: Allocator + Copy>(
 /// # Errors
 ///
 /// As [`ask`]; also where `into` could not grow.
+#[inline(always)]
 pub fn parents_near<S: Find, T: Held, A: Allocator + Copy>(
     graph: &mut Graph<S, T, A>,
     alloc: A,
@@ -321,6 +332,7 @@ fn copy_parents<A: Allocator>(
 }
 
 /// Gives a held id of a graph of numbers another value. The old one.
+#[inline(always)]
 pub fn put<S: Find, A: Allocator>(graph: &mut Graph<S, u32, A>, number: Number, value: u32) -> u32
     requires { place_in number < held_len graph.old }
     ensures old { value_at graph.old (place_in number) ≡ Some result }
@@ -333,6 +345,7 @@ pub fn put<S: Find, A: Allocator>(graph: &mut Graph<S, u32, A>, number: Number, 
 }
 
 /// Notes a held id in the walk that is going on. Its value stays.
+#[inline(always)]
 pub fn note<S: Find, T: Held, A: Allocator>(graph: &mut Graph<S, T, A>, number: Number)
     requires { place_in number < held_len graph.old }
     ensures source { graph.new.source ≡ graph.old.source }
@@ -347,6 +360,7 @@ pub fn note<S: Find, T: Held, A: Allocator>(graph: &mut Graph<S, T, A>, number: 
 }
 
 /// Whether the walk that is going on has noted a held id.
+#[inline(always)]
 pub fn is_noted<S: Find, T: Held, A: Allocator>(graph: &Graph<S, T, A>, number: Number) -> bool
     requires { place_in number < held_len graph.now }
     ensures { (id : ObjectId) → named graph.now (place_in number) ≡ Some id

@@ -41,6 +41,18 @@ pub struct Link {
 /// No guess: there is no such spot.
 pub const NOWHERE: usize = usize::MAX;
 
+/// Whether two ids have the same bytes. All are compared, without an early end: so it takes a few instructions.
+#[inline(always)]
+pub(crate) fn is_same(a: &ObjectId, b: &ObjectId) -> bool
+    ensures { result ≡ same_id a.now b.now }
+{
+    let mut differs = false;
+    for i in 0..20 {
+        differs |= a.0[i] != b.0[i];
+    }
+    !differs
+}
+
 /// What is remembered, by spots, with an index from ids to their spots, and the parents of all commits of
 /// which the source told, row by row.
 #[derive(Drop)]
@@ -80,11 +92,12 @@ impl<A: Allocator + Copy> Past<A> {
 
 impl<A: Allocator> Past<A> {
     /// The spot of an id; `None` where it is not remembered.
+    #[inline(always)]
     fn spot(&self, id: &ObjectId, guess: usize) -> Option<usize>
         ensures { result ≡ spot_in self.now id.now }
     {
         if let Some(memory) = self.memories.get(guess) {
-            if memory.id == *id {
+            if is_same(&memory.id, id) {
                 return Some(guess);
             }
         }
@@ -95,6 +108,7 @@ impl<A: Allocator> Past<A> {
     }
 
     /// The number that an id had when it was last held.
+    #[inline(always)]
     pub(crate) fn home(&self, id: &ObjectId, guess: usize) -> Option<Number>
         ensures { option_map place_in result ≡ home_in self.now id.now }
     {
@@ -105,6 +119,7 @@ impl<A: Allocator> Past<A> {
     }
 
     /// The spot of an id and its time, where the source has told of its commit.
+    #[inline(always)]
     pub(crate) fn recall(&self, id: &ObjectId, guess: usize) -> Option<(usize, i64)>
         ensures time { option_map (λ r. r.1) result ≡ option_map (λ t. t.time) (told_in self.now id.now) }
         ensures spot { IfSome result (λ r. spot_in self.now id.now ≡ Some r.0) }
@@ -148,6 +163,7 @@ impl<A: Allocator + Copy> Past<A> {
     }
 
     /// Remembers the number of an id whose spot is known.
+    #[inline(always)]
     pub(crate) fn settle_at(&mut self, id: ObjectId, spot: usize, home: Number)
         requires { spot_in self.old id ≡ Some spot }
         ensures homes { (q : ObjectId)
@@ -200,6 +216,7 @@ impl<A: Allocator + Copy> Past<A> {
     }
 
     /// A guess at the spot of the parent at a place. One that was looked up is kept.
+    #[inline(always)]
     fn guess(&mut self, at: usize, id: &ObjectId) -> Result<usize, AllocError>
         ensures { self.new ≡ self.old }
     {
@@ -220,6 +237,7 @@ impl<A: Allocator + Copy> Past<A> {
     }
 
     /// Where the parents of an id stand; `None` where the source has not told of its commit.
+    #[inline(always)]
     fn row(&self, id: &ObjectId, guess: usize) -> Option<Row>
         ensures parents { option_map (λ r. take r.len (drop r.start self.now.parents)) result
             ≡ option_map (λ t. t.parents) (told_in self.now id.now) }
@@ -232,6 +250,7 @@ impl<A: Allocator + Copy> Past<A> {
     }
 
     /// Puts the parents of a row into `into`, which is empty, each with a guess at its spot.
+    #[inline(always)]
     fn copy_row(&mut self, row: Row, into: &mut Vec<Link, A>) -> Result<(), AllocError>
         requires fits { row.start + row.len ≤ length self.old.parents }
         requires empty { into.old.items ≡ [] }
@@ -252,6 +271,7 @@ impl<A: Allocator + Copy> Past<A> {
 
     /// Puts the parents of an id into `into`, in place of what was there. `false`, and none, where the source
     /// has not told of its commit.
+    #[inline(always)]
     pub(crate) fn parents_of(
         &mut self,
         id: &ObjectId,

@@ -65,6 +65,7 @@ fn asked_for<S: Find, A: Allocator + Copy>(
 }
 
 /// Puts all parents of a commit into `row`, in place of what was there.
+#[inline(always)]
 fn parents_for<S: Find, A: Allocator + Copy>(
     alloc: A,
     met: &Met,
@@ -91,6 +92,7 @@ fn parents_for<S: Find, A: Allocator + Copy>(
 ///
 /// [`Message::ParentsOf`] the commit only where the source failed; [`Message::OutOfMemory`] where there
 /// was no memory.
+#[inline(always)]
 pub(crate) fn follow<S: Find, A: Allocator + Copy>(
     alloc: A,
     met: &Met,
@@ -155,6 +157,7 @@ fn ask_in<S: Find, A: Allocator + Copy>(
 ///
 /// [`Message::ParentsOf`] the child only where the source failed; [`Message::OutOfMemory`] where there
 /// was no memory.
+#[inline(always)]
 pub(crate) fn take_in<S: Find, A: Allocator + Copy>(
     alloc: A,
     id: ObjectId,
