@@ -72,6 +72,16 @@ pub use Rattle.gix_revwalk.specs.Sizes
 pub use Rattle.gix_revwalk.specs.Calls
 pub use Rattle.gix_revwalk.specs.GraphAfter
 pub use Rattle.gix_revwalk.specs.Walks.{added, all_added}
+pub use Rattle.gix_commitgraph.specs.FileBytes
+pub use Rattle.gix_commitgraph.specs.FileChunks
+pub use Rattle.gix_commitgraph.specs.FileCommits
+pub use Rattle.gix_commitgraph.specs.FileChecks
+pub use Rattle.gix_commitgraph.specs.FileFormat
+pub use Rattle.gix_commitgraph.specs.FileRefused
+pub use Rattle.gix_commitgraph.specs.FileLevels
+pub use Rattle.gix_commitgraph.specs.FileHash
+pub use Rattle.gix_commitgraph.specs.NewerCommits
+pub use Rattle.gix_commitgraph.specs.OpenFaultText
 pub use Rattle.gix_merge_base.specs.Bases
 pub use Rattle.gix_merge_base.specs.Octopus
 pub use Rattle.gix_merge_base.specs.Keys

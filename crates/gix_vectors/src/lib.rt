@@ -7,6 +7,8 @@ mod braces;
 #[cfg(test)]
 mod calls;
 #[cfg(test)]
+mod commit_graphs;
+#[cfg(test)]
 mod dates;
 #[cfg(test)]
 mod delegate;
@@ -22,6 +24,8 @@ mod graphs;
 mod histories;
 #[cfg(test)]
 mod ids;
+#[cfg(test)]
+mod levelled;
 #[cfg(test)]
 mod lines;
 #[cfg(test)]

@@ -1,0 +1,10 @@
+pub mod Rows
+pub mod Order
+pub mod Fanned
+pub mod Edges
+pub mod History
+pub mod Falling
+pub mod Refusals
+pub mod Joins
+pub mod Listed
+pub mod Hashed

@@ -1,0 +1,60 @@
+-- Where the chunks of a commit-graph file stand (gitformat-commit-graph, "CHUNK LOOKUP").
+use Rattle.std.specs.Prelude.{ℕ, zero, suc, ◌+◌, ◌-◌, ◌*◌, ◌/◌, List, cond, nat_eq, Option, Some, None, slice_index}
+use Rattle.std.specs.Option.{option_map}
+use Rattle.gix_commitgraph.specs.FileBytes.{word, long}
+use Rattle.gix_commitgraph.specs.declared.commit_graph.layout.Chunk.{Chunk}
+use Rattle.gix_commitgraph.specs.declared.commit_graph.layout.Layout.{Layout}
+
+-- the ids of the chunks OIDF, OIDL, CDAT and EDGE, as the numbers of their 4 letters
+abbrev pub oidf : ℕ
+oidf = 0x4f49_4446
+
+abbrev pub oidl : ℕ
+oidl = 0x4f49_444c
+
+abbrev pub cdat : ℕ
+cdat = 0x4344_4154
+
+abbrev pub edge : ℕ
+edge = 0x4544_4745
+
+-- how many rows the table of contents has, but for its last
+abbrev pub row_count : List ℕ → ℕ
+row_count s = slice_index s 6
+
+-- the chunk id of a row of the table of contents
+abbrev pub tag_of : List ℕ → ℕ → ℕ
+tag_of s i = word s (8 + 12 * i)
+
+-- of n rows from row i on, the first with that chunk id
+abbrev pub row_from : List ℕ → ℕ → ℕ → ℕ → Option ℕ
+row_from s tag i zero = None
+row_from s tag i (suc n) = cond (nat_eq (tag_of s i) tag) (Some i) (row_from s tag (i + 1) n)
+
+-- a chunk begins at the offset of its row, and ends where the next row's chunk begins
+abbrev pub chunk_of : List ℕ → ℕ → Chunk
+chunk_of s i = record { start = long s (12 + 12 * i); end = long s (24 + 12 * i) }
+
+-- the chunk of that id
+unfoldable pub chunk_at : List ℕ → ℕ → Option Chunk
+chunk_at s tag = option_map (chunk_of s) (row_from s tag 0 (row_count s))
+
+abbrev pub start_of : Option Chunk → ℕ
+start_of None = 0
+start_of (Some c) = c.start
+
+abbrev pub size_of : Option Chunk → ℕ
+size_of None = 0
+size_of (Some c) = c.end - c.start
+
+-- where the chunks OIDF, OIDL, CDAT and EDGE begin, how many commits there are, by the last number of OIDF,
+-- and how many numbers EDGE has
+unfoldable pub layout_of : List ℕ → Layout
+layout_of s = record {
+  count = word s (start_of (chunk_at s oidf) + 1020);
+  fanout = start_of (chunk_at s oidf);
+  ids = start_of (chunk_at s oidl);
+  rows = start_of (chunk_at s cdat);
+  edges = start_of (chunk_at s edge);
+  edge_count = size_of (chunk_at s edge) / 4;
+}

@@ -1,0 +1,14 @@
+-- Where an id stands.
+use Rattle.std.specs.Prelude.{◌≡◌, ◌≢◌, ℕ, ◌<◌, ◌≤◌, List}
+use Rattle.gix_base.specs.declared.hash.ObjectId.{ObjectId}
+use Rattle.gix_commitgraph.specs.FileCommits.{id_of}
+use Rattle.gix_commitgraph.specs.declared.commit_graph.layout.Layout.{Layout}
+
+-- the id stands at a position
+pub record IsAt (s : List ℕ) (l : Layout) (id : ObjectId) (k : ℕ) : Type 0 where
+  pub below : k < l.count
+  pub same : id_of s l k ≡ id
+
+-- the id stands at no position
+abbrev pub IsAbsent : List ℕ → Layout → ObjectId → Type 0
+IsAbsent s l id = (k : ℕ) → k < l.count → id_of s l k ≢ id

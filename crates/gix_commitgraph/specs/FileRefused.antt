@@ -1,0 +1,45 @@
+-- Why a file is refused.
+use Rattle.std.specs.Prelude.{◌≡◌, ◌≢◌, ◌⊎◌, ℕ, ◌+◌, ◌-◌, ◌*◌, ◌^◌, ◌<◌, List, length, take, codes, slice_index, Some, None}
+use Rattle.gix_commitgraph.specs.FileCommits.{edge_word}
+use Rattle.gix_commitgraph.specs.FileChunks.{row_count, tag_of, row_from, chunk_of, chunk_at, layout_of, cdat, oidf, oidl}
+use Rattle.gix_commitgraph.specs.FileFormat.{MustHave, HasChunks}
+use Rattle.gix_commitgraph.specs.FileChecks.{Fans, IsFanned, Rises, HasParents, NamesCommit}
+use Rattle.gix_commitgraph.specs.declared.commit_graph.layout.Layout.{Layout}
+use Rattle.gix_commitgraph.specs.declared.commit_graph.fault.OpenFault.{OpenFault}
+use Rattle.gix_commitgraph.specs.declared.commit_graph.fault.OpenFault.TheVariants.{TooShort, Signature, Version, Hash, BaseGraphs, NoChunkId, Repeated, ChunkPlace, TableEnd, NoFanout, NoIds, NoRows, ChunkSize, Fanout, IdOrder, IdPlace, Parent, EdgeParent, EdgeEnd}
+
+-- what the fault says of the commits is so
+abbrev pub IsWrong : List ℕ → Layout → OpenFault → Type 0
+IsWrong s l Fanout = (b : ℕ) × (b < 256) × (¬ Fans s l b)
+IsWrong s l IdPlace = (i : ℕ) × (i < l.count) × (¬ IsFanned s l i)
+IsWrong s l IdOrder = (i : ℕ) × (i + 1 < l.count) × (¬ Rises s l i)
+IsWrong s l Parent = (i : ℕ) × (i < l.count) × (¬ HasParents s l i)
+IsWrong s l EdgeParent = (k : ℕ) × (k < l.edge_count) × (¬ NamesCommit s l k)
+IsWrong s l EdgeEnd = (0 < l.edge_count) × (edge_word s l (l.edge_count - 1) < 2 ^ 31)
+IsWrong s l _ = ⊥
+
+-- what the fault says of the header, of the table of contents and of the sizes of chunks is so
+abbrev pub IsMisshapen : List ℕ → OpenFault → Type 0
+IsMisshapen s TooShort = length s < 40 + 12 * row_count s
+IsMisshapen s Signature = take 4 s ≢ codes "CGPH"
+IsMisshapen s Version = slice_index s 4 ≢ 1
+IsMisshapen s Hash = slice_index s 5 ≢ 1
+IsMisshapen s BaseGraphs = slice_index s 7 ≢ 0
+IsMisshapen s NoChunkId = (i : ℕ) × (i < row_count s) × (tag_of s i ≡ 0)
+IsMisshapen s Repeated = (i : ℕ) × (i < row_count s) × (row_from s (tag_of s i) 0 (row_count s) ≢ Some i)
+IsMisshapen s ChunkPlace = (i : ℕ) × (i < row_count s) × (((chunk_of s i).end < (chunk_of s i).start) ⊎ (length s < (chunk_of s i).end + 20))
+IsMisshapen s TableEnd = tag_of s (row_count s) ≢ 0
+IsMisshapen s NoFanout = chunk_at s oidf ≡ None
+IsMisshapen s NoIds = chunk_at s oidl ≡ None
+IsMisshapen s NoRows = chunk_at s cdat ≡ None
+IsMisshapen s ChunkSize = ¬ HasChunks s
+IsMisshapen s _ = ⊥
+
+-- why a chunk of n bytes is not there
+abbrev pub IsLacking : List ℕ → ℕ → ℕ → OpenFault → OpenFault → Type 0
+IsLacking s tag n missing e =
+    ((e ≡ missing) × (chunk_at s tag ≡ None)) ⊎ ((e ≡ ChunkSize) × (¬ MustHave (chunk_at s tag) n))
+
+-- what the fault says is so
+abbrev pub IsRefused : List ℕ → OpenFault → Type 0
+IsRefused s e = IsMisshapen s e ⊎ IsWrong s (layout_of s) e

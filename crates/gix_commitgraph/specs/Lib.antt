@@ -1,0 +1,11 @@
+pub mod FileBytes
+pub mod FileChunks
+pub mod FileCommits
+pub mod FileChecks
+pub mod FileFormat
+pub mod FileRefused
+pub mod FileLookup
+pub mod FileLevels
+pub mod FileHash
+pub mod NewerCommits
+pub mod OpenFaultText

@@ -1,0 +1,45 @@
+//! Numbers and ids in the bytes of a file.
+
+ghost use Rattle.std.specs.Prelude.{◌≡◌, ◌+◌, ◌^◌, ◌≤◌, ◌<◌, length};
+ghost use Rattle.gix_commitgraph.specs.FileBytes.{word, long, id_from};
+
+use gix_base::hash::ObjectId;
+
+/// The number of the 4 bytes from a place on.
+#[tactic(auto, unfolding(crate::specs::FileBytes::word))]
+pub(crate) fn word_at(bytes: &[u8], at: usize) -> usize
+    requires { at + 4 ≤ length bytes.now }
+    ensures value { result ≡ word bytes.now at }
+    ensures bound { result < 2 ^ 32 }
+{
+    u32::from_be_bytes([bytes[at], bytes[at + 1], bytes[at + 2], bytes[at + 3]]) as usize
+}
+
+/// The number of the 8 bytes from a place on.
+#[tactic(auto, unfolding(crate::specs::FileBytes::long))]
+pub(crate) fn long_at(bytes: &[u8], at: usize) -> usize
+    requires { at + 8 ≤ length bytes.now }
+    ensures { result ≡ long bytes.now at }
+{
+    u64::from_be_bytes([
+        bytes[at],
+        bytes[at + 1],
+        bytes[at + 2],
+        bytes[at + 3],
+        bytes[at + 4],
+        bytes[at + 5],
+        bytes[at + 6],
+        bytes[at + 7],
+    ]) as usize
+}
+
+/// The id that stands in the 20 bytes from a place on.
+#[tactic(auto, unfolding(crate::specs::FileBytes::id_from))]
+pub(crate) fn id_at(bytes: &[u8], at: usize) -> ObjectId
+    requires { at + 20 ≤ length bytes.now }
+    ensures { result ≡ id_from bytes.now at }
+{
+    let mut id = [0; 20];
+    id.copy_from_slice(&bytes[at..at + 20]);
+    ObjectId(id)
+}

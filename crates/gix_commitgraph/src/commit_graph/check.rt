@@ -1,0 +1,170 @@
+//! What is checked before a file is read.
+
+ghost use Rattle.std.specs.Prelude.{◌≡◌, ℕ, ◌+◌, ◌-◌, ◌*◌, ◌%◌, ◌^◌, ◌≤◌, ◌<◌, length, OnOk, IfErr};
+ghost use Rattle.gix_commitgraph.specs.FileCommits.{id_of, row_word, edge_word};
+ghost use Rattle.gix_commitgraph.specs.FileChecks.{Fits, Fans, fan, fan_below, first_byte, compare_ids, IsFanned, Rises, HasParents, NamesCommit, IsSound};
+ghost use Rattle.gix_commitgraph.specs.FileRefused.{IsWrong};
+
+use crate::commit_graph::bytes::{id_at, word_at};
+use crate::commit_graph::fault::OpenFault;
+use crate::commit_graph::layout::Layout;
+use std::cmp::Ordering;
+
+/// In the place of no parent.
+pub(crate) const NONE: usize = 0x7000_0000;
+/// Set in a number that leads to `EDGE`, and in the last of a list there.
+pub(crate) const HIGH: usize = 0x8000_0000;
+
+/// How many ids begin with a lesser byte.
+pub(crate) fn below(bytes: &[u8], l: Layout, b: u8) -> usize
+    requires { Fits bytes.now l }
+    ensures { result ≡ fan_below bytes.now l b }
+{
+    if b == 0 {
+        0
+    } else {
+        word_at(bytes, l.fanout + 4 * (b as usize - 1))
+    }
+}
+
+/// The fanout rises to the number of commits.
+fn check_fanout(bytes: &[u8], l: Layout) -> Result<(), OpenFault>
+    requires { Fits bytes.now l }
+    ensures sound { OnOk result ((b : ℕ) → b < 256 → Fans bytes.now l b) }
+    ensures wrong { IfErr result (IsWrong bytes.now l) }
+{
+    let mut last = 0;
+    for b in 0..256 {
+        let next = word_at(bytes, l.fanout + 4 * b);
+        if next < last || l.count < next {
+            return Err(OpenFault::Fanout);
+        }
+        last = next;
+    }
+    Ok(())
+}
+
+/// The id at a position stands where the fanout says.
+fn check_place(bytes: &[u8], l: Layout, i: usize) -> Result<(), OpenFault>
+    requires fits { Fits bytes.now l }
+    requires here { i < l.count }
+    ensures sound { OnOk result (IsFanned bytes.now l i) }
+    ensures wrong { IfErr result (IsWrong bytes.now l) }
+{
+    let b = bytes[l.ids + 20 * i];
+    if i < below(bytes, l, b) || word_at(bytes, l.fanout + 4 * b as usize) <= i {
+        return Err(OpenFault::IdPlace);
+    }
+    Ok(())
+}
+
+/// Each id stands where the fanout says.
+fn check_places(bytes: &[u8], l: Layout) -> Result<(), OpenFault>
+    requires { Fits bytes.now l }
+    ensures sound { OnOk result ((i : ℕ) → i < l.count → IsFanned bytes.now l i) }
+    ensures wrong { IfErr result (IsWrong bytes.now l) }
+{
+    for i in 0..l.count {
+        check_place(bytes, l, i)?;
+    }
+    Ok(())
+}
+
+/// The id behind the one at a position is greater.
+fn check_next(bytes: &[u8], l: Layout, i: usize) -> Result<(), OpenFault>
+    requires fits { Fits bytes.now l }
+    requires here { i + 1 < l.count }
+    ensures sound { OnOk result (Rises bytes.now l i) }
+    ensures wrong { IfErr result (IsWrong bytes.now l) }
+{
+    match id_at(bytes, l.ids + 20 * i).cmp(&id_at(bytes, l.ids + 20 * (i + 1))) {
+        Ordering::Less => Ok(()),
+        _ => Err(OpenFault::IdOrder),
+    }
+}
+
+/// The ids rise.
+fn check_order(bytes: &[u8], l: Layout) -> Result<(), OpenFault>
+    requires { Fits bytes.now l }
+    ensures sound { OnOk result ((i : ℕ) → i + 1 < l.count → Rises bytes.now l i) }
+    ensures wrong { IfErr result (IsWrong bytes.now l) }
+{
+    for i in 1..l.count {
+        check_next(bytes, l, i - 1)?;
+    }
+    Ok(())
+}
+
+/// Each parent of the commit at a position has a position.
+fn check_parents(bytes: &[u8], l: Layout, i: usize) -> Result<(), OpenFault>
+    requires fits { Fits bytes.now l }
+    requires here { i < l.count }
+    ensures sound { OnOk result (HasParents bytes.now l i) }
+    ensures wrong { IfErr result (IsWrong bytes.now l) }
+{
+    let first = word_at(bytes, l.rows + 36 * i + 20);
+    if first != NONE && l.count <= first {
+        return Err(OpenFault::Parent);
+    }
+    let second = word_at(bytes, l.rows + 36 * i + 24);
+    if second >= HIGH {
+        if l.edge_count <= second - HIGH {
+            return Err(OpenFault::Parent);
+        }
+    } else if second != NONE && l.count <= second {
+        return Err(OpenFault::Parent);
+    }
+    Ok(())
+}
+
+/// Each parent of each commit has a position.
+fn check_all_parents(bytes: &[u8], l: Layout) -> Result<(), OpenFault>
+    requires { Fits bytes.now l }
+    ensures sound { OnOk result ((i : ℕ) → i < l.count → HasParents bytes.now l i) }
+    ensures wrong { IfErr result (IsWrong bytes.now l) }
+{
+    for i in 0..l.count {
+        check_parents(bytes, l, i)?;
+    }
+    Ok(())
+}
+
+/// Each number of `EDGE` names a commit.
+fn check_edges(bytes: &[u8], l: Layout) -> Result<(), OpenFault>
+    requires { Fits bytes.now l }
+    ensures sound { OnOk result ((k : ℕ) → k < l.edge_count → NamesCommit bytes.now l k) }
+    ensures wrong { IfErr result (IsWrong bytes.now l) }
+{
+    for k in 0..l.edge_count {
+        if l.count <= word_at(bytes, l.edges + 4 * k) % HIGH {
+            return Err(OpenFault::EdgeParent);
+        }
+    }
+    Ok(())
+}
+
+/// The last list of `EDGE` ends.
+fn check_end(bytes: &[u8], l: Layout) -> Result<(), OpenFault>
+    requires { Fits bytes.now l }
+    ensures sound { OnOk result (0 < l.edge_count → 2 ^ 31 ≤ edge_word bytes.now l (l.edge_count - 1)) }
+    ensures wrong { IfErr result (IsWrong bytes.now l) }
+{
+    if l.edge_count > 0 && word_at(bytes, l.edges + 4 * (l.edge_count - 1)) < HIGH {
+        return Err(OpenFault::EdgeEnd);
+    }
+    Ok(())
+}
+
+/// All of it.
+pub(crate) fn check(bytes: &[u8], l: Layout) -> Result<(), OpenFault>
+    requires { Fits bytes.now l }
+    ensures sound { OnOk result (IsSound bytes.now l) }
+    ensures wrong { IfErr result (IsWrong bytes.now l) }
+{
+    check_fanout(bytes, l)?;
+    check_places(bytes, l)?;
+    check_order(bytes, l)?;
+    check_all_parents(bytes, l)?;
+    check_edges(bytes, l)?;
+    check_end(bytes, l)
+}

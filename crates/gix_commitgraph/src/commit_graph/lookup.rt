@@ -1,0 +1,82 @@
+//! Where an id stands: gitformat-commit-graph, "OID Fanout" and "OID Lookup".
+
+ghost use Rattle.std.specs.Prelude.{◌≡◌, ◌≤◌, ◌<◌, MatchOption};
+ghost use Rattle.gix_commitgraph.specs.FileChecks.{IsSound};
+ghost use Rattle.gix_commitgraph.specs.FileLookup.{IsAt, IsAbsent};
+
+use crate::commit_graph::bytes::{id_at, word_at};
+use crate::commit_graph::check::below;
+use crate::commit_graph::layout::Layout;
+use gix_base::hash::ObjectId;
+use std::cmp::Ordering;
+
+/// How many places are guessed before the rest is halved.
+const GUESSES: u32 = 6;
+
+/// The number of the four bytes behind an id's first.
+fn number_of(id: ObjectId) -> usize {
+    u32::from_be_bytes([id.0[1], id.0[2], id.0[3], id.0[4]]) as usize
+}
+
+/// The positions from `low` on and before `high`, at which an id may stand, and the numbers between
+/// which those of their ids lie.
+#[derive(Clone, Copy)]
+struct Span {
+    low: usize,
+    high: usize,
+    least: usize,
+    most: usize,
+}
+
+impl Span {
+    /// One of the positions. While there are guesses left it is as far from the first as the number
+    /// lies from the least one, so near the id where ids are as even as hashes are; then the middle.
+    fn place(self, guesses: u32, number: usize) -> usize
+        requires { self.low < self.high }
+        ensures low { self.low ≤ result }
+        ensures high { result < self.high }
+    {
+        let room = self.high - self.low;
+        if guesses == 0 {
+            return self.low + room / 2;
+        }
+        let way = number.saturating_sub(self.least);
+        let whole = self.most.saturating_sub(self.least).max(1);
+        let part = way.saturating_mul(room) / whole;
+        self.low + part.min(room - 1)
+    }
+}
+
+/// The position of an id: the fanout says between which positions it stands, a few guesses come near
+/// it, and halves find it.
+pub(crate) fn position(bytes: &[u8], l: Layout, id: ObjectId) -> Option<usize>
+    requires { IsSound bytes.now l }
+    ensures { MatchOption result (IsAbsent bytes.now l id) (IsAt bytes.now l id) }
+{
+    let b = id.0[0];
+    let number = number_of(id);
+    let mut guesses = GUESSES;
+    let mut span = Span {
+        low: below(bytes, l, b),
+        high: word_at(bytes, l.fanout + 4 * b as usize),
+        least: 0,
+        most: u32::MAX as usize,
+    };
+    'search: while span.low < span.high {
+        let place = span.place(guesses, number);
+        guesses = guesses.saturating_sub(1);
+        let found = id_at(bytes, l.ids + 20 * place);
+        match found.cmp(&id) {
+            Ordering::Less => {
+                span.low = place + 1;
+                span.least = number_of(found);
+            }
+            Ordering::Equal => return Some(place),
+            Ordering::Greater => {
+                span.high = place;
+                span.most = number_of(found);
+            }
+        }
+    }
+    None
+}
