@@ -41,7 +41,7 @@ pub struct Link {
 /// No guess: there is no such spot.
 pub const NOWHERE: usize = usize::MAX;
 
-/// Whether two ids have the same bytes. All are compared, without an early end: so it takes a few instructions.
+/// Whether two ids have the same bytes. It has no early end, so that the compiler can compare many at once.
 #[inline(always)]
 pub(crate) fn is_same(a: &ObjectId, b: &ObjectId) -> bool
     ensures { result ≡ same_id a.now b.now }
