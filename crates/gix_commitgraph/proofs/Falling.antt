@@ -4,9 +4,8 @@ use Rattle.std.proofs.lemmas.Bool.Decides.{nat_tests}
 use Rattle.std.proofs.lemmas.Bool.{true_from_ne_false}
 use Rattle.std.specs.List.{list_all}
 use Rattle.gix_base.specs.declared.hash.ObjectId.{ObjectId}
-use Rattle.gix_revwalk.specs.History.{History, Entry, Has, IsAncestor, IsAcyclic, GenerationsNeverRise, entry_at, same_id, is_one_of, parents_in, generation_in, generation_of}
+use Rattle.gix_revwalk.specs.History.{History, Entry, IsAncestor, IsAcyclic, GenerationsNeverRise, entry_at, same_id, is_one_of, parents_in, generation_in, generation_of}
 use Rattle.gix_revwalk.specs.History.IsAncestor.{itself, further}
-use Rattle.gix_revwalk.proofs.Ids.{same_id-true}
 use Rattle.gix_revwalk.proofs.Members.{one_of-cons_cases}
 use Rattle.gix_commitgraph.specs.FileChunks.{layout_of}
 use Rattle.gix_commitgraph.specs.FileCommits.{id_of, level_at, parents_at, entry_of_row, commits_from, history_in}

@@ -1,5 +1,5 @@
 -- A file's history, and behind it that of newer commits.
-use Rattle.std.proofs.Common.{◌≡◌, ◌<◌, ◌≤◌, ◌^◌, ◌-◌, ◌⊎◌, inl, inr, [], ◌∷◌, ◌++◌, Option, Some, None, is_some, cond, Bool, true, false, IsTrue, refl, sym, ap, ◌∙◌, subst, arith}
+use Rattle.std.proofs.Common.{◌≡◌, ◌≤◌, ◌^◌, ◌-◌, ◌⊎◌, inl, inr, [], ◌∷◌, ◌++◌, Option, Some, None, is_some, cond, Bool, true, false, IsTrue, refl, sym, ap, ◌∙◌, subst, arith}
 use Rattle.gix_base.specs.declared.hash.ObjectId.{ObjectId}
 use Rattle.gix_revwalk.specs.History.{History, Entry, Has, IsEdge, IsAncestor, IsAcyclic, GenerationsNeverRise, entry_at, same_id, is_one_of, parents_in, generation_in, generation_of}
 use Rattle.gix_revwalk.specs.History.IsAncestor.{itself, further}

@@ -1,5 +1,5 @@
 -- Files that are refused.
-use Rattle.std.proofs.Common.{◌≡◌, ℕ, ◌+◌, ◌*◌, ◌⊎◌, inl, inr, List, Option, Some, None, sym, ap, ◌∙◌, subst, arith}
+use Rattle.std.proofs.Common.{◌≡◌, ℕ, ◌+◌, ◌*◌, inl, inr, List, Option, Some, None, sym, ap, ◌∙◌, subst, arith}
 use Rattle.gix_commitgraph.specs.FileBytes.{word}
 use Rattle.gix_commitgraph.specs.FileChunks.{chunk_at, start_of, layout_of, cdat, edge, oidf, oidl}
 use Rattle.gix_commitgraph.specs.FileFormat.{MustHave, MayHave, HasChunks, IsCommitGraph}

@@ -1,5 +1,5 @@
 -- Where an id stands.
-use Rattle.std.specs.Prelude.{◌≡◌, ◌≢◌, ℕ, ◌<◌, ◌≤◌, List}
+use Rattle.std.specs.Prelude.{◌≡◌, ◌≢◌, ℕ, ◌<◌, List}
 use Rattle.gix_base.specs.declared.hash.ObjectId.{ObjectId}
 use Rattle.gix_commitgraph.specs.FileCommits.{id_of}
 use Rattle.gix_commitgraph.specs.declared.commit_graph.layout.Layout.{Layout}

@@ -19,10 +19,9 @@ use gix_revision::graph::{Commit, Find, Graph, MemorySource, SourceCommit};
 use gix_revision::hash::ObjectId;
 use gix_revision::laws::merge_base::whole_histories_meet;
 use gix_revision::merge_base::{Error, Flags, merge_base, octopus};
-use std::alloc::{AllocError, Global};
+use std::alloc::Global;
 use std::borrow::CowSlice;
 use std::string::String;
-use std::test::Fail;
 
 /// The merge bases.
 fn bases_of(
@@ -90,51 +89,124 @@ fn bases_of_all<S: Find>(
     merge_base(alloc, first, others, graph)
 }
 
-/// Whether the octopus merge of the file and its first parent have that parent as base, all its ancestors but the
-/// roots the second parent as octopus base, and no two roots a base.
-fn are_answered(alloc: Global) -> Option<bool> {
-    let source = levelled(alloc)?;
-    keys_fall(&source);
-    let file = source.graph();
-    let [merge, first, second, root] = [file.id(4)?, file.id(2)?, file.id(0)?, file.id(3)?];
-    let mut graph = Graph::new(alloc, source);
-    let base = bases_of(alloc, merge, &[first], &mut graph).ok()??;
-    let octopus = octopus_of(alloc, merge, &[first, second], &mut graph).ok()?;
-    let none = bases_of(alloc, second, &[root], &mut graph).ok()?;
-    Some(base.len() == 1 && *base.first() == first && octopus == Some(second) && none.is_none())
+/// The ids of the file's commits, by their positions: the octopus merge, its first and its second parent, and the
+/// roots of both.
+#[derive(Clone, Copy)]
+struct Ids {
+    merge: ObjectId,
+    first: ObjectId,
+    second: ObjectId,
+    root: ObjectId,
+    other_root: ObjectId,
 }
 
-/// How the octopus merge is described by the name of the root of its second parent: the four others are ahead of it.
+fn ids_in(source: &LevelledGraph) -> Option<Ids> {
+    let file = source.graph();
+    Some(Ids {
+        merge: file.id(4)?,
+        first: file.id(2)?,
+        second: file.id(0)?,
+        root: file.id(1)?,
+        other_root: file.id(3)?,
+    })
+}
+
+/// Whether these are the bases.
+fn are(bases: &Option<NonEmpty<ObjectId>>, want: &[ObjectId]) -> bool {
+    match bases {
+        None => want.is_empty(),
+        Some(bases) => bases.iter().eq(want.iter()),
+    }
+}
+
+fn has_bases(
+    alloc: Global,
+    first: ObjectId,
+    other: ObjectId,
+    graph: &mut Graph<LevelledGraph, Commit<Flags>>,
+    want: &[ObjectId],
+) -> bool {
+    match bases_of(alloc, first, &[other], graph) {
+        Ok(bases) => are(&bases, want),
+        Err(_) => false,
+    }
+}
+
+fn has_octopus_base(
+    alloc: Global,
+    ids: &Ids,
+    graph: &mut Graph<LevelledGraph, Commit<Flags>>,
+) -> bool {
+    match octopus_of(alloc, ids.merge, &[ids.first, ids.second], graph) {
+        Ok(base) => base == Some(ids.second),
+        Err(_) => false,
+    }
+}
+
+/// Whether the first parent is the base of the octopus merge and itself, two commits without a common ancestor have none,
+/// and the second parent is the octopus base of the merge and both.
+fn are_answered(alloc: Global) -> bool {
+    let Some(source) = levelled(alloc) else {
+        return false;
+    };
+    keys_fall(&source);
+    let Some(ids) = ids_in(&source) else {
+        return false;
+    };
+    let mut graph = Graph::new(alloc, source);
+    has_bases(alloc, ids.merge, ids.first, &mut graph, &[ids.first])
+        && has_bases(alloc, ids.second, ids.other_root, &mut graph, &[])
+        && has_octopus_base(alloc, &ids, &mut graph)
+}
+
+/// How the octopus merge is described by the name of a root: the four others are ahead of it.
 fn description(alloc: Global) -> Option<String> {
     let source = levelled(alloc)?;
-    let [merge, root] = [source.graph().id(4)?, source.graph().id(1)?];
+    let ids = ids_in(&source)?;
     let mut options = Options::new(alloc);
     let name = CowSlice::Borrowed(b"v1".as_slice());
-    options.name_by_oid.insert(root, name).ok()?;
+    options.name_by_oid.insert(ids.root, name).ok()?;
     let mut graph = Graph::new(alloc, source);
-    let outcome = description_of(alloc, &merge, &mut graph, options).ok()??;
+    let outcome = description_of(alloc, &ids.merge, &mut graph, options).ok()??;
     format!(in alloc; "{}", outcome.into_format(7)).ok()
 }
 
-/// Whether a commit that came after the file, a child of the octopus merge, has with that merge's first parent this as base.
-fn is_joined(alloc: Global) -> Option<bool> {
-    let file = levelled(alloc)?;
-    let [merge, first] = [file.graph().id(4)?, file.graph().id(2)?];
+/// A commit that the file lacks.
+const NEWER: ObjectId = ObjectId([1; 20]);
+
+/// A source that has it, without a generation, as a child of another commit.
+fn newer_than(alloc: Global, parent: ObjectId) -> Option<MemorySource> {
     let child = SourceCommit {
-        parents: [merge].to_vec(alloc).ok()?,
+        parents: [parent].to_vec(alloc).ok()?,
         time: 0,
         generation: None,
     };
     let mut newer = MemorySource::new(alloc);
-    newer.insert(ObjectId([1; 20]), child).ok()?;
+    newer.insert(NEWER, child).ok()?;
+    Some(newer)
+}
+
+/// Whether the octopus merge is the base of its newer child and itself.
+fn is_joined(alloc: Global) -> bool {
+    let Some(file) = levelled(alloc) else {
+        return false;
+    };
+    let Some(merge) = file.graph().id(4) else {
+        return false;
+    };
+    let Some(newer) = newer_than(alloc, merge) else {
+        return false;
+    };
     let mut graph = Graph::new(alloc, Joined { file, newer });
-    let base = bases_of_all(alloc, ObjectId([1; 20]), &[first], &mut graph).ok()??;
-    Some(base.len() == 1 && *base.first() == first)
+    match bases_of_all(alloc, NEWER, &[merge], &mut graph) {
+        Ok(bases) => are(&bases, &[merge]),
+        Err(_) => false,
+    }
 }
 
 #[test]
 fn a_file_is_asked(rt: HostRuntime) {
-    assert!(rt; are_answered(rt.alloc()) == Some(true));
+    assert!(rt; are_answered(rt.alloc()));
     assert!(rt; description(rt.alloc()).as_deref() == Some("v1-4-gc5f95b3"));
-    assert!(rt; is_joined(rt.alloc()) == Some(true));
+    assert!(rt; is_joined(rt.alloc()));
 }

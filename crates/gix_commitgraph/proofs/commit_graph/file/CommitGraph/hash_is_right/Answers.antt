@@ -1,4 +1,4 @@
-use Rattle.std.proofs.Common.{◌≡◌, ◌↔◌, ◌∙◌, List, ℕ, IsTrue, ap, sym, subst}
+use Rattle.std.proofs.Common.{◌↔◌, ◌∙◌, List, ℕ, IsTrue, subst}
 use Rattle.gix_commitgraph.specs.FileHash.{HashIsRight}
 use Rattle.gix_commitgraph.proofs.Hashed.{hash-tells}
 use Rattle.gix_commitgraph.proofs.commit_graph.file.CommitGraph.hash_is_right.Goals as goal

@@ -1,4 +1,4 @@
-use Rattle.std.proofs.Common.{◌≡◌, ℕ, ◌^◌, ◌<◌, List, IsTrue, Bool, true, false, subst}
+use Rattle.std.proofs.Common.{◌≡◌, ℕ, ◌^◌, ◌<◌, List, IsTrue, true, false, subst}
 use Rattle.gix_commitgraph.specs.FileCommits.{level_at}
 use Rattle.gix_commitgraph.specs.FileLevels.{is_above}
 use Rattle.gix_commitgraph.proofs.Falling.{levelled, levels-fall, fall-tells}
