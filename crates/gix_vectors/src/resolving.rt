@@ -235,7 +235,7 @@ gone^0 => P25 (0) no such commit
 main^{/fix} => P10 (fix) not supported here
 @{-1} => P20 (-1) not supported here
  => P5 no revision
-^{} => P5 no revision
+^{} => P12 ({}) no such name
 no..2222 => P12 (no..2222) no such name
 ",
 };
