@@ -93,8 +93,21 @@ pub(crate) struct Node<T> {
 /// A part of a list: where it begins, and how long it is.
 #[derive(Clone, Copy)]
 pub(crate) struct Row {
-    pub(crate) start: usize,
-    pub(crate) len: usize,
+    pub(crate) start: u32,
+    pub(crate) len: u32,
+}
+
+impl Row {
+    /// The part of a list that begins at a place; refused where there is no number for it.
+    pub(crate) fn of(start: usize, len: usize) -> Result<Row, AllocError>
+        ensures start { IfOk result (λ row. row.start ≡ start) }
+        ensures len { IfOk result (λ row. row.len ≡ len) }
+    {
+        match (u32::try_from(start), u32::try_from(len)) {
+            (Ok(start), Ok(len)) => Ok(Row { start, len }),
+            _ => Err(AllocError),
+        }
+    }
 }
 
 /// Ids that were asked for, with one value beside each, over the source that they came from.

@@ -605,7 +605,10 @@ fn row_of<S: Find, D: Drop, A: Allocator>(
     ensures ids { map (λ e. e.0) graph.now.marked ≡ held_ids graph.now }
 {
     match graph.nodes[number.place()].row {
-        Some(row) => Some(&graph.edges[row.start..row.start + row.len]),
+        Some(row) => {
+            let start = row.start as usize;
+            Some(&graph.edges[start..start + row.len as usize])
+        }
         None => None,
     }
 }
@@ -627,14 +630,14 @@ fn remember<S: Find, D: Drop, A: Allocator>(
         return;
     }
     let start = graph.edges.len();
+    let Ok(kept) = Row::of(start, row.len()) else {
+        return;
+    };
     if graph.edges.extend_from_slice(row).is_err() {
         return;
     }
     let node = &mut graph.nodes[number.place()];
-    node.row = Some(Row {
-        start,
-        len: row.len(),
-    });
+    node.row = Some(kept);
 }
 
 /// Puts the numbers of those parents of a commit that the source has into `into`, in order, in

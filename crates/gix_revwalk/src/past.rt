@@ -6,8 +6,10 @@
 
 ghost use Rattle.std.specs.Prelude.{◌≡◌, ◌≤◌, ◌+◌, [], is_some, false, cond, Some, None, IfSome, IfOk, OnOk, OnErr, map, take, drop, length};
 ghost use Rattle.std.specs.Option.{option_map};
+ghost use Rattle.std.specs.Int.{w64, to_le_bytes, from_le_bytes};
 ghost use Rattle.gix_base.specs.declared.hash.ObjectId.{ObjectId};
 ghost use Rattle.gix_revwalk.specs.History.{same_id};
+ghost use Rattle.gix_revwalk.specs.Words.{eight_from};
 ghost use Rattle.gix_revwalk.specs.Number.{place_in};
 ghost use Rattle.gix_revwalk.specs.Pasts.{home_in, told_in, spot_in, link_id, SameHomes, SameTold};
 
@@ -41,16 +43,39 @@ pub struct Link {
 /// No guess: there is no such spot.
 pub const NOWHERE: usize = usize::MAX;
 
-/// Whether two ids have the same bytes. All are compared, without an early end: so it takes a few instructions.
+/// Eight bytes of an id as a number, from a place on.
+#[inline(always)]
+fn word(id: &ObjectId, at: usize) -> u64
+    requires { at + 8 ≤ 20 }
+    ensures value { result ≡ from_le_bytes w64 (eight_from id.now.0 at) }
+    ensures bytes { to_le_bytes w64 result ≡ eight_from id.now.0 at }
+    ensures len { length id.now.0 ≡ 20 }
+{
+    let bytes = &id.0;
+    u64::from_le_bytes([
+        bytes[at],
+        bytes[at + 1],
+        bytes[at + 2],
+        bytes[at + 3],
+        bytes[at + 4],
+        bytes[at + 5],
+        bytes[at + 6],
+        bytes[at + 7],
+    ])
+}
+
+/// Whether two ids have the same bytes, by words of them, the last of which overlap.
 #[inline(always)]
 pub(crate) fn is_same(a: &ObjectId, b: &ObjectId) -> bool
     ensures { result ≡ same_id a.now b.now }
 {
-    let mut differs = false;
-    for i in 0..20 {
-        differs |= a.0[i] != b.0[i];
+    if word(a, 0) != word(b, 0) {
+        return false;
     }
-    !differs
+    if word(a, 8) != word(b, 8) {
+        return false;
+    }
+    word(a, 12) == word(b, 12)
 }
 
 /// What is remembered, by spots, with an index from ids to their spots, and the parents of all commits of
@@ -205,12 +230,10 @@ impl<A: Allocator + Copy> Past<A> {
     {
         let spot = self.enter(id, NOWHERE)?;
         let start = self.parents.len();
+        let row = Row::of(start, parents.len())?;
         self.parents.extend_from_slice(parents)?;
         let memory = &mut self.memories[spot];
-        memory.row = Some(Row {
-            start,
-            len: parents.len(),
-        });
+        memory.row = Some(row);
         memory.time = time;
         Ok(spot)
     }
@@ -258,10 +281,10 @@ impl<A: Allocator + Copy> Past<A> {
             (map link_id into.new.items ≡ take row.len (drop row.start self.old.parents)) }
         ensures same { self.new ≡ self.old }
     {
-        for i in 0..row.len {
+        for i in 0..row.len as usize {
             // No place is past the end of the parents.
             let _count = self.parents.len();
-            let at = row.start + i;
+            let at = row.start as usize + i;
             let id = self.parents[at];
             let spot = self.guess(at, &id)?;
             into.push(Link { id, spot })?;

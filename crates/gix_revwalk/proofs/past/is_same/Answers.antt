@@ -1,28 +1,33 @@
-use Rattle.std.proofs.Common.{rules, ◌≡◌, ◌||◌, ◌∙◌, ap, sym, not, take, length, nat_eq, slice_index, arith}
-use Rattle.std.specs.Cmp.Lexicographic.{pointwise}
-use Rattle.std.proofs.lemmas.List.{take_all}
-use Rattle.gix_revwalk.proofs.Ids.{same-more, not-not, not-both}
+use Rattle.std.proofs.Common.{arith, ◌≡◌, ◌∙◌, true, false, nat_eq, length, ap, sym, refl}
+use Rattle.std.specs.Int.{w64, to_le_bytes, from_le_bytes}
+use Rattle.std.proofs.lemmas.Bool.{eqb-true, eq-eqb}
+use Rattle.gix_base.specs.declared.hash.ObjectId.{ObjectId}
+use Rattle.gix_revwalk.specs.History.{same_id}
+use Rattle.gix_revwalk.specs.Words.{eight_from}
+use Rattle.gix_revwalk.proofs.Ids.{same_id-true, words-same}
 use Rattle.gix_revwalk.proofs.past.is_same.Goals as goal
-
-pub loop-i-preserved : goal.loop-i-preserved
-loop-i-preserved c =
-    let xs = c.args.a.now.0 in
-    let ys = c.args.b.now.0 in
-    let i = c.loop-i.i in
-    let len_a : length xs ≡ 20 = search rules in
-    let len_b : length ys ≡ 20 = search rules in
-    let lt = c.loop-i-test.true in
-    ap (λ d. d || not (nat_eq (slice_index xs i) (slice_index ys i))) c.loop-i.invariant
-    ∙ not-both (pointwise nat_eq (take i xs) (take i ys)) (nat_eq (slice_index xs i) (slice_index ys i))
-    ∙ sym (ap not (same-more xs ys i (omega arith) (omega arith)))
 
 pub returns : goal.returns
 returns c =
-    let xs = c.args.a.now.0 in
-    let ys = c.args.b.now.0 in
-    let len_a : length xs ≡ 20 = search rules in
-    let len_b : length ys ≡ 20 = search rules in
-    let ge = c.loop-i-test.false in
-    ap not c.loop-i.invariant ∙ not-not (pointwise nat_eq (take c.loop-i.i xs) (take c.loop-i.i ys))
-    ∙ ap (λ l. pointwise nat_eq l (take c.loop-i.i ys)) (take_all c.loop-i.i xs (omega arith))
-    ∙ ap (pointwise nat_eq xs) (take_all c.loop-i.i ys (omega arith))
+    let a = c.args.a.now in
+    let b = c.args.b.now in
+    let x = c.word-5.result in
+    let y = c.word-6.result in
+    let len_a : length a.0 ≡ 20 = c.word.ensures.len in
+    let len_b : length b.0 ≡ 20 = c.word-2.ensures.len in
+    let first : c.word.result ≡ c.word-2.result = omega (arith, c.if-word.false) in
+    let second : c.word-3.result ≡ c.word-4.result = omega (arith, c.if-word-2.false) in
+    elim (same_id a b) as (λ s. same_id a b ≡ s → nat_eq x y ≡ s) [
+      | true ↦ λ e. eq-eqb x y
+          (c.word-5.ensures.value ∙ ap (λ (i : ObjectId). from_le_bytes w64 (eight_from i.0 12)) (same_id-true a b e) ∙ sym c.word-6.ensures.value)
+      | false ↦ λ e. elim (nat_eq x y) as (λ t. nat_eq x y ≡ t → t ≡ false) [
+        | true ↦ λ t.
+            let third = eqb-true x y t in
+            let same : same_id a b ≡ true = words-same a b len_a len_b
+            (sym c.word.ensures.bytes ∙ ap (to_le_bytes w64) first ∙ c.word-2.ensures.bytes)
+            (sym c.word-3.ensures.bytes ∙ ap (to_le_bytes w64) second ∙ c.word-4.ensures.bytes)
+            (sym c.word-5.ensures.bytes ∙ ap (to_le_bytes w64) third ∙ c.word-6.ensures.bytes) in
+            cc
+        | false ↦ λ _. refl
+      ] refl
+    ] refl
