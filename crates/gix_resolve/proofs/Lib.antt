@@ -23,3 +23,15 @@ pub mod ListAlone
 pub mod ListPages
 pub mod StepTaken
 pub mod StepAsked
+pub mod ReachFront
+pub mod ReachGives
+pub mod ReachSides
+pub mod ReachMarks
+pub mod ReachCounts
+pub mod ReachEnter
+pub mod ReachNext
+pub mod ReachSteps
+pub mod ReachShown
+pub mod ReachCounted
+pub mod ReachTaken
+pub mod Newest

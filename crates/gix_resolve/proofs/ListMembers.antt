@@ -10,10 +10,7 @@ use Rattle.gix_revwalk.proofs.Members.{nothing, one_is_distinct, one_of-left, on
 use Rattle.gix_spec.specs.declared.spec.Spec.{Spec}
 use Rattle.gix_spec.specs.declared.spec.Spec.TheVariants.{Include, Exclude, Range, Merge, IncludeOnlyParents, ExcludeParents}
 use Rattle.gix_resolve.specs.ListMeaning.{IsMeant}
-
--- what the shown ones reach and the hidden ones do not
-abbrev pub IsBeyond : History → (hidden shown : List ObjectId) → ObjectId → Type 0
-IsBeyond h hidden shown c = IsAncestorOfOne h shown c × (¬ IsAncestorOfOne h hidden c)
+use Rattle.gix_resolve.specs.Reachable.{IsBeyond}
 
 -- the ancestors of one commit
 pub of-one : (h : History) (a c : ObjectId) → IsAncestorOfOne h (a ∷ []) c → IsAncestor h a c

@@ -33,7 +33,7 @@ above_parents h id ps q has is k =
     anc-trans h id k.0 q (further id k.0 (itself has) (subst (λ l. IsTrue (is_one_of l k.0)) is k.1, (has_ancestor h k.0 q k.2).1)) k.2
 
 -- two starts, in either order
-swapped : (h : History) (a b q : ObjectId) → IsAncestorOfOne h (a ∷ b ∷ []) q → IsAncestorOfOne h (b ∷ a ∷ []) q
+pub swapped : (h : History) (a b q : ObjectId) → IsAncestorOfOne h (a ∷ b ∷ []) q → IsAncestorOfOne h (b ∷ a ∷ []) q
 swapped h a b q k = elim (one_of-cons_cases a (b ∷ []) k.0 k.1) as (λ _. IsAncestorOfOne h (b ∷ a ∷ []) q) [
   | inl is ↦ (k.0, subst (λ z. IsTrue (is_one_of (b ∷ a ∷ []) z)) (sym is) (one_of-tail b (a ∷ []) a (one_of-head a [])), k.2)
   | inr m ↦ (k.0, subst (λ z. IsTrue (is_one_of (b ∷ a ∷ []) z)) (sym (one_of-single b k.0 m)) (one_of-head b (a ∷ [])), k.2)

@@ -8,9 +8,11 @@ ghost use Rattle.gix_resolve.specs.ListMeaning.{ListsMeant, IsPage, past};
 ghost use Rattle.gix_resolve.specs.Taken.{TakesOnly, IsLookedAt, is_exclude};
 
 mod members;
+mod newest;
 mod walk;
 
 use crate::list::members::members;
+pub use crate::list::newest::newest_first;
 use gix_revision::graph::{self, Commit, Find, Graph};
 use gix_revision::hash::ObjectId;
 use gix_revision::merge_base::Flags;

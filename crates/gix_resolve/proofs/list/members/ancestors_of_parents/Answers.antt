@@ -8,7 +8,8 @@ use Rattle.gix_merge_base.proofs.QueueKeys.{number-id}
 use Rattle.gix_spec.specs.declared.spec.Spec.TheVariants.{IncludeOnlyParents}
 use Rattle.gix_resolve.specs.ListMeaning.{IsMeant}
 use Rattle.gix_revwalk.proofs.Growth.{more-taken}
-use Rattle.gix_resolve.proofs.ListMembers.{IsBeyond, if-ok, lists-parents, lists-no_parents}
+use Rattle.gix_resolve.specs.Reachable.{IsBeyond}
+use Rattle.gix_resolve.proofs.ListMembers.{if-ok, lists-parents, lists-no_parents}
 use Rattle.gix_resolve.proofs.ListTaken.{only_held, only_itself, only_above}
 use Rattle.gix_resolve.proofs.list.members.ancestors_of_parents.Goals as goal
 

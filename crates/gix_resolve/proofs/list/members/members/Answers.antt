@@ -3,7 +3,8 @@ use Rattle.gix_revwalk.specs.History.{IsAncestor, IsAncestorOfOne}
 use Rattle.gix_revwalk.specs.Sizes.{Lists}
 use Rattle.gix_spec.specs.declared.spec.Spec.TheVariants.{Include, Range}
 use Rattle.gix_resolve.specs.ListMeaning.{IsMeant}
-use Rattle.gix_resolve.proofs.ListMembers.{IsBeyond, of-one, if-ok, lists-include, lists-exclude, lists-range}
+use Rattle.gix_resolve.specs.Reachable.{IsBeyond}
+use Rattle.gix_resolve.proofs.ListMembers.{of-one, if-ok, lists-include, lists-exclude, lists-range}
 use Rattle.gix_resolve.proofs.ListTaken.{only_same, only_wider}
 use Rattle.gix_resolve.proofs.list.members.members.Goals as goal
 

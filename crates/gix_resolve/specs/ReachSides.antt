@@ -1,0 +1,89 @@
+-- A walk from two sides: what the first side alone reaches is wanted and, where `both` is set, also what the second one
+-- alone reaches.
+use Rattle.std.specs.Prelude.{◌≡◌, ◌<◌, ◌≤◌, ◌+◌, ℕ, min, length, Bool, true, false, List, ◌∷◌, ◌++◌, IsTrue, ◌&&◌, not, cond, ◌⊎◌}
+use Rattle.std.specs.List.{IsDistinct}
+use Rattle.std.specs.List.Sorted.{IsPermutation}
+use Rattle.gix_base.specs.declared.hash.ObjectId.{ObjectId}
+use Rattle.gix_revwalk.specs.History.{History, Has, IsEdge, IsAncestorOfOne, generation_of, is_one_of, same_id}
+use Rattle.gix_revwalk.specs.Sizes.{HasSize, AtMost}
+use Rattle.gix_resolve.specs.Reachable.{IsBeyond}
+use Rattle.gix_merge_base.specs.Marks.{MarkSet, HasMarksOf}
+use Rattle.gix_merge_base.specs.PaintSteps.{Covers, total}
+use Rattle.gix_merge_base.specs.Premises.{GenerationsNeverRiseFrom}
+
+-- a commit with these marks is not wanted, whatever further marks it gains
+abbrev pub hides : Bool → MarkSet → Bool
+hides true m = m.one && m.two
+hides false m = m.two
+
+-- a commit with these marks, and no further ones, is wanted
+abbrev pub shows : Bool → MarkSet → Bool
+shows both m = cond m.one (not m.two) (both && m.two)
+
+-- the first side alone reaches a commit with these marks
+abbrev pub is_first_alone : MarkSet → Bool
+is_first_alone m = m.one && not m.two
+
+-- the second side alone does
+abbrev pub is_second_alone : MarkSet → Bool
+is_second_alone m = m.two && not m.one
+
+-- the marks w were handed to those of ps that the history has, but for hidden ones, and those that
+-- lacked one were opened
+pub record Gives (h : History) (both : Bool) (w : MarkSet) (ps : List ObjectId) (m : ObjectId → MarkSet) (q : List ObjectId) (m' : ObjectId → MarkSet) (q' : List ObjectId) : Type 0 where
+  pub more : (c : ObjectId) → HasMarksOf (m c) (m' c)
+  pub changed : (c : ObjectId) → (m' c ≡ m c) ⊎ IsTrue (is_one_of q' c)
+  pub stay : (c : ObjectId) → IsTrue (is_one_of q c) → IsTrue (is_one_of q' c)
+  pub from : (c : ObjectId) → IsTrue (is_one_of q' c) → IsTrue (is_one_of q c) ⊎ (IsTrue (is_one_of ps c) × Has h c)
+  pub one : (c : ObjectId) → IsTrue (m' c).one → IsTrue (m c).one ⊎ (IsTrue w.one × IsTrue (is_one_of ps c) × Has h c)
+  pub two : (c : ObjectId) → IsTrue (m' c).two → IsTrue (m c).two ⊎ (IsTrue w.two × IsTrue (is_one_of ps c) × Has h c)
+  pub stale : (c : ObjectId) → IsTrue (m' c).stale → IsTrue (m c).stale ⊎ (IsTrue w.stale × IsTrue (is_one_of ps c) × Has h c)
+  pub gets : (p : ObjectId) → IsTrue (is_one_of ps p) → Has h p → HasMarksOf w (m' p) ⊎ IsTrue (hides both (m' p))
+  pub spends : (ids : List ObjectId) → Covers ids m' → length q' + total ids m ≤ length q + total ids m'
+
+-- between two steps of a walk from the sides xs and ys: m are the marks, q the open commits, and
+-- bound the least generation of those that were taken while they were not hidden
+pub record Walked (h : History) (xs ys : List ObjectId) (both : Bool) (m : ObjectId → MarkSet) (q : List ObjectId) (bound : ℕ) : Type 0 where
+  pub one : (c : ObjectId) → IsTrue (m c).one → IsAncestorOfOne h xs c
+  pub two : (c : ObjectId) → IsTrue (m c).two → IsAncestorOfOne h ys c
+  pub fresh : (c : ObjectId) → (m c).stale ≡ false
+  pub from : (c : ObjectId) → IsTrue (is_one_of q c) → IsAncestorOfOne h (xs ++ ys) c
+  pub begun_one : (c : ObjectId) → IsTrue (is_one_of xs c) → Has h c → IsTrue (m c).one ⊎ IsTrue (hides both (m c))
+  pub begun_two : (c : ObjectId) → IsTrue (is_one_of ys c) → Has h c → IsTrue (m c).two
+  -- what is not open has handed its marks on, but for parents that are hidden
+  pub on_one : (c p : ObjectId) → is_one_of q c ≡ false → IsEdge h c p → IsTrue (m c).one → IsTrue (m p).one ⊎ IsTrue (hides both (m p))
+  pub on_two : (c p : ObjectId) → is_one_of q c ≡ false → IsEdge h c p → IsTrue (m c).two → IsTrue (m p).two
+  pub least : (c : ObjectId) → is_one_of q c ≡ false → IsTrue (shows both (m c)) → bound ≤ generation_of h c
+
+-- each open commit is hidden, and has a smaller generation than what was taken and not hidden
+abbrev pub IsOver : History → Bool → (ObjectId → MarkSet) → List ObjectId → ℕ → Type 0
+IsOver h both m q least = (c : ObjectId) → IsTrue (is_one_of q c) → IsTrue (hides both (m c)) × (generation_of h c < least)
+
+-- id leaves the open commits
+pub record Takes (h : History) (both : Bool) (id : ObjectId) (m : ObjectId → MarkSet) (q : List ObjectId) (bound : ℕ) (r : List ObjectId) (next : ℕ) : Type 0 where
+  pub queue : IsPermutation q (id ∷ r)
+  pub least : next ≡ cond (hides both (m id)) bound (min bound (generation_of h id))
+
+-- what marks say at the end of a walk from the sides xs and ys
+pub record Sees (h : History) (xs ys : List ObjectId) (both : Bool) (m : ObjectId → MarkSet) : Type 0 where
+  pub one : (c : ObjectId) → IsTrue (m c).one → IsAncestorOfOne h xs c
+  pub two : (c : ObjectId) → IsTrue (m c).two → IsAncestorOfOne h ys c
+  pub first : (c : ObjectId) → IsBeyond h ys xs c → IsTrue (is_first_alone (m c))
+  pub second : IsTrue both → (c : ObjectId) → IsBeyond h xs ys c → IsTrue (is_second_alone (m c))
+  pub no_second : GenerationsNeverRiseFrom h (xs ++ ys) → (c : ObjectId) → IsTrue (is_first_alone (m c)) → ¬ IsAncestorOfOne h ys c
+  pub no_first : GenerationsNeverRiseFrom h (xs ++ ys) → IsTrue both → (c : ObjectId) → IsTrue (is_second_alone (m c)) → ¬ IsAncestorOfOne h xs c
+
+-- ids has what the first side alone reaches, each once; where a generation rises, perhaps more of what that side reaches
+pub record ListsFirst (h : History) (xs ys : List ObjectId) (ids : List ObjectId) : Type 0 where
+  pub once : IsDistinct same_id ids
+  pub every : (c : ObjectId) → IsBeyond h ys xs c → IsTrue (is_one_of ids c)
+  pub may : (c : ObjectId) → IsTrue (is_one_of ids c) → IsAncestorOfOne h xs c
+  pub exact : GenerationsNeverRiseFrom h (xs ++ ys) → (c : ObjectId) → IsTrue (is_one_of ids c) → IsBeyond h ys xs c
+
+-- n is how many commits the first side alone reaches, and k how many the second side alone where both are wanted; where a
+-- generation rises, perhaps more
+pub record CountsSides (h : History) (xs ys : List ObjectId) (both : Bool) (n k : ℕ) : Type 0 where
+  pub first : GenerationsNeverRiseFrom h (xs ++ ys) → HasSize (IsBeyond h ys xs) n
+  pub first_most : AtMost n (IsBeyond h ys xs)
+  pub second : GenerationsNeverRiseFrom h (xs ++ ys) → IsTrue both → HasSize (IsBeyond h xs ys) k
+  pub second_most : IsTrue both → AtMost k (IsBeyond h xs ys)

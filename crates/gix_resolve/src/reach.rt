@@ -1,0 +1,201 @@
+//! What some commits reach and some others do not, listed or counted by a walk that ends early where
+//! generations are known: git-rev-list, "Description".
+
+ghost use Rattle.std.specs.Prelude.{◌≡◌, ◌∷◌, ◌++◌, [], IfOk, true};
+ghost use Rattle.gix_revwalk.specs.Faults.{count_after, is_source_fault};
+ghost use Rattle.gix_revwalk.specs.Graph.{KeepsHeld};
+ghost use Rattle.gix_revwalk.specs.GraphAfter.{GraphAfter};
+ghost use Rattle.gix_revwalk.specs.History.{IsAncestorOfOne};
+ghost use Rattle.gix_revwalk.specs.Sizes.{HasSize, AtMost};
+ghost use Rattle.gix_revwalk.specs.Walks.{HoldsMore};
+ghost use Rattle.gix_merge_base.specs.Premises.{GenerationsNeverRiseFrom};
+ghost use Rattle.gix_spec.specs.declared.spec.Spec.TheVariants.{Range};
+ghost use Rattle.gix_resolve.specs.ListErrors.{is_list_source_fault};
+ghost use Rattle.gix_resolve.specs.ListMeaning.{IsMeant};
+ghost use Rattle.gix_resolve.specs.Reachable.{IsBeyond, ListsBeyond, CoversBeyond};
+ghost use Rattle.gix_resolve.specs.ReachSides.{CountsSides};
+ghost use Rattle.gix_resolve.specs.Taken.{TakesOnly};
+
+mod count;
+mod front;
+mod hand;
+mod sides;
+mod walk;
+
+use crate::list::ListError;
+use crate::reach::count::{counted, listed};
+use gix_revision::graph::{self, Commit, Find, Graph};
+use gix_revision::hash::ObjectId;
+use gix_revision::merge_base::Flags;
+use gix_revwalk::numbers;
+use std::alloc::Allocator;
+
+/// The commits that one of `include` reaches and none of `exclude` does, each once, in rising order
+/// of their ids: git-rev-list, "Description". A commit reaches itself; an id that the source lacks
+/// reaches nothing.
+///
+/// It looks no further than generations ask for. No parent that the ids reach may have a greater
+/// generation than its child, an absent one counting as the greatest; where one has, the answer has
+/// all that is asked for, and beside it nothing but what `include` reaches.
+///
+/// What the graph held it still holds, refused or not; the data beside it may have changed. What it
+/// newly holds is reached from one of the ids.
+///
+/// # Errors
+///
+/// As [`commits`](crate::commits).
+pub fn reachable<S: Find, A: Allocator + Copy>(
+    alloc: A,
+    include: &[ObjectId],
+    exclude: &[ObjectId],
+    graph: &mut Graph<S, Commit<Flags, A>, A>,
+) -> Result<Vec<ObjectId, A>, ListError>
+    ensures reached { GenerationsNeverRiseFrom (S.history graph.old.source) (include.now ++ exclude.now)
+        → IfOk result
+        (λ ids. ListsBeyond (S.history graph.old.source) exclude.now include.now ids.items) }
+
+    // Whatever generations are.
+    ensures covers { IfOk result
+        (λ ids. CoversBeyond (S.history graph.old.source) exclude.now include.now ids.items) }
+
+    ensures history { S.history graph.new.source ≡ S.history graph.old.source }
+    ensures count { S.fault_count graph.new.source
+        ≡ count_after (is_list_source_fault result) (S.fault_count graph.old.source) }
+    ensures held { KeepsHeld graph.old graph.new }
+    ensures taken { TakesOnly (IsAncestorOfOne (S.history graph.old.source)
+        (include.now ++ exclude.now)) graph.old graph.new }
+{
+    let mut ids = listed(alloc, include, exclude, graph)?;
+    ids.sort_unstable();
+    Ok(ids)
+}
+
+/// How many commits [`reachable`] lists: git-rev-list, "--count". None is listed or sorted.
+///
+/// The premise is that of [`reachable`]; without it there may be more, and no fewer.
+///
+/// # Errors
+///
+/// As [`commits`](crate::commits).
+pub fn count_reachable<S: Find, A: Allocator + Copy>(
+    alloc: A,
+    include: &[ObjectId],
+    exclude: &[ObjectId],
+    graph: &mut Graph<S, Commit<Flags, A>, A>,
+) -> Result<usize, ListError>
+    ensures size { GenerationsNeverRiseFrom (S.history graph.old.source) (include.now ++ exclude.now)
+        → IfOk result
+        (λ n. HasSize (IsBeyond (S.history graph.old.source) exclude.now include.now) n) }
+
+    // Whatever generations are.
+    ensures most { IfOk result
+        (λ n. AtMost n (IsBeyond (S.history graph.old.source) exclude.now include.now)) }
+
+    ensures history { S.history graph.new.source ≡ S.history graph.old.source }
+    ensures count { S.fault_count graph.new.source
+        ≡ count_after (is_list_source_fault result) (S.fault_count graph.old.source) }
+    ensures held { KeepsHeld graph.old graph.new }
+    ensures taken { TakesOnly (IsAncestorOfOne (S.history graph.old.source)
+        (include.now ++ exclude.now)) graph.old graph.new }
+{
+    let counts = counted(alloc, include, exclude, false, graph)?;
+    Ok(counts.0)
+}
+
+/// The time of a commit, which is taken in from the source unless it is held; the least of all where
+/// the source lacks it.
+fn time_of<S: Find, A: Allocator + Copy>(
+    alloc: A,
+    id: ObjectId,
+    graph: &mut Graph<S, Commit<Flags, A>, A>,
+) -> Result<i64, graph::Error>
+    ensures taken { HoldsMore (S.history graph.old.source) (id ∷ []) graph.old graph.new }
+    ensures after { GraphAfter S.history S.fault_count is_source_fault graph.old graph.new result }
+{
+    let Some(number) = numbers::take(graph, alloc, id, Flags::default())? else {
+        return Ok(i64::MIN);
+    };
+    Ok(numbers::value(graph, number).commit_time())
+}
+
+/// Whether the first of two commits is the newer one.
+fn is_newer<S: Find, A: Allocator + Copy>(
+    alloc: A,
+    first: ObjectId,
+    second: ObjectId,
+    graph: &mut Graph<S, Commit<Flags, A>, A>,
+) -> Result<bool, graph::Error>
+    ensures taken { TakesOnly (IsAncestorOfOne (S.history graph.old.source)
+        (first ∷ second ∷ [])) graph.old graph.new }
+    ensures after { GraphAfter S.history S.fault_count is_source_fault graph.old graph.new result }
+{
+    let time = time_of(alloc, first, graph)?;
+    Ok(time > time_of(alloc, second, graph)?)
+}
+
+/// How many commits `ours` alone reaches of the two, and how many `theirs` alone; where a generation rises,
+/// perhaps more.
+fn counted_both<S: Find, A: Allocator + Copy>(
+    alloc: A,
+    ours: ObjectId,
+    theirs: ObjectId,
+    graph: &mut Graph<S, Commit<Flags, A>, A>,
+) -> Result<(usize, usize), graph::Error>
+    ensures counts { IfOk result (λ r.
+        CountsSides (S.history graph.old.source) (ours ∷ []) (theirs ∷ []) true r.0 r.1) }
+    ensures taken { TakesOnly (IsAncestorOfOne (S.history graph.old.source)
+        (ours ∷ theirs ∷ [])) graph.old graph.new }
+    ensures after { GraphAfter S.history S.fault_count is_source_fault graph.old graph.new result }
+{
+    // Without generations the side that is followed first, the second one, should reach the other one, and so
+    // be the newer one: else what both reach is gone over twice.
+    if is_newer(alloc, ours, theirs, graph)? {
+        let (behind, ahead) = counted(alloc, &[theirs], &[ours], true, graph)?;
+        Ok((ahead, behind))
+    } else {
+        counted(alloc, &[ours], &[theirs], true, graph)
+    }
+}
+
+/// How many commits `ours` reaches and `theirs` does not, and how many the other way round:
+/// git-rev-list, "--left-right" with "--count". A commit reaches itself; an id that the source lacks
+/// reaches nothing.
+///
+/// One walk counts both, and none is listed or sorted. It looks no further than generations ask for; the
+/// premise is that of [`reachable`], and without it either count may be greater, and not less.
+///
+/// What the graph held it still holds, refused or not; the data beside it may have changed. What it
+/// newly holds is reached from one of the two.
+///
+/// # Errors
+///
+/// As [`commits`](crate::commits).
+pub fn ahead_behind<S: Find, A: Allocator + Copy>(
+    alloc: A,
+    ours: ObjectId,
+    theirs: ObjectId,
+    graph: &mut Graph<S, Commit<Flags, A>, A>,
+) -> Result<(usize, usize), ListError>
+    ensures ahead { GenerationsNeverRiseFrom (S.history graph.old.source) (ours ∷ theirs ∷ [])
+        → IfOk result
+        (λ r. HasSize (IsMeant (S.history graph.old.source) (Range theirs ours)) r.0) }
+    ensures behind { GenerationsNeverRiseFrom (S.history graph.old.source) (ours ∷ theirs ∷ [])
+        → IfOk result
+        (λ r. HasSize (IsMeant (S.history graph.old.source) (Range ours theirs)) r.1) }
+
+    // Whatever generations are.
+    ensures most_ahead { IfOk result
+        (λ r. AtMost r.0 (IsMeant (S.history graph.old.source) (Range theirs ours))) }
+    ensures most_behind { IfOk result
+        (λ r. AtMost r.1 (IsMeant (S.history graph.old.source) (Range ours theirs))) }
+
+    ensures history { S.history graph.new.source ≡ S.history graph.old.source }
+    ensures count { S.fault_count graph.new.source
+        ≡ count_after (is_list_source_fault result) (S.fault_count graph.old.source) }
+    ensures held { KeepsHeld graph.old graph.new }
+    ensures taken { TakesOnly (IsAncestorOfOne (S.history graph.old.source)
+        (ours ∷ theirs ∷ [])) graph.old graph.new }
+{
+    let counts = counted_both(alloc, ours, theirs, graph)?;
+    Ok(counts)
+}

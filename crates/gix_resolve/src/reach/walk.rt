@@ -1,0 +1,219 @@
+//! A walk from two sides.
+//!
+//! Each commit has the marks of the sides that reach it, and is open while its parents may lack one
+//! of them. The walk takes open commits by falling generation, and ends once none of the open ones
+//! can be wanted and each of them has a smaller generation than what was taken and could be: nothing
+//! that is wanted lies below them, if no generation rises from child to parent.
+
+ghost use Rattle.std.specs.Prelude.{◌≡◌, ◌<◌, ◌-◌, ◌∷◌, ◌++◌, [], cond, min, OnOk, IfOk, IsNone, IsSome, IfSome};
+ghost use Rattle.gix_base.specs.declared.hash.ObjectId.{ObjectId};
+ghost use Rattle.gix_revwalk.specs.Faults.{is_source_fault};
+ghost use Rattle.gix_revwalk.specs.Graph.{held_len, held_ids};
+ghost use Rattle.gix_revwalk.specs.GraphAfter.{GraphAfter};
+ghost use Rattle.gix_revwalk.specs.History.{IsAncestorOfOne};
+ghost use Rattle.gix_revwalk.specs.Number.{place_in};
+ghost use Rattle.gix_revwalk.specs.Walks.{HoldsMore};
+ghost use Rattle.gix_merge_base.specs.Marks.{marks_of};
+ghost use Rattle.gix_merge_base.specs.PaintQueue.{id_at, marks_at, queued_ids};
+ghost use Rattle.gix_resolve.specs.ReachSides.{hides, Gives, Walked, IsOver, Takes, Sees};
+ghost use Rattle.gix_resolve.specs.ReachWalk.{AreMet, IsRight, SameSides};
+ghost use Rattle.gix_resolve.specs.Taken.{TakesOnly};
+
+use crate::reach::front::Front;
+use crate::reach::hand::{hand, hand_parents, mark_of};
+use crate::reach::sides::is_hidden;
+use bitflags::Flags as BitFlags;
+use gix_revision::graph::{Commit, Error, Find, Graph};
+use gix_revision::hash::ObjectId;
+use gix_revision::merge_base::Flags;
+use gix_revwalk::numbers::{self, Mark, Number};
+use std::alloc::{AllocError, Allocator};
+
+/// More than any generation.
+const MORE_THAN_ANY: u64 = 0x1_0000_0000;
+
+/// What a walk from two sides keeps beside its marks.
+#[derive(Drop)]
+pub(crate) struct Walk<A: Allocator> {
+    /// Whether what the second side alone reaches is wanted too.
+    pub(crate) both: bool,
+    /// What has a mark and was not hidden by its first, in the order in which it was met.
+    pub(crate) met: Vec<Number, A>,
+    /// What has marks that its parents may lack.
+    pub(crate) front: Front<A>,
+    /// How many of the open ones are not hidden.
+    pub(crate) unhidden: usize,
+    /// The least generation of those that were taken while they were not hidden; more than any where
+    /// there is none.
+    pub(crate) least: u64,
+}
+
+/// Gives the marks of a side to an id that it begins at, where the source has it.
+fn begin<S: Find, A: Allocator + Copy>(
+    alloc: A,
+    id: ObjectId,
+    marks: Flags,
+    walk: &mut Walk<A>,
+    graph: &mut Graph<S, Commit<Flags, A>, A>,
+) -> Result<(), Error>
+    requires { IsRight (S.history graph.old.source) graph.old walk.old }
+    ensures right { OnOk result (IsRight (S.history graph.old.source) graph.new walk.new) }
+    ensures handed { OnOk result (Gives (S.history graph.old.source) walk.old.both (marks_of marks)
+        (id ∷ [])
+        (marks_at graph.old) (queued_ids graph.old walk.old.front)
+        (marks_at graph.new) (queued_ids graph.new walk.new.front)) }
+    ensures sides { OnOk result (SameSides walk.old walk.new) }
+    ensures taken { HoldsMore (S.history graph.old.source) (id ∷ []) graph.old graph.new }
+    ensures after { GraphAfter S.history S.fault_count is_source_fault graph.old graph.new result }
+{
+    let Some(number) = numbers::take(graph, alloc, id, Flags::empty())? else {
+        return Ok(());
+    };
+    match hand(number, marks, walk, graph) {
+        Ok(()) => Ok(()),
+        Err(AllocError) => Err(Error::OutOfMemory),
+    }
+}
+
+/// Gives the marks of a side to the ids that it begins at.
+fn begin_all<S: Find, A: Allocator + Copy>(
+    alloc: A,
+    ids: &[ObjectId],
+    marks: Flags,
+    walk: &mut Walk<A>,
+    graph: &mut Graph<S, Commit<Flags, A>, A>,
+) -> Result<(), Error>
+    requires { IsRight (S.history graph.old.source) graph.old walk.old }
+    ensures right { OnOk result (IsRight (S.history graph.old.source) graph.new walk.new) }
+    ensures handed { OnOk result (Gives (S.history graph.old.source) walk.old.both (marks_of marks)
+        ids.now
+        (marks_at graph.old) (queued_ids graph.old walk.old.front)
+        (marks_at graph.new) (queued_ids graph.new walk.new.front)) }
+    ensures sides { OnOk result (SameSides walk.old walk.new) }
+    ensures taken { HoldsMore (S.history graph.old.source) ids.now graph.old graph.new }
+    ensures after { GraphAfter S.history S.fault_count is_source_fault graph.old graph.new result }
+{
+    for id in ids {
+        begin(alloc, *id, marks, walk, graph)?;
+    }
+    Ok(())
+}
+
+/// Begins a walk from two sides, the second one last: where no generations are known that one is
+/// followed first.
+fn start<S: Find, A: Allocator + Copy>(
+    alloc: A,
+    first: &[ObjectId],
+    second: &[ObjectId],
+    both: bool,
+    graph: &mut Graph<S, Commit<Flags, A>, A>,
+) -> Result<Walk<A>, Error>
+    ensures right { IfOk result (λ w. IsRight (S.history graph.old.source) graph.new w) }
+    ensures walked { IfOk result (λ w. Walked (S.history graph.old.source) first.now second.now both
+        (marks_at graph.new) (queued_ids graph.new w.front) w.least) }
+    ensures both { IfOk result (λ w. w.both ≡ both) }
+    ensures taken { TakesOnly (IsAncestorOfOne (S.history graph.old.source)
+        (first.now ++ second.now)) graph.old graph.new }
+    ensures after { GraphAfter S.history S.fault_count is_source_fault graph.old graph.new result }
+{
+    numbers::begin_walk(graph);
+    let mut walk = Walk {
+        both,
+        met: Vec::new(alloc),
+        front: Front::new(alloc),
+        unhidden: 0,
+        least: MORE_THAN_ANY,
+    };
+    begin_all(alloc, first, Flags::COMMIT1, &mut walk, graph)?;
+    begin_all(alloc, second, Flags::COMMIT2, &mut walk, graph)?;
+    Ok(walk)
+}
+
+/// How many of the open ones are not hidden, once one with these marks has left.
+fn unhidden_without(both: bool, unhidden: usize, marks: Flags) -> usize
+    ensures { result ≡ cond (hides both (marks_of marks)) unhidden (unhidden - 1) }
+{
+    if is_hidden(both, marks) {
+        unhidden
+    } else {
+        unhidden.saturating_sub(1)
+    }
+}
+
+/// The least generation of those that were taken while they were not hidden, once one with these
+/// marks is taken.
+fn least_with(both: bool, least: u64, marks: Flags, generation: u64) -> u64
+    ensures { result ≡ cond (hides both (marks_of marks)) least (min least generation) }
+{
+    if is_hidden(both, marks) {
+        least
+    } else {
+        least.min(generation)
+    }
+}
+
+/// Takes an open commit of a greatest generation, with its marks; `None` where the walk is over.
+fn next<S: Find, A: Allocator + Copy>(
+    walk: &mut Walk<A>,
+    graph: &mut Graph<S, Commit<Flags, A>, A>,
+) -> Option<(Number, Flags)>
+    requires { IsRight (S.history graph.old.source) graph.old walk.old }
+    ensures over { IsNone result → IsOver (S.history graph.old.source) walk.old.both
+        (marks_at graph.old) (queued_ids graph.old walk.old.front) walk.old.least }
+    ensures taken { IfSome result (λ r. Takes (S.history graph.old.source) walk.old.both
+        (id_at graph.old (place_in r.0)) (marks_at graph.old)
+        (queued_ids graph.old walk.old.front) walk.old.least
+        (queued_ids graph.new walk.new.front) walk.new.least) }
+    ensures right { IsSome result → IsRight (S.history graph.old.source) graph.new walk.new }
+    ensures inside { IfSome result (λ r. place_in r.0 < held_len graph.new) }
+    ensures had { IfSome result (λ r. marks_of r.1
+        ≡ marks_at graph.old (id_at graph.old (place_in r.0))) }
+    ensures marks { (c : ObjectId) → marks_at graph.new c ≡ marks_at graph.old c }
+    ensures marked { AreMet walk.new.both graph.new walk.new.met.items }
+    ensures both { walk.new.both ≡ walk.old.both }
+    ensures ids { held_ids graph.new ≡ held_ids graph.old }
+    ensures source { graph.new.source ≡ graph.old.source }
+{
+    let (generation, number) = walk.front.pop()?;
+    let generation = u64::from(generation);
+    if walk.unhidden == 0 && generation < walk.least {
+        return None;
+    }
+    let old = mark_of(graph, number);
+    walk.unhidden = unhidden_without(walk.both, walk.unhidden, old.marks);
+    walk.least = least_with(walk.both, walk.least, old.marks, generation);
+    let queued = old.queued.saturating_sub(1);
+    numbers::set_mark(
+        graph,
+        number,
+        Mark {
+            marks: old.marks,
+            queued,
+        },
+    );
+    Some((number, old.marks))
+}
+
+/// Walks from two sides until nothing that is wanted can follow. The walk, which has met each commit
+/// that is wanted.
+pub(crate) fn follow<S: Find, A: Allocator + Copy>(
+    alloc: A,
+    first: &[ObjectId],
+    second: &[ObjectId],
+    both: bool,
+    graph: &mut Graph<S, Commit<Flags, A>, A>,
+) -> Result<Walk<A>, Error>
+    ensures sees { OnOk result (Sees (S.history graph.old.source) first.now second.now both
+        (marks_at graph.new)) }
+    ensures met { IfOk result (λ w. AreMet both graph.new w.met.items) }
+    ensures taken { TakesOnly (IsAncestorOfOne (S.history graph.old.source)
+        (first.now ++ second.now)) graph.old graph.new }
+    ensures after { GraphAfter S.history S.fault_count is_source_fault graph.old graph.new result }
+{
+    let mut walk = start(alloc, first, second, both, graph)?;
+    let mut into = Vec::new(alloc);
+    while let Some((number, marks)) = next(&mut walk, graph) {
+        hand_parents(alloc, number, marks, &mut into, &mut walk, graph)?;
+    }
+    Ok(walk)
+}
