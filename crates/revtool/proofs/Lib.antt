@@ -1,3 +1,4 @@
 pub mod Reading
 pub mod Splitting
 pub mod PlainNumbers
+mod InBoth

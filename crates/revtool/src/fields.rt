@@ -41,7 +41,7 @@ impl<A: Allocator> From<InsertError<A>> for LineFault {
 }
 
 /// How many digits an id has.
-const ID_DIGITS: usize = 40;
+pub(crate) const ID_DIGITS: usize = 40;
 
 /// The fields that are left of a line: none once the last was taken, which no space follows.
 #[derive(Clone, Copy)]
@@ -126,8 +126,8 @@ fn split_field<'t>(line: &'t [u8]) -> (&'t [u8], Option<&'t [u8]>)
     }
 }
 
-// 40 hex digits, in either case.
-fn read_id(field: &[u8]) -> Result<ObjectId, LineFault> {
+/// 40 hex digits, in either case.
+pub(crate) fn read_id(field: &[u8]) -> Result<ObjectId, LineFault> {
     match ObjectId::from_hex(field) {
         Ok(id) => Ok(id),
         Err(_) => Err(LineFault::Unreadable),
@@ -154,8 +154,8 @@ pub(crate) fn read_generation(field: &[u8]) -> Option<Option<u32>>
     }
 }
 
-// Digits of a number that a `u32` holds.
-fn read_number(field: &[u8]) -> Option<u32>
+/// Digits of a number that a `u32` holds.
+pub(crate) fn read_number(field: &[u8]) -> Option<u32>
     ensures some { IsSome result ↔ IsNumber field.now }
     ensures value { IfSome result (λ n. n ≡ digits_value 10 field.now) }
 {

@@ -1,21 +1,29 @@
 //! Lines about commits in, one line for each answer out.
 //!
-//! [`run`] reads the whole of its input (`input`), reads its lines (`lines`, `fields`) into commits
-//! and commands (`session`), and answers the commands in order (`answers`).
+//! [`run`] reads the whole of its input (`input`), reads its lines (`lines`, `fields`, `manner`) into commits
+//! and commands (`session`), and answers the commands in order (`answers`). [`run_over`] has a
+//! commit-graph file beside the lines (`commits`), which [`read_graph`] reads.
 #![tactic(auto)]
 
 ghost use Rattle.std.specs.Prelude.{◌≡◌, ◌≢◌, ◌≤◌, ◌⊎◌, OnOk, IfErr};
 ghost use Rattle.std.specs.Io.KnownBytes.{IsAtEnd, Keeps};
 
 mod answers;
+mod commits;
 mod fields;
+mod graph_file;
 mod input;
 mod lines;
+mod manner;
 pub mod recorder;
+mod request;
 mod session;
 mod stop;
 
 use answers::Outcome;
+use gix_revision::commit_graph::LevelledGraph;
+pub use graph_file::{FileFault, open_graph, read_graph};
+pub use request::{HELP, Request, VERSION};
 use std::alloc::{Allocator, Global};
 use std::io::{Read, Write};
 use stop::Stop;
@@ -43,7 +51,27 @@ pub fn run<R: Read, W: Write, E: Write, A: Allocator + Copy>(
     ensures untouched { Keeps (E.contents faults.old) (E.contents faults.new)
         ⊎ Keeps (W.contents output.old) (W.contents output.new) }
 {
-    match answer_input(alloc, refusals, input, output) {
+    run_over(alloc, refusals, None, input, output, faults)
+}
+
+/// The same over the commits of a file too, where one is given. A `commit` line of one that the file
+/// has is unreadable.
+pub fn run_over<R: Read, W: Write, E: Write, A: Allocator + Copy>(
+    alloc: A,
+    refusals: Global,
+    file: Option<LevelledGraph>,
+    input: &mut R,
+    output: &mut W,
+    faults: &mut E,
+) -> u8
+    ensures status { result ≤ 2 }
+    ensures read { result ≡ 0 → IsAtEnd (R.remaining input.new) }
+    ensures quiet { result ≡ 0 → Keeps (E.contents faults.old) (E.contents faults.new) }
+    // Nothing was written to one of the two.
+    ensures untouched { Keeps (E.contents faults.old) (E.contents faults.new)
+        ⊎ Keeps (W.contents output.old) (W.contents output.new) }
+{
+    match answer_input(alloc, refusals, file, input, output) {
         Ok(Outcome::Answered) => 0,
         Ok(Outcome::Refused) => 1,
         Err(stop) => {
@@ -57,6 +85,7 @@ pub fn run<R: Read, W: Write, E: Write, A: Allocator + Copy>(
 fn answer_input<R: Read, W: Write, A: Allocator + Copy>(
     alloc: A,
     refusals: Global,
+    file: Option<LevelledGraph>,
     input: &mut R,
     output: &mut W,
 ) -> Result<Outcome, Stop>
@@ -65,6 +94,6 @@ fn answer_input<R: Read, W: Write, A: Allocator + Copy>(
         → Keeps (W.contents output.old) (W.contents output.new)) }
 {
     let text = input::read_all(alloc, input)?;
-    let session = session::read_lines(alloc, &text)?;
+    let session = session::read_lines(alloc, file, &text)?;
     answers::answer_all(alloc, refusals, session, output)
 }

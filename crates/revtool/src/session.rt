@@ -1,12 +1,13 @@
 //! All lines of a text, read: the source that its commits make, their names, the table of its
 //! references, and the commands in order.
 
+use crate::commits::Commits;
 use crate::fields::LineFault;
 use crate::lines::{Command, Line, commit_id, read_line};
 use crate::stop::Stop;
 use gix_resolve::Table;
+use gix_revision::commit_graph::LevelledGraph;
 use gix_revision::describe::Options;
-use gix_revision::graph::MemorySource;
 use gix_revision::hash::ObjectId;
 use std::alloc::{AllocError, Allocator};
 use std::borrow::CowSlice;
@@ -15,10 +16,10 @@ use std::collections::{BTreeMap, BTreeSet};
 /// What the lines of a text say together.
 #[derive(Drop)]
 pub(crate) struct Session<'t, A: Allocator> {
-    pub(crate) source: MemorySource<A>,
-    /// What each `describe` line is answered by: all names of the text.
+    pub(crate) source: Commits<A>,
+    /// What each `describe` and `describe-as` line is answered by: all names of the text.
     pub(crate) options: Options<'t, A>,
-    /// What `spec` and `list` lines are answered by: all references of the text, and where there is such a line the
+    /// What lines with a text to be resolved are answered by: all references, and where there is such a line the
     /// ids of its commits.
     pub(crate) table: Table<A>,
     pub(crate) commands: Vec<Command<'t, A>, A>,
@@ -26,9 +27,9 @@ pub(crate) struct Session<'t, A: Allocator> {
 
 impl<'t, A: Allocator + Copy> Session<'t, A> {
     // What no line says.
-    fn new(alloc: A) -> Session<'t, A> {
+    fn new(alloc: A, file: Option<LevelledGraph>) -> Session<'t, A> {
         Session {
-            source: MemorySource::new(alloc),
+            source: Commits::new(alloc, file),
             options: Options::new(alloc),
             table: Table {
                 names: BTreeMap::new(alloc),
@@ -37,19 +38,26 @@ impl<'t, A: Allocator + Copy> Session<'t, A> {
             commands: Vec::new(alloc),
         }
     }
+
+    // The ids of all commits: those of the file, and those of a text each line of which was read before.
+    fn add_all_ids(&mut self, text: &[u8]) -> Result<(), AllocError> {
+        self.source.add_ids_of_file(&mut self.table.ids)?;
+        add_ids(text, &mut self.table)
+    }
 }
 
 /// Reads each line. The first that is unreadable, or repeats an id or a reference, is named by its
 /// number.
 pub(crate) fn read_lines<'t, A: Allocator + Copy>(
     alloc: A,
+    file: Option<LevelledGraph>,
     text: &'t [u8],
 ) -> Result<Session<'t, A>, Stop> {
-    let mut session = Session::new(alloc);
+    let mut session = Session::new(alloc, file);
     add_lines(alloc, text, &mut session)?;
     // No other command asks which ids there are, and a set of them is large.
     if session.commands.iter().any(|command| command.is_resolved()) {
-        add_ids(text, &mut session.table)?;
+        session.add_all_ids(text)?;
     }
     Ok(session)
 }
@@ -93,7 +101,7 @@ fn add_line<'t, A: Allocator + Copy>(
     session: &mut Session<'t, A>,
 ) -> Result<(), LineFault> {
     match read_line(alloc, line)? {
-        Line::Commit(id, commit) => session.source.insert(id, commit)?,
+        Line::Commit(id, commit) => session.source.insert(alloc, id, commit)?,
         Line::Name(id, name) => add_name(id, name, &mut session.options)?,
         Line::Ref(id, name) => add_ref(alloc, id, name, &mut session.table)?,
         Line::Command(command) => session.commands.push(command)?,

@@ -1,16 +1,92 @@
-//! The program: hands the standard streams to `revtool::run`. Its arguments are ignored.
+//! The program: hands the standard streams to `revtool`, with a commit-graph file where the command line names one.
 #![tactic(auto)]
 
-use revtool::run;
+use revtool::{FileFault, HELP, Request, VERSION, read_graph, run, run_over};
+use std::env;
+use std::fs::{File, OpenFile};
+use std::io::{self, Write};
 use std::process::ExitCode;
+use std::string::String;
 
-fn main(rt: HostRuntime) -> ExitCode {
-    let status = run(
+/// The status where the command line is not read.
+const UNREAD: u8 = 2;
+
+/// The status where the file can't be used.
+const UNUSED: u8 = 4;
+
+/// The words behind the program's name.
+fn words(rt: &HostRuntime) -> io::Result<Vec<String>> {
+    let mut words = Vec::new(rt.alloc());
+    for word in env::args(rt)?.skip(1) {
+        words.push(word)?;
+    }
+    Ok(words)
+}
+
+/// A text on standard output, and the status.
+fn print(rt: &HostRuntime, text: &str) -> u8 {
+    match rt.stdout().write_all(text.as_bytes()) {
+        Ok(()) => 0,
+        Err(_) => UNREAD,
+    }
+}
+
+/// The answers over no file.
+fn answer(rt: &HostRuntime) -> u8 {
+    run(
         rt.alloc(),
         rt.alloc(),
         &mut rt.stdin(),
         &mut rt.stdout(),
         &mut rt.stderr(),
-    );
+    )
+}
+
+/// The answers over a file.
+fn answer_over(rt: &HostRuntime, path: &str) -> Result<u8, FileFault> {
+    let mut file = File::open(rt, path)?;
+    let size = file.metadata()?.len() as usize;
+    let graph = read_graph(rt.alloc(), size, &mut file)?;
+    Ok(run_over(
+        rt.alloc(),
+        rt.alloc(),
+        Some(graph),
+        &mut rt.stdin(),
+        &mut rt.stdout(),
+        &mut rt.stderr(),
+    ))
+}
+
+/// The status of a request.
+fn serve(rt: &HostRuntime, request: Request<'_>) -> u8 {
+    match request {
+        Request::Answers => answer(rt),
+        Request::AnswersOver(path) => match answer_over(rt, path) {
+            Ok(status) => status,
+            Err(fault) => {
+                let _ = writeln!(rt.stderr(), "revtool: {path}: {fault}");
+                UNUSED
+            }
+        },
+        Request::Help => print(rt, HELP),
+        Request::Version => print(rt, VERSION),
+        Request::Unread(word) => {
+            let _ = writeln!(
+                rt.stderr(),
+                "revtool: {word} is not read; --help says what is"
+            );
+            UNREAD
+        }
+    }
+}
+
+fn main(rt: HostRuntime) -> ExitCode {
+    let status = match words(&rt) {
+        Ok(words) => serve(&rt, Request::of(&words)),
+        Err(error) => {
+            let _ = writeln!(rt.stderr(), "revtool: the command line: {error}");
+            UNREAD
+        }
+    };
     ExitCode::from(status)
 }

@@ -1,16 +1,19 @@
-//! The answers to `base` and `octopus` lines, on one reused graph.
+//! The answers to `base`, `octopus`, `octopus-all`, `independent` and `ancestor` lines, on one reused graph.
 
 use crate::answers::Outcome;
+use crate::commits::Commits;
 use crate::lines::Heads;
 use gix_revision::error::NonEmpty;
-use gix_revision::graph::{Commit, Graph, MemorySource};
+use gix_revision::graph::{Commit, Graph};
 use gix_revision::hash::ObjectId;
-use gix_revision::merge_base::{self, Flags, merge_base, octopus};
+use gix_revision::merge_base::{
+    self, Flags, is_ancestor, merge_base, octopus, octopus_bases, reduce,
+};
 use std::alloc::Allocator;
 use std::io::{self, Write};
 
-/// The graph of all lines but those of `describe`.
-pub(super) type BaseGraph<'s, A> = Graph<&'s MemorySource<A>, Commit<Flags, A>, A>;
+/// The graph of all lines but those of `describe` and `describe-as`.
+pub(super) type BaseGraph<'s, A> = Graph<&'s Commits<A>, Commit<Flags, A>, A>;
 
 /// `base` and the ids in rising order, or `base none`.
 pub(super) fn answer_base<W: Write, A: Allocator + Copy>(
@@ -40,6 +43,73 @@ pub(super) fn answer_octopus<W: Write, A: Allocator + Copy>(
     Ok(Outcome::Answered)
 }
 
+/// `octopus-all` and the ids in rising order, or `octopus-all none`.
+pub(super) fn answer_octopus_all<W: Write, A: Allocator + Copy>(
+    alloc: A,
+    heads: &Heads<A>,
+    graph: &mut BaseGraph<'_, A>,
+    output: &mut W,
+) -> io::Result<Outcome> {
+    match octopus_bases(alloc, heads.first, &heads.others, graph) {
+        Ok(bases) => print_sorted("octopus-all", bases, output),
+        Err(error) => print_refusal("octopus-all", error, output),
+    }
+}
+
+/// `independent` and the ids that no other of them reaches, in rising order.
+pub(super) fn answer_independent<W: Write, A: Allocator + Copy>(
+    alloc: A,
+    ids: &[ObjectId],
+    graph: &mut BaseGraph<'_, A>,
+    output: &mut W,
+) -> io::Result<Outcome> {
+    match reduce(alloc, ids, graph) {
+        Ok(left) => print_sorted("independent", left, output),
+        Err(error) => print_refusal("independent", error, output),
+    }
+}
+
+/// `ancestor yes` or `ancestor no`.
+pub(super) fn answer_ancestor<W: Write, A: Allocator + Copy>(
+    alloc: A,
+    ancestor: ObjectId,
+    of: ObjectId,
+    graph: &mut BaseGraph<'_, A>,
+    output: &mut W,
+) -> io::Result<Outcome> {
+    match is_ancestor(alloc, ancestor, of, graph) {
+        Ok(true) => output.write_all(b"ancestor yes\n")?,
+        Ok(false) => output.write_all(b"ancestor no\n")?,
+        Err(error) => return print_refusal("ancestor", error, output),
+    }
+    Ok(Outcome::Answered)
+}
+
+// The word and the ids in rising order.
+fn print_sorted<W: Write, A: Allocator>(
+    word: &str,
+    mut ids: Vec<ObjectId, A>,
+    output: &mut W,
+) -> io::Result<Outcome> {
+    ids.sort_unstable();
+    print_list(word, &ids, output)
+}
+
+/// The word and each id, or `none`.
+pub(super) fn print_list<W: Write>(
+    word: &str,
+    ids: &[ObjectId],
+    output: &mut W,
+) -> io::Result<Outcome> {
+    output.write_all(word.as_bytes())?;
+    if ids.is_empty() {
+        output.write_all(b" none")?;
+    }
+    print_ids(ids, output)?;
+    output.write_all(b"\n")?;
+    Ok(Outcome::Answered)
+}
+
 fn print_bases<W: Write, A: Allocator>(
     bases: Option<NonEmpty<ObjectId, A>>,
     output: &mut W,
@@ -59,8 +129,8 @@ fn print_bases<W: Write, A: Allocator>(
     Ok(Outcome::Answered)
 }
 
-/// Each id after one space.
-pub(super) fn print_ids<W: Write>(ids: &[ObjectId], output: &mut W) -> io::Result<()> {
+// Each id after one space.
+fn print_ids<W: Write>(ids: &[ObjectId], output: &mut W) -> io::Result<()> {
     for id in ids {
         write!(output, " {id}")?;
     }

@@ -1,0 +1,75 @@
+//! The answers to `ahead-behind`, `reachable` and `reachable-count` lines.
+
+use crate::answers::Outcome;
+use crate::answers::bases::{BaseGraph, print_list};
+use crate::lines::Sides;
+use gix_resolve::{ListError, ahead_behind, count_reachable, newest_first, reachable};
+use gix_revision::hash::ObjectId;
+use std::alloc::Allocator;
+use std::io::{self, Write};
+
+/// `ahead-behind`, how many commits the first alone reaches, and how many the second alone.
+pub(super) fn answer_ahead_behind<W: Write, A: Allocator + Copy>(
+    alloc: A,
+    ours: ObjectId,
+    theirs: ObjectId,
+    graph: &mut BaseGraph<'_, A>,
+    output: &mut W,
+) -> io::Result<Outcome> {
+    match ahead_behind(alloc, ours, theirs, graph) {
+        Ok((ahead, behind)) => writeln!(output, "ahead-behind {ahead} {behind}")?,
+        Err(error) => return print_refusal("ahead-behind", error, output),
+    }
+    Ok(Outcome::Answered)
+}
+
+/// `reachable` and what is reached from the shown commits alone, the newest first, or `reachable none`.
+pub(super) fn answer_reachable<W: Write, A: Allocator + Copy>(
+    alloc: A,
+    sides: &Sides<A>,
+    graph: &mut BaseGraph<'_, A>,
+    output: &mut W,
+) -> io::Result<Outcome> {
+    match listed(alloc, sides, graph) {
+        Ok(ids) => print_list("reachable", &ids, output),
+        Err(error) => print_refusal("reachable", error, output),
+    }
+}
+
+/// `reachable-count` and how many commits are reached from the shown ones alone.
+pub(super) fn answer_reachable_count<W: Write, A: Allocator + Copy>(
+    alloc: A,
+    sides: &Sides<A>,
+    graph: &mut BaseGraph<'_, A>,
+    output: &mut W,
+) -> io::Result<Outcome> {
+    match count_reachable(alloc, &sides.shown, &sides.hidden, graph) {
+        Ok(count) => writeln!(output, "reachable-count {count}")?,
+        Err(error) => return print_refusal("reachable-count", error, output),
+    }
+    Ok(Outcome::Answered)
+}
+
+// What is reached from the shown commits alone, the newest first.
+fn listed<A: Allocator + Copy>(
+    alloc: A,
+    sides: &Sides<A>,
+    graph: &mut BaseGraph<'_, A>,
+) -> Result<Vec<ObjectId, A>, ListError> {
+    let ids = reachable(alloc, &sides.shown, &sides.hidden, graph)?;
+    newest_first(alloc, &ids, graph)
+}
+
+/// The number of the refusal of a list.
+pub(super) fn print_refusal<W: Write>(
+    word: &str,
+    error: ListError,
+    output: &mut W,
+) -> io::Result<Outcome> {
+    let number = match error {
+        ListError::Source => 1,
+        ListError::OutOfMemory => 2,
+    };
+    writeln!(output, "{word} refused E{number}")?;
+    Ok(Outcome::Refused)
+}
