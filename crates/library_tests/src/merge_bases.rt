@@ -1,12 +1,12 @@
 //! Merge bases of worked histories, failing look-ups, and memory refused at each request.
 
-use crate::faults::{first_lost, first_wrong};
-use crate::histories::{CRISS_CROSS, OLD_PATH, OLDER_CHILD, Row, id, source_of};
-use crate::printed::prints;
 use crate::questions::Call::{Ancestor, Bases, Counted, Octopus, Paint, Reduce};
 use crate::questions::{Call, Question, refusal_of};
-use crate::sources::Turn;
 use bitflags::Flags as BitFlags;
+use fixtures::faults::{first_lost, first_wrong};
+use fixtures::histories::{CRISS_CROSS, OLD_PATH, OLDER_CHILD, Row, id, source_of};
+use fixtures::printed::prints;
+use fixtures::sources::Turn;
 use gix_revision::graph::Graph;
 use gix_revision::merge_base::{Error, Flags, Simple, merge_base, octopus};
 use std::alloc::{AllocError, Global};

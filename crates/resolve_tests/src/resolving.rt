@@ -1,7 +1,7 @@
 //! Revision texts resolved over worked histories, where look-ups fail, and where memory is refused.
 
-use crate::faults::{Answered, Asks, refusals};
-use crate::histories::{CRISS_CROSS, Row, id, written_out};
+use fixtures::faults::{Answered, Asks, refusals};
+use fixtures::histories::{CRISS_CROSS, Row, id, written_out};
 use gix_resolve::{Table, resolve, rev_parse};
 use gix_revision::date::Time;
 use gix_revision::error::Exn;

@@ -1,7 +1,7 @@
 //! What `revtool` answers to lines, and what it does where streams or memory fail.
 
-use crate::histories::written_out;
 use crate::streams::{Ending, FailingWriter, LineFeeds, Trickle};
+use fixtures::histories::written_out;
 use refusing::Refusing;
 use revtool::run;
 use std::alloc::{AllocError, Allocator, Global};
@@ -89,6 +89,38 @@ base [1]  [2]|
 octopus|
 octopus [1] |
 octopus [1] x|
+octopus-all|
+octopus-all [1] |
+independent|
+independent |
+independent [1]  [2]|
+ancestor|
+ancestor [1]|
+ancestor [1] [2] [1]|
+ahead-behind [1]|
+ahead-behind [1] ^[2]|
+reachable|
+reachable |
+reachable ^|
+reachable [1] ^^[2]|
+reachable-count|
+reachable-count [1] |
+describe-as|
+describe-as long|
+describe-as [1] long|
+describe-as [1] [2]|
+describe-as  long [1]|
+describe-as long always long [1]|
+describe-as first-parent first-parent [1]|
+describe-as abbrev=7 abbrev=8 [1]|
+describe-as abbrev=41 [1]|
+describe-as abbrev= [1]|
+describe-as abbrev=+7 [1]|
+describe-as abbrev [1]|
+describe-as candidates=-1 [1]|
+describe-as candidates=4294967296 [1]|
+describe-as abbrev=0 long [1]|
+describe-as tags [1]|
 commit 111 1 -|
 commit [1]1 1 -|
 commit [g] 1 -|
@@ -111,15 +143,15 @@ commit [A] 2 -|";
 
 /// What a run left behind.
 #[derive(Drop)]
-struct Run {
-    status: u8,
-    output: Vec<u8>,
-    faults: Vec<u8>,
+pub struct Run {
+    pub status: u8,
+    pub output: Vec<u8>,
+    pub faults: Vec<u8>,
 }
 
 impl Run {
     /// Whether it ended with this status and wrote this: as faults where the status is 2, else as output.
-    fn is(&self, status: u8, written: &[u8]) -> bool {
+    pub fn is(&self, status: u8, written: &[u8]) -> bool {
         let (used, unused) = if status == 2 {
             (&self.faults, &self.output)
         } else {
@@ -150,14 +182,14 @@ fn ends(alloc: Global, text: &[u8], status: u8, written: &[u8]) -> bool {
 
 /// A row: the input, the status, and what is written.
 #[derive(Drop)]
-struct Row {
-    text: Vec<u8>,
-    status: u8,
-    written: Vec<u8>,
+pub struct Row {
+    pub text: Vec<u8>,
+    pub status: u8,
+    pub written: Vec<u8>,
 }
 
 /// A row of a table behind these lines.
-fn row_of(alloc: Global, before: &str, row: &str) -> Result<Row, AllocError> {
+pub fn row_of(alloc: Global, before: &str, row: &str) -> Result<Row, AllocError> {
     let (lines, ended) = row.split_once(" => ").unwrap_or((row, ""));
     let (status, written) = ended.split_once(' ').unwrap_or((ended, ""));
     let mut text = written_out(alloc, before)?;
@@ -328,22 +360,36 @@ fn nothing_is_written_after_a_write_that_failed(rt: HostRuntime) -> Result<(), F
 /// All commands after the criss-cross, and a text that takes memory of its own, as the rows above.
 const COMMANDS: &str =
     "name [1] v|ref [4] HEAD|base [4] [5]|octopus [4] [5]|parse [1]..[2]|describe [2]|base [4]|parse|octopus [5] [4]|\
-describe [2]|parse a^{/\\{}^{/\\}}|base [4] [5]|spec HEAD~2|rev-parse HEAD^2^{}|list HEAD^!|list HEAD^@|list ^HEAD| => 0 \
+describe [2]|parse a^{/\\{}^{/\\}}|base [4] [5]|spec HEAD~2|rev-parse HEAD^2^{}|list HEAD^!|list HEAD^@|list ^HEAD|\
+ancestor [1] [4]|independent [4] [5] [1]|octopus-all [4] [5]|ahead-behind [4] [5]|reachable [4] ^[2]|reachable-count [4] [5]|\
+describe-as long abbrev=9 [2]|count HEAD^@|rev-list HEAD^!| => 0 \
 base [2] [3]|octopus [2]|parse prefix([1]); kind(RangeBetween); prefix([2]); done|describe v-1-g2222222|base [4]|\
 parse done|octopus [2]|describe v-1-g2222222|parse find_ref(a); find({); find(}); done|base [2] [3]|spec [1]|rev-parse [3]|list [4]|\
-list [1] [2] [3]|list none|";
+list [1] [2] [3]|list none|ancestor yes|independent [4] [5]|octopus-all [2] [3]|ahead-behind 1 1|reachable [4] [3]|reachable-count 5|\
+describe-as v-1-g222222222|count 3|rev-list [4]|";
 
 /// Whether a line is this row, or says in its place that memory was wanting: after the word alone, or of a
 /// text after some of its calls.
 fn is_row_or_refusal(line: &[u8], row: &[u8]) -> bool {
-    let words: [(&[u8], &[u8]); 7] = [
+    let words: [(&[u8], &[u8]); 18] = [
         (b"base ", b"refused M2"),
         (b"octopus ", b"refused M2"),
+        (b"octopus-all ", b"refused M2"),
+        (b"independent ", b"refused M2"),
+        (b"ancestor ", b"refused M2"),
+        (b"ahead-behind ", b"refused E2"),
+        (b"reachable ", b"refused E2"),
+        (b"reachable-count ", b"refused E2"),
         (b"describe ", b"refused D4"),
+        (b"describe-as ", b"refused D4"),
         (b"spec ", b"refused P0"),
         (b"rev-parse ", b"refused P0"),
         (b"list ", b"refused P0"),
         (b"list ", b"refused E2"),
+        (b"count ", b"refused P0"),
+        (b"count ", b"refused E2"),
+        (b"rev-list ", b"refused P0"),
+        (b"rev-list ", b"refused E2"),
     ];
     for (word, refusal) in words {
         if row.starts_with(word) && line.strip_prefix(word) == Some(refusal) {
@@ -375,7 +421,7 @@ fn are_rows_or_refusals(lines: &[u8], rows: &[u8]) -> bool {
 
 /// What came of a run where one request for memory may be refused.
 #[derive(Clone, Copy, PartialEq)]
-enum Came {
+pub enum Came {
     /// It ended as it should.
     Answered,
     /// Its input could not be read.
@@ -385,7 +431,7 @@ enum Came {
     Wrong,
 }
 
-fn judged(ran: &Run, (status, written): (u8, &[u8])) -> Came {
+pub fn judged(ran: &Run, (status, written): (u8, &[u8])) -> Came {
     if ran.is(status, written) {
         return Came::Answered;
     }

@@ -1,7 +1,7 @@
 //! Calls of `describe` as tables have them, and whether they are answered so.
 
-use crate::histories::{Row, id, source_of};
-use crate::sources::{Failing, Turn};
+use fixtures::histories::{Row, id, source_of};
+use fixtures::sources::{Failing, Turn};
 use gix_base::error::Message;
 use gix_revision::describe::{Names, Options, Outcome, counted, describe};
 use gix_revision::graph::{Find, FindFault, Graph};

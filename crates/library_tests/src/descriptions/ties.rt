@@ -1,7 +1,7 @@
 //! Rows of git-describe where two named commits are equally far: the smaller name is taken.
 
 use super::cases::{Case, PLAIN, Want, first_wrong};
-use crate::histories::Row;
+use fixtures::histories::Row;
 use std::test::Fail;
 
 /// Two named roots of one time.

@@ -11,7 +11,7 @@ ghost use Rattle.gix_revision.specs.Octopus.{IsOctopusBase};
 ghost use Rattle.gix_revision.specs.Premises.{KeysFallFrom};
 ghost use Rattle.gix_base.specs.declared.hash.ObjectId.{ObjectId};
 
-use crate::commit_graphs::levelled;
+use fixtures::graph_files::levelled;
 use gix_revision::commit_graph::{Joined, LevelledGraph};
 use gix_revision::describe::{self, Options, Outcome, describe};
 use gix_revision::error::NonEmpty;

@@ -1,6 +1,6 @@
 //! Ids and prefixes that are read, printed and compared.
 
-use crate::printed::prints;
+use fixtures::printed::prints;
 use gix_revision::hash::{HexError, ObjectId, Prefix};
 use std::alloc::{AllocError, Global};
 use std::cmp::Ordering;

@@ -5,7 +5,7 @@
 use super::cases::{
     ALWAYS, Case, FIRST_PARENT, FORK, LINE, NO_CANDIDATE, PLAIN, Want, first_wrong,
 };
-use crate::histories::Row;
+use fixtures::histories::Row;
 use std::test::Fail;
 
 /// The older name is nearer: it is met last.

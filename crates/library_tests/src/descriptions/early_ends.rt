@@ -2,7 +2,7 @@
 //! there is no room for one more candidate (`--candidates`, at most 32 here); and the depth that is completed then.
 
 use super::cases::{Case, FORK, How, LINE, ONE_CANDIDATE, PLAIN, Want, first_wrong, says};
-use crate::histories::{Row, id};
+use fixtures::histories::{Row, id};
 use gix_base::hash::ObjectId;
 use gix_revision::describe::{Options, counted};
 use gix_revision::graph::{Graph, MemorySource, SourceCommit};

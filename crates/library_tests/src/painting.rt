@@ -1,10 +1,10 @@
 //! Painting, the reduction and the counts of pops, on worked histories.
 
-use crate::faults::first_lost;
-use crate::histories::{CRISS_CROSS, OLD_PATH, OLDER_CHILD, Row, are, id, ids, source_of};
 use crate::questions::Call::{Counted, Paint, Reduce};
 use crate::questions::{Question, are_bases, are_set};
-use crate::sources::{Failing, Turn};
+use fixtures::faults::first_lost;
+use fixtures::histories::{CRISS_CROSS, OLD_PATH, OLDER_CHILD, Row, are, id, ids, source_of};
+use fixtures::sources::{Failing, Turn};
 use gix_revision::graph::{Commit, Find, FindFault, Graph, MemorySource};
 use gix_revision::merge_base::{Flags, counted, paint, reduce};
 use std::alloc::Global;

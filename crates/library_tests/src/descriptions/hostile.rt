@@ -2,8 +2,8 @@
 
 use super::cases::{Case, Met, answered};
 use super::{early_ends, rows, ties};
-use crate::histories::source_of;
-use crate::sources::{Failing, Turn};
+use fixtures::histories::source_of;
+use fixtures::sources::{Failing, Turn};
 use gix_revision::graph::{Find, FindFault, Graph};
 use refusing::Refusing;
 use std::alloc::{AllocError, Allocator, Global};

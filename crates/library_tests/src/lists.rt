@@ -1,9 +1,9 @@
 //! Lists of calls on one graph: reused, over a failing source, and with memory refused in turn.
 
-use crate::histories::{CRISS_CROSS, id, ids, source_of};
 use crate::questions::Call::{Bases, Octopus};
 use crate::questions::{Question, are_bases, is_one};
-use crate::sources::{Failing, Turn};
+use fixtures::histories::{CRISS_CROSS, id, ids, source_of};
+use fixtures::sources::{Failing, Turn};
 use gix_revision::graph::{Commit, Find, FindFault, Graph, MemorySource};
 use gix_revision::merge_base::{Answer, Error, Flags, Query, run};
 use refusing::Refusing;

@@ -1,69 +1,15 @@
-//! One small file that git 2.39.5 wrote, read back, and spoiled at each of its bytes.
+//! A small file that git wrote, read back, and spoiled at each of its bytes; and one without commits.
 
-use crate::histories::Row;
-use gix_revision::commit_graph::{CommitGraph, LevelledGraph, OpenFault};
+use fixtures::graph_files::{empty_file, file};
+use fixtures::histories::Row;
+use gix_revision::commit_graph::{CommitGraph, OpenFault};
 use gix_revision::graph::SourceCommit;
 use gix_revision::hash::ObjectId;
+use refusing::Refusing;
 use std::alloc::{AllocError, Global};
 use std::test::Fail;
 
-/// Hex digits, and how often they stand there.
-struct Part(&'static str, usize);
-
-/// The file. It has the commits of [`COMMITS`].
-static FILE: [Part; 25] = [
-    // Header: CGPH, version 1, ids of SHA-1, 5 chunks, no base graphs.
-    Part("43475048 01 01 05 00", 1),
-    // Table of contents: OIDF begins at 0x50, OIDL at 0x450, CDAT at 0x4b4, GDA2 at 0x568, EDGE at 0x57c, and the hash at 0x584.
-    Part("4f494446 0000000000000050", 1),
-    Part("4f49444c 0000000000000450", 1),
-    Part("43444154 00000000000004b4", 1),
-    Part("47444132 0000000000000568", 1),
-    Part("45444745 000000000000057c", 1),
-    Part("00000000 0000000000000584", 1),
-    // OIDF: how many ids begin with at most each byte. They begin with 6e, 82, c2, c2 and c5.
-    Part("00000000", 110),
-    Part("00000001", 20),
-    Part("00000002", 64),
-    Part("00000004", 3),
-    Part("00000005", 59),
-    // OIDL: the ids, in rising order.
-    Part("6ec51cce1d57faa4c7a89b1bd415c748c14c8eec", 1),
-    Part("823a8a296fc96cbdaba5c22bfe4b19f0de84017e", 1),
-    Part("c24fca1e7a4c843cec00341ad5c04d650d834b85", 1),
-    Part("c2ae463f2de8e30be91d8ecc93e9d64145174877", 1),
-    Part("c5f95b31d00a42c40e7802fb583d1d3ba95e4a6d", 1),
-    // CDAT: of each the tree's id; the positions of the first and the second parent, 0x70000000 for none, or with the highest
-    // bit set the place of the list in EDGE; 30 bits of level and 34 of time.
-    Part(
-        "4b825dc642cb6eb9a060e54bf8d69288fbee4904 00000001 70000000 0000000800000003",
-        1,
-    ),
-    Part(
-        "4b825dc642cb6eb9a060e54bf8d69288fbee4904 70000000 70000000 0000000400000001",
-        1,
-    ),
-    Part(
-        "4b825dc642cb6eb9a060e54bf8d69288fbee4904 00000000 00000003 0000000c00000004",
-        1,
-    ),
-    Part(
-        "4b825dc642cb6eb9a060e54bf8d69288fbee4904 70000000 70000000 0000000400000002",
-        1,
-    ),
-    Part(
-        "4b825dc642cb6eb9a060e54bf8d69288fbee4904 00000002 80000000 0000001100000005",
-        1,
-    ),
-    // GDA2: how far each corrected time lies behind the time.
-    Part("00000000", 5),
-    // EDGE: the second and the third parent of the octopus merge, the last with its highest bit set.
-    Part("00000000 80000003", 1),
-    // The SHA-1 of all bytes before it.
-    Part("7d08e2c0098faf175dae3f04fc00be31ed290573", 1),
-];
-
-/// Its commits, with positions in place of ids.
+/// The commits of the file, with positions in place of ids.
 const COMMITS: [Row<'static>; 5] = [
     Row(0, 3, Some(2), &[1]),
     Row(1, 1, Some(1), &[]),
@@ -103,41 +49,6 @@ static SPOILED: [Spoiled; 20] = [
     Spoiled(0x57c + 4, 0, OpenFault::EdgeEnd),
 ];
 
-/// Adds the bytes of hex digits, between which there may be spaces.
-fn add_bytes(bytes: &mut Vec<u8>, digits: &str) -> Result<(), AllocError> {
-    let mut high = None;
-    for digit in digits.chars() {
-        let Some(value) = digit.to_digit(16) else {
-            continue;
-        };
-        match high {
-            None => high = Some(value),
-            Some(first) => {
-                bytes.push((first % 16 * 16 + value % 16) as u8)?;
-                high = None;
-            }
-        }
-    }
-    Ok(())
-}
-
-/// The bytes of the file.
-pub fn file(alloc: Global) -> Result<Vec<u8>, AllocError> {
-    let mut bytes = Vec::new(alloc);
-    for part in &FILE {
-        for _ in 0..part.1 {
-            add_bytes(&mut bytes, part.0)?;
-        }
-    }
-    Ok(bytes)
-}
-
-/// The file as a source.
-pub fn levelled(alloc: Global) -> Option<LevelledGraph> {
-    let graph = CommitGraph::open(file(alloc).ok()?).ok()?;
-    LevelledGraph::new(graph).ok()
-}
-
 /// Whether the commit is that of a row of the file.
 fn is_row(graph: &CommitGraph<&[u8]>, commit: &SourceCommit, row: &Row<'_>) -> bool {
     let parents = row.3.iter().map(|position| graph.id(*position as usize));
@@ -163,6 +74,39 @@ fn reads_back(alloc: Global) -> Result<bool, AllocError> {
     }
     let lacks = graph.get(alloc, ObjectId([0xc2; 20]))?.is_none();
     Ok(lacks && graph.len() == COMMITS.len() && graph.hash_is_right() && graph.levels_fall())
+}
+
+/// Whether the file without commits is opened, and has none.
+fn has_none(alloc: Global) -> Result<bool, AllocError> {
+    let bytes = empty_file(alloc)?;
+    let Ok(graph) = CommitGraph::open(bytes.as_slice()) else {
+        return Ok(false);
+    };
+    let lacks = graph.get(alloc, ObjectId([0; 20]))?.is_none();
+    Ok(lacks && graph.len() == 0 && graph.id(0).is_none() && graph.levels_fall())
+}
+
+/// How many requests the octopus merge takes where all are granted, and each of them is told where it is refused.
+fn requests_of_get(alloc: Global) -> Result<Option<u64>, AllocError> {
+    let bytes = file(alloc)?;
+    let Ok(graph) = CommitGraph::open(bytes.as_slice()) else {
+        return Ok(None);
+    };
+    let Some(id) = graph.id(4) else {
+        return Ok(None);
+    };
+    for number in 0..10u64 {
+        let memory = Refusing::new(alloc, number);
+        let found = graph.get(&memory, id);
+        match found {
+            Ok(Some(commit)) if !memory.has_refused() && commit.parents.len() == 3 => {
+                return Ok(Some(number));
+            }
+            Err(_) if memory.has_refused() => {}
+            _ => return Ok(None),
+        }
+    }
+    Ok(None)
 }
 
 /// The file with another byte at a place.
@@ -237,9 +181,55 @@ fn first_misread(alloc: Global) -> Result<Option<usize>, AllocError> {
     Ok(None)
 }
 
+/// The place of a byte of the id of a chunk.
+fn place_of_id(chunk: usize, byte: usize) -> usize {
+    chunk
+        .saturating_mul(12)
+        .saturating_add(byte)
+        .saturating_add(8)
+}
+
+/// The file with the ids of two chunks swapped, so that each stands where the other one was.
+fn swapped(alloc: Global, file: &[u8], one: usize, other: usize) -> Result<Vec<u8>, AllocError> {
+    let mut bytes = file.to_vec(alloc)?;
+    for byte in 0..4 {
+        let (left, right) = (place_of_id(one, byte), place_of_id(other, byte));
+        if left < bytes.len() && right < bytes.len() {
+            bytes.swap(left, right);
+        }
+    }
+    Ok(bytes)
+}
+
+/// How many of the ten files with two chunks swapped are refused; `None` where one is neither refused nor read.
+fn refused_swaps(alloc: Global) -> Result<Option<u64>, AllocError> {
+    let file = file(alloc)?;
+    let mut refused = 0u64;
+    for one in 0..5usize {
+        for other in 0..one {
+            let bytes = swapped(alloc, &file, one, other)?;
+            if !is_refused_or_read(alloc, &bytes)? {
+                return Ok(None);
+            }
+            if CommitGraph::open(bytes).is_err() {
+                refused = refused.saturating_add(1);
+            }
+        }
+    }
+    Ok(Some(refused))
+}
+
 #[test]
 fn what_git_wrote_is_read_back(rt: HostRuntime) -> Result<(), Fail> {
     assert!(rt; reads_back(rt.alloc())?);
+    assert!(rt; has_none(rt.alloc())?);
+    assert!(rt; requests_of_get(rt.alloc())?.is_some_and(|requests| requests > 0));
+    Ok(())
+}
+
+#[test]
+fn two_chunks_may_be_swapped(rt: HostRuntime) -> Result<(), Fail> {
+    assert_eq!(rt; refused_swaps(rt.alloc())?, Some(10));
     Ok(())
 }
 

@@ -1,12 +1,14 @@
 //! Sources and graphs at work: each call once, failing look-ups, and memory refused at each request.
 
-use crate::histories::{Row, agrees, are, commit_of, id, source_of};
-use crate::printed::prints;
-use crate::sources::{Counting, Failing, Turn};
+use crate::questions::are_bases;
+use fixtures::histories::{Row, agrees, are, commit_of, id, source_of};
+use fixtures::printed::prints;
+use fixtures::sources::{Counting, Failing, Turn};
 use gix_revision::graph::{
     Commit, Error, Find, FindFault, Graph, InsertError, MemorySource, SourceCommit,
 };
 use gix_revision::hash::ObjectId;
+use gix_revision::merge_base::{self, Flags};
 use refusing::Refusing;
 use std::alloc::{AllocError, Allocator, Global};
 use std::mem::replace;
@@ -96,9 +98,57 @@ fn put_without_memory(alloc: Global) -> Result<(Put, Put), AllocError> {
     put_both(&mut source, &refusing)
 }
 
+/// Puts the commit of a row into the source of a graph.
+fn put_late(
+    graph: &mut Graph<MemorySource, Commit<Flags>>,
+    alloc: Global,
+    row: Row<'_>,
+) -> Result<Put, AllocError> {
+    let commit = commit_of(alloc, row)?;
+    Ok(match graph.insert(id(row.0), commit) {
+        Ok(()) => Put::In,
+        Err(refused) => why_back(&refused, row),
+    })
+}
+
+/// Whether the bases of two commits are those of the digits.
+fn has_bases(
+    graph: &mut Graph<MemorySource, Commit<Flags>>,
+    alloc: Global,
+    (first, other, bases): (u8, u8, &[u8]),
+) -> Result<bool, merge_base::Error> {
+    let found = merge_base::merge_base(alloc, id(first), &[id(other)], graph)?;
+    Ok(are_bases(&found, bases))
+}
+
+/// The parent that the source of the line lacks.
+const LATE: Row<'static> = Row(9, -20, None, &[]);
+
+/// Whether a parent that comes after two walks met its children is met by the next one, and stays.
+fn meets_a_late_parent(alloc: Global) -> Result<bool, Fail> {
+    let mut graph = Graph::new(alloc, source_of(alloc, &LINE)?);
+    for _ in 0..2 {
+        if !has_bases(&mut graph, alloc, (3, 1, &[1]))?
+            || !has_bases(&mut graph, alloc, (3, 9, &[]))?
+        {
+            return Ok(false);
+        }
+    }
+    let comes = put_late(&mut graph, alloc, LATE)? == Put::In;
+    let is_met = has_bases(&mut graph, alloc, (3, 9, &[9]))?;
+    let other = Row(9, 8, Some(1), &[]);
+    Ok(
+        comes
+            && is_met
+            && put_late(&mut graph, alloc, other)? == Put::Back
+            && has_bases(&mut graph, alloc, (1, 9, &[9]))?,
+    )
+}
+
 #[test]
 fn a_source_keeps_the_first_commit_of_an_id(rt: HostRuntime) -> Result<(), Fail> {
     assert!(rt; keeps_the_first(rt.alloc())?);
+    assert!(rt; meets_a_late_parent(rt.alloc())?);
     assert!(rt; put_without_memory(rt.alloc())? == (Put::BackForMemory, Put::In));
     assert!(rt; prints(rt.alloc(), &Error::Source, "the source failed")?);
     assert!(rt; prints(rt.alloc(), &Error::OutOfMemory, "out of memory")?);

@@ -1,8 +1,8 @@
 //! What is described as text and as bytes, as git-describe prints it (`--long`, `--abbrev`, `--dirty`), and copies.
 
 use super::cases::{FIRST_PARENT, Want, names_of, options_of, says};
-use crate::histories::id;
-use crate::printed::prints;
+use fixtures::histories::id;
+use fixtures::printed::prints;
 use gix_base::hash::ObjectId;
 use gix_revision::describe::{Format, Outcome};
 use std::alloc::{AllocError, Global};

@@ -9,10 +9,10 @@
 //!     1
 //! ```
 
-use crate::faults::{first_lost, first_wrong};
-use crate::histories::{CRISS_CROSS, OLDER_CHILD, Row};
 use crate::questions::Call::{Octopus, OctopusBases};
 use crate::questions::Question;
+use fixtures::faults::{first_lost, first_wrong};
+use fixtures::histories::{CRISS_CROSS, OLDER_CHILD, Row};
 use std::test::Fail;
 
 /// The criss-cross on the left, where [3] is younger than [2].

@@ -13,7 +13,7 @@
 //! forty digits x, and a number sign for the byte 255.
 
 use crate::delegate::{Answers, Told};
-use crate::histories::written_out;
+use fixtures::histories::written_out;
 use gix_base::date::Time;
 use gix_base::error::Exn;
 use gix_spec::spec::parse::{Error, parse};

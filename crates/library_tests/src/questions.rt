@@ -1,8 +1,8 @@
 //! Questions of the calls of `merge_base`, as tables have them.
 
-use crate::faults::{Answered, Asks};
-use crate::histories::{Row, are, id, ids, source_of};
-use crate::sources::{Failing, Turn};
+use fixtures::faults::{Answered, Asks};
+use fixtures::histories::{Row, are, id, ids, source_of};
+use fixtures::sources::{Failing, Turn};
 use gix_revision::error::NonEmpty;
 use gix_revision::graph::{Commit, Find, FindFault, Graph};
 use gix_revision::hash::ObjectId;

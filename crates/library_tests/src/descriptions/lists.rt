@@ -2,8 +2,8 @@
 //! refused, and the others are answered.
 
 use super::cases::{LINE, Met, PLAIN, Want, options_of, says};
-use crate::histories::{id, source_of};
-use crate::sources::{Failing, Turn};
+use fixtures::histories::{id, source_of};
+use fixtures::sources::{Failing, Turn};
 use gix_base::error::Message;
 use gix_revision::describe::{Answer, Query, run};
 use gix_revision::graph::{Find, FindFault, Graph};

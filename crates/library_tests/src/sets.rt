@@ -1,6 +1,6 @@
 //! Merge bases against a slow plain program over sets, on the worked histories.
 
-use crate::histories::{CRISS_CROSS, OLD_PATH, OLDER_CHILD, Row, id, source_of};
+use fixtures::histories::{CRISS_CROSS, OLD_PATH, OLDER_CHILD, Row, id, source_of};
 use gix_revision::error::NonEmpty;
 use gix_revision::graph::{Commit, Graph, MemorySource};
 use gix_revision::hash::ObjectId;

@@ -9,8 +9,8 @@
 //!   3---5
 //! ```
 
-use crate::faults::{Answered, Asks, first_lost, first_wrong};
-use crate::histories::{CRISS_CROSS, Row, are, id, source_of};
+use fixtures::faults::{Answered, Asks, first_lost, first_wrong};
+use fixtures::histories::{CRISS_CROSS, Row, are, id, source_of};
 use gix_resolve::{ListError, commits, page};
 use gix_revision::graph::{Commit, Find, Graph};
 use gix_revision::hash::ObjectId;

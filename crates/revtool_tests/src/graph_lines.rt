@@ -1,0 +1,159 @@
+//! What `revtool` answers to lines over a commit-graph file, what it says of a file that it can't use, and what it reads of a
+//! command line.
+
+use crate::lines::{Came, Run, judged, row_of};
+use fixtures::graph_files::{file, levelled};
+use refusing::Refusing;
+use revtool::{FileFault, Request, open_graph, read_graph, run_over};
+use std::alloc::{AllocError, Allocator, Global};
+use std::io;
+use std::string::String;
+use std::test::Fail;
+
+/// Lines over the file of five commits, the status, and what is written. The third stands in no other line than those of the file;
+/// the octopus merge has a newer child, and an id that begins like its own.
+const ROWS: [&str; 6] = [
+    "base c5f95b31d00a42c40e7802fb583d1d3ba95e4a6d 6ec51cce1d57faa4c7a89b1bd415c748c14c8eec|spec c24f^2|list c5f9^!|list c24f^@ => 0 \
+base 6ec51cce1d57faa4c7a89b1bd415c748c14c8eec|spec c2ae463f2de8e30be91d8ecc93e9d64145174877|\
+list c5f95b31d00a42c40e7802fb583d1d3ba95e4a6d|list 6ec51cce1d57faa4c7a89b1bd415c748c14c8eec \
+823a8a296fc96cbdaba5c22bfe4b19f0de84017e c2ae463f2de8e30be91d8ecc93e9d64145174877|",
+    "name 823a8a296fc96cbdaba5c22bfe4b19f0de84017e v1|describe c5f95b31d00a42c40e7802fb583d1d3ba95e4a6d|describe [1] => 1 \
+describe v1-4-gc5f95b3|describe refused D2|",
+    "commit [1] 9 - c5f95b31d00a42c40e7802fb583d1d3ba95e4a6d|base [1] c2ae463f2de8e30be91d8ecc93e9d64145174877|spec 1111^2|spec 1111~2 => 1 \
+base c2ae463f2de8e30be91d8ecc93e9d64145174877|spec refused P24|spec c24fca1e7a4c843cec00341ad5c04d650d834b85|",
+    "commit c5f9000000000000000000000000000000000000 9 -|spec c5f95b|spec c5f90|spec c5f9 => 1 \
+spec c5f95b31d00a42c40e7802fb583d1d3ba95e4a6d|spec c5f9000000000000000000000000000000000000|spec refused P12|",
+    "|commit [1] 9 -|commit c5f95b31d00a42c40e7802fb583d1d3ba95e4a6d 9 - => 2 line 3 is unreadable|",
+    " => 0",
+];
+
+/// A run over the file.
+fn run_with<A: Allocator + Copy>(to: Global, alloc: A, text: &[u8]) -> Run {
+    let mut input = text;
+    let mut output = Vec::new(to);
+    let mut faults = Vec::new(to);
+    let status = run_over(
+        alloc,
+        to,
+        levelled(to),
+        &mut input,
+        &mut output,
+        &mut faults,
+    );
+    Run {
+        status,
+        output,
+        faults,
+    }
+}
+
+/// Whether lines are answered as a row says, and as it says or with want of memory where each request is refused in turn.
+fn is_answered(alloc: Global, row: &str) -> Result<bool, AllocError> {
+    let row = row_of(alloc, "", row)?;
+    for number in 0..2000u64 {
+        let memory = Refusing::new(alloc, number);
+        let came = judged(
+            &run_with(alloc, &memory, &row.text),
+            (row.status, &row.written),
+        );
+        if !memory.has_refused() {
+            return Ok(came == Came::Answered);
+        }
+        if came == Came::Wrong {
+            return Ok(false);
+        }
+    }
+    Ok(false)
+}
+
+/// The first row that is not answered so.
+fn first_wrong(alloc: Global) -> Result<Option<&'static str>, AllocError> {
+    for row in ROWS {
+        if !is_answered(alloc, row)? {
+            return Ok(Some(row));
+        }
+    }
+    Ok(None)
+}
+
+/// What is printed of a fault.
+fn said(alloc: Global, fault: &FileFault) -> Result<String, AllocError> {
+    format!(in alloc; "{fault}")
+}
+
+/// What is said of the file where a byte of it is changed; none where it is opened.
+fn said_of_changed(alloc: Global, place: usize, byte: u8) -> Result<Option<String>, AllocError> {
+    let mut bytes = file(alloc)?;
+    if let Some(at) = bytes.get_mut(place) {
+        *at = byte;
+    }
+    match open_graph(bytes) {
+        Ok(_) => Ok(None),
+        Err(fault) => Ok(Some(said(alloc, &fault)?)),
+    }
+}
+
+/// Whether the file is read to its end, whatever its size was said to be.
+fn is_read(alloc: Global, size: usize) -> Result<bool, AllocError> {
+    let bytes = file(alloc)?;
+    let mut input = bytes.as_slice();
+    Ok(read_graph(alloc, size, &mut input).is_ok() && input.is_empty())
+}
+
+#[test]
+fn lines_are_answered_over_a_file(rt: HostRuntime) -> Result<(), Fail> {
+    assert_eq!(rt; first_wrong(rt.alloc())?, None);
+    Ok(())
+}
+
+#[test]
+fn a_file_that_is_not_used_is_named(rt: HostRuntime) -> Result<(), Fail> {
+    assert!(rt; said_of_changed(rt.alloc(), 0, b'c')?.as_deref() == Some("no commit-graph file"));
+    // The root's level is 0.
+    assert!(rt;
+        said_of_changed(rt.alloc(), 0x4b4 + 36 + 31, 0)?.as_deref()
+            == Some("levels that do not fall")
+    );
+    let missing = FileFault::Unreadable(io::Error::from(io::ErrorKind::NotFound));
+    assert!(rt; said(rt.alloc(), &missing)?.as_str() == "entity not found");
+    assert!(rt; is_read(rt.alloc(), 0)? && is_read(rt.alloc(), 5000)?);
+    Ok(())
+}
+
+/// What is read of a command line whose words are parted by spaces, and what a file is named.
+fn read_as(alloc: Global, line: &str, want: Request<'_>) -> Result<bool, AllocError> {
+    let mut words = Vec::new(alloc);
+    for word in line.split(' ') {
+        words.push(String::from_str(alloc, word)?)?;
+    }
+    Ok(Request::of(&words) == want)
+}
+
+/// Command lines, and what they ask for.
+const REQUESTS: [(&str, Request<'static>); 8] = [
+    ("--commit-graph a/b", Request::AnswersOver("a/b")),
+    ("--commit-graph=a=b", Request::AnswersOver("a=b")),
+    ("--help", Request::Help),
+    ("-V", Request::Version),
+    ("--commit-graph", Request::Unread("--commit-graph")),
+    ("--commit-graph a b", Request::Unread("--commit-graph")),
+    ("base", Request::Unread("base")),
+    ("--commit-graphs=a", Request::Unread("--commit-graphs=a")),
+];
+
+/// The first command line that is read otherwise.
+fn first_misread(alloc: Global) -> Result<Option<&'static str>, AllocError> {
+    for (line, want) in REQUESTS {
+        if !read_as(alloc, line, want)? {
+            return Ok(Some(line));
+        }
+    }
+    Ok(None)
+}
+
+#[test]
+fn command_lines_are_read(rt: HostRuntime) -> Result<(), Fail> {
+    assert!(rt; Request::of(&[]) == Request::Answers);
+    assert_eq!(rt; first_misread(rt.alloc())?, None);
+    Ok(())
+}

@@ -1,0 +1,18 @@
+//! Tests of `revtool`, and of the calls that a text makes, which its recorder writes down: worked rows, and hostile
+//! delegates, streams and memory.
+#![tactic(auto)]
+
+#[cfg(test)]
+mod braces;
+#[cfg(test)]
+mod calls;
+#[cfg(test)]
+mod delegate;
+#[cfg(test)]
+mod graph_lines;
+#[cfg(test)]
+mod lines;
+#[cfg(test)]
+mod streams;
+#[cfg(test)]
+mod texts;
