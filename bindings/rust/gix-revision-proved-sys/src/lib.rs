@@ -1,0 +1,144 @@
+//! The declarations of `gix_revision.h`, which says what each function does and what its caller owes.
+#![no_std]
+#![allow(non_camel_case_types)]
+
+use core::marker::{PhantomData, PhantomPinned};
+
+pub const GIX_OK: i32 = 0;
+pub const GIX_NONE: i32 = 1;
+pub const GIX_OUT_OF_MEMORY: i32 = -1;
+pub const GIX_ALREADY_THERE: i32 = -2;
+pub const GIX_NO_COMMIT: i32 = -4;
+pub const GIX_TOO_MANY: i32 = -5;
+pub const GIX_NO_KIND: i32 = -6;
+pub const GIX_FAULT: i32 = 100;
+
+pub const GIX_INCLUDE: u32 = 0;
+pub const GIX_EXCLUDE: u32 = 1;
+pub const GIX_RANGE: u32 = 2;
+pub const GIX_MERGE: u32 = 3;
+pub const GIX_ONLY_PARENTS: u32 = 4;
+pub const GIX_WITHOUT_PARENTS: u32 = 5;
+
+#[repr(C)]
+#[derive(Clone, Copy, Debug, PartialEq, Eq)]
+pub struct gix_id {
+    pub bytes: [u8; 20],
+}
+
+#[repr(C)]
+pub struct gix_history {
+    private: [u8; 0],
+    marker: PhantomData<(*mut u8, PhantomPinned)>,
+}
+
+#[repr(C)]
+#[derive(Clone, Copy, Debug)]
+pub struct gix_name {
+    pub id: gix_id,
+    pub text: *const u8,
+    pub text_len: usize,
+}
+
+#[repr(C)]
+#[derive(Clone, Copy, Debug)]
+pub struct gix_how {
+    pub max_candidates: usize,
+    pub hex_len: usize,
+    pub first_parent: bool,
+    pub fallback_to_id: bool,
+    pub long_form: bool,
+}
+
+#[repr(C)]
+#[derive(Clone, Copy, Debug)]
+pub struct gix_span {
+    pub kind: u32,
+    pub first: gix_id,
+    pub second: gix_id,
+}
+
+extern "C" {
+    pub fn gix_history_new(out: *mut *mut gix_history) -> i32;
+    pub fn gix_history_free(history: *mut gix_history);
+    pub fn gix_history_insert(
+        history: *mut gix_history,
+        id: *const gix_id,
+        parents: *const gix_id,
+        parents_len: usize,
+        time: i64,
+        has_generation: bool,
+        generation: u32,
+    ) -> i32;
+    pub fn gix_history_merge_bases(
+        history: *mut gix_history,
+        first: *const gix_id,
+        others: *const gix_id,
+        others_len: usize,
+        out: *mut gix_id,
+        out_len: usize,
+        count: *mut usize,
+    ) -> i32;
+    pub fn gix_history_octopus(
+        history: *mut gix_history,
+        first: *const gix_id,
+        others: *const gix_id,
+        others_len: usize,
+        out: *mut gix_id,
+    ) -> i32;
+    pub fn gix_history_is_ancestor(
+        history: *mut gix_history,
+        ancestor: *const gix_id,
+        of: *const gix_id,
+    ) -> i32;
+    pub fn gix_history_independent(
+        history: *mut gix_history,
+        ids: *const gix_id,
+        ids_len: usize,
+        out: *mut gix_id,
+        out_len: usize,
+        count: *mut usize,
+    ) -> i32;
+    pub fn gix_history_describe(
+        history: *mut gix_history,
+        commit: *const gix_id,
+        names: *const gix_name,
+        names_len: usize,
+        how: *const gix_how,
+        out: *mut u8,
+        out_len: usize,
+        len: *mut usize,
+        depth: *mut u32,
+    ) -> i32;
+    pub fn gix_history_name(
+        history: *mut gix_history,
+        name: *const u8,
+        name_len: usize,
+        id: *const gix_id,
+    ) -> i32;
+    pub fn gix_history_resolve(
+        history: *mut gix_history,
+        text: *const u8,
+        text_len: usize,
+        seconds: i64,
+        offset: i32,
+        out: *mut gix_span,
+    ) -> i32;
+    pub fn gix_history_rev_parse(
+        history: *mut gix_history,
+        text: *const u8,
+        text_len: usize,
+        seconds: i64,
+        offset: i32,
+        out: *mut gix_span,
+    ) -> i32;
+    pub fn gix_history_list(
+        history: *mut gix_history,
+        span: *const gix_span,
+        after: *const gix_id,
+        after_len: usize,
+        out: *mut gix_id,
+        out_len: usize,
+        count: *mut usize,
+    ) -> i32;
+}

@@ -1,0 +1,87 @@
+//! Each call over a criss-cross, and a history that another thread uses.
+
+use gix_revision_proved::{Error, History, How, Id, Span};
+
+const fn id(byte: u8) -> Id {
+    Id([byte; 20])
+}
+
+fn criss_cross() -> Result<History, Error> {
+    let mut history = History::new()?;
+    history.insert(id(0x11), &[], 1, None)?;
+    history.insert(id(0x22), &[id(0x11)], 2, None)?;
+    history.insert(id(0x33), &[id(0x11)], 2, None)?;
+    history.insert(id(0x44), &[id(0x22), id(0x33)], 4, None)?;
+    history.insert(id(0x55), &[id(0x22), id(0x33)], 5, None)?;
+    Ok(history)
+}
+
+#[test]
+fn bases_are_found() -> Result<(), Error> {
+    let mut history = criss_cross()?;
+    assert_eq!(
+        history.merge_bases(id(0x44), &[id(0x55)])?,
+        [id(0x22), id(0x33)]
+    );
+    assert_eq!(history.merge_bases(id(0x44), &[id(0x99)])?, []);
+    assert_eq!(history.octopus(id(0x44), &[id(0x55)])?, Some(id(0x22)));
+    assert_eq!(history.octopus(id(0x44), &[id(0x99)])?, None);
+    assert_eq!(history.independent(&[id(0x22), id(0x44)])?, [id(0x44)]);
+    assert!(!history.is_ancestor(id(0x55), id(0x11))?);
+    assert_eq!(
+        history.insert(id(0x55), &[], 5, Some(1)),
+        Err(Error::AlreadyThere)
+    );
+    Ok(())
+}
+
+#[test]
+fn commits_are_described() -> Result<(), Error> {
+    let mut history = criss_cross()?;
+    let found = history.describe(id(0x44), &[(id(0x11), b"v1")], How::default())?;
+    assert_eq!(found, Some((b"v1-3-g4444444".to_vec(), 3)));
+    assert_eq!(history.describe(id(0x44), &[], How::default())?, None);
+    assert_eq!(
+        history.describe(id(0x99), &[(id(0x11), b"v1")], How::default()),
+        Err(Error::NoCommit)
+    );
+    let long = [b'v'; 100];
+    assert_eq!(
+        history.describe(id(0x11), &[(id(0x11), &long)], How::default())?,
+        Some((long.to_vec(), 0))
+    );
+    Ok(())
+}
+
+#[test]
+fn texts_are_resolved() -> Result<(), Error> {
+    let mut history = criss_cross()?;
+    history.name(b"main", id(0x44))?;
+    let span = history.resolve(b"main~1..5555", 0, 0)?;
+    assert_eq!(
+        span,
+        Span::Range {
+            from: id(0x22),
+            to: id(0x55)
+        }
+    );
+    assert_eq!(
+        history.list(span, 1).collect::<Result<Vec<_>, _>>()?,
+        [id(0x33), id(0x55)]
+    );
+    history.name(b"5555", id(0x44))?;
+    assert_eq!(history.rev_parse(b"5555", 0, 0)?, Span::Include(id(0x44)));
+    assert_eq!(history.resolve(b"nowhere", 0, 0), Err(Error::Fault(12)));
+    Ok(())
+}
+
+#[test]
+fn another_thread_uses_it() {
+    let mut history = criss_cross().unwrap();
+    let asked = std::thread::spawn(move || {
+        history
+            .merge_bases(id(0x44), &[id(0x55)])
+            .map(|bases| bases.len())
+    });
+    assert_eq!(asked.join().unwrap(), Ok(2));
+}

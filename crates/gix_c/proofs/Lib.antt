@@ -1,0 +1,5 @@
+pub mod AsBox
+pub mod Values
+pub mod Named
+pub mod Printed
+pub mod Undescribed

@@ -1,0 +1,161 @@
+//! What C calls to have a commit described.
+
+ghost use Rattle.std.specs.Prelude.{◌≡◌, ◌^◌, ⊤, ℕ, IfOk, OnErr, OnOk, None};
+ghost use Rattle.gix_base.specs.declared.hash.ObjectId.{ObjectId};
+ghost use Rattle.gix_revwalk.specs.Followed.{followed};
+ghost use Rattle.gix_revwalk.specs.History.{Has, IsAncestor};
+ghost use Rattle.gix_revwalk.specs.Sizes.{AtLeast};
+ghost use Rattle.gix_describe.specs.Described.{name_at};
+ghost use Rattle.gix_describe.specs.Outcomes.{names_of, description_of};
+ghost use Rattle.gix_c.specs.Answers.{ByCode, id_of};
+ghost use Rattle.gix_c.specs.Behind.{commits_of};
+ghost use Rattle.gix_c.specs.Descriptions.{AreOptions, HasDescription, IsDescribedSo, IsPrinted, IsText, first_of, names_given, named_by};
+
+use crate::handle::Handle;
+use crate::status::{NO_COMMIT, NONE, OK, OUT_OF_MEMORY, TOO_MANY};
+use gix_revision::describe::{Names, Options, Outcome, describe};
+use gix_revision::error::Message;
+use gix_revision::graph::Graph;
+use gix_revision::hash::ObjectId;
+use std::alloc::{AllocError, Global};
+use std::borrow::CowSlice;
+use std::collections::HashMap;
+
+/// The name of a commit.
+#[repr(C)]
+#[derive(Clone, Copy)]
+pub struct Name<'a> {
+    id: [u8; 20],
+    text: &'a [u8],
+}
+
+/// How a commit is described.
+#[repr(C)]
+#[derive(Clone, Copy)]
+pub struct How {
+    max_candidates: usize,
+    hex_len: usize,
+    first_parent: bool,
+    fallback_to_id: bool,
+    long_form: bool,
+}
+
+/// Names a commit, unless it has a name.
+fn add_name<'a>(map: &mut Names<'a>, name: &Name<'a>) -> Result<(), AllocError>
+    ensures { OnOk result ((q : ObjectId) → name_at (names_of map.new.entries) q
+        ≡ first_of (name_at (names_of map.old.entries) q) (named_by name.now q)) }
+{
+    let id = ObjectId(name.id);
+    if !map.contains_key(&id) {
+        map.insert(id, CowSlice::Borrowed(name.text))?;
+    }
+    Ok(())
+}
+
+/// The first name of each commit.
+fn first_names<'a>(alloc: Global, names: &[Name<'a>]) -> Result<Names<'a>, AllocError>
+    ensures { IfOk result (λ map. (q : ObjectId)
+        → name_at (names_of map.entries) q ≡ name_at (names_given names.now) q) }
+{
+    let mut map = HashMap::new(alloc);
+    for name in names {
+        add_name(&mut map, name)?;
+    }
+    Ok(map)
+}
+
+/// What to describe by.
+fn options_of<'a>(alloc: Global, names: &[Name<'a>], how: &How) -> Result<Options<'a>, AllocError>
+    ensures { IfOk result (AreOptions (names_given names.now) how.now) }
+{
+    let name_by_oid = first_names(alloc, names)?;
+    Ok(Options {
+        name_by_oid,
+        max_candidates: how.max_candidates,
+        fallback_to_oid: how.fallback_to_id,
+        first_parent: how.first_parent,
+    })
+}
+
+/// Copies the first bytes of a text, as many as there is room for, and says how many there are.
+pub(crate) fn write_text(text: &[u8], out: &mut [u8], len: &mut usize)
+    ensures { IsText text.now out.old out.new len.new }
+{
+    let room = text.len().min(out.len());
+    out[..room].copy_from_slice(&text[..room]);
+    *len = text.len();
+}
+
+/// The description as it is printed.
+fn printed(
+    alloc: Global,
+    outcome: Outcome<'_>,
+    how: &How,
+    out: &mut [u8],
+    len: &mut usize,
+    depth: &mut u32,
+) -> Result<(), AllocError>
+    ensures printed { OnOk result (IsPrinted outcome.entry.id (description_of outcome.entry) how.now
+        out.old out.new len.new depth.new) }
+    ensures refused { OnErr result
+        ((out.new ≡ out.old) × (len.new ≡ len.old) × (depth.new ≡ depth.old)) }
+{
+    let found = outcome.depth;
+    let mut format = outcome.into_format(how.hex_len);
+    format.long = how.long_form;
+    let mut text = Vec::new(alloc);
+    match format.write_to(&mut text) {
+        Ok(()) => {}
+        Err(_) => return Err(AllocError),
+    }
+    write_text(&text, out, len);
+    *depth = found;
+    Ok(())
+}
+
+/// The description of a commit, by names that are handed in. Nothing that the history holds is
+/// dropped.
+#[unsafe(no_mangle)]
+pub extern "C" fn gix_history_describe(
+    alloc: Global,
+    history: &mut Handle,
+    commit: &[u8; 20],
+    names: &[Name],
+    how: &How,
+    out: &mut [u8],
+    len: &mut usize,
+    depth: &mut u32,
+) -> i32
+    ensures described { ByCode result
+        (HasDescription (commits_of history.old) (id_of commit.now) (names_given names.now) how.now
+        out.old out.new len.new depth.new)
+        (IsDescribedSo (commits_of history.old) (id_of commit.now) (names_given names.now) how.now None)
+        ⊤ }
+    ensures unwritten { ByCode result ⊤
+        ((out.new ≡ out.old) × (len.new ≡ len.old) × (depth.new ≡ depth.old))
+        ((out.new ≡ out.old) × (len.new ≡ len.old) × (depth.new ≡ depth.old)) }
+    ensures no_commit { result ≡ NO_COMMIT → ¬ Has (commits_of history.old) (id_of commit.now) }
+    ensures too_many { result ≡ TOO_MANY → AtLeast (2 ^ 32)
+        (IsAncestor (followed how.now.first_parent (commits_of history.old)) (id_of commit.now)) }
+    ensures kept { history.new.value ≡ history.old.value }
+{
+    let Ok(options) = options_of(alloc, names, how) else {
+        return OUT_OF_MEMORY;
+    };
+    let mut marks = Graph::new(alloc, history.get_mut().graph.source());
+    let found = match describe(alloc, &ObjectId(*commit), &mut marks, options) {
+        Ok(found) => found,
+        // A source in memory does not fail.
+        Err(Message::ParentsOf(_)) => unreachable!(),
+        Err(Message::MissingStart(_)) => return NO_COMMIT,
+        Err(Message::CounterFull) => return TOO_MANY,
+        Err(Message::OutOfMemory) => return OUT_OF_MEMORY,
+    };
+    match found {
+        Some(outcome) => match printed(alloc, outcome, how, out, len, depth) {
+            Ok(()) => OK,
+            Err(_) => OUT_OF_MEMORY,
+        },
+        None => NONE,
+    }
+}

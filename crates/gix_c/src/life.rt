@@ -1,0 +1,91 @@
+//! What C calls to make a history, to fill it and to free it.
+
+ghost use Rattle.std.specs.Borrow.{sem};
+ghost use Rattle.std.specs.Prelude.{◌≡◌, ⊤, Some, None, if◌then◌else◌};
+ghost use Rattle.gix_revwalk.specs.History.{Has, entry_at, same_id};
+ghost use Rattle.gix_base.specs.declared.hash.ObjectId.{ObjectId};
+ghost use Rattle.gix_c.specs.Answers.{ByCode, entry_given, id_of};
+ghost use Rattle.gix_c.specs.Behind.{commits_of};
+ghost use Rattle.gix_c.specs.declared.handle.Handle.{Handle};
+ghost use Rattle.gix_c.specs.Owned.{owns_handle, IsNew};
+
+use crate::handle::Handle;
+use crate::history::History;
+use crate::ids::ids_of;
+use crate::loose::Loose;
+use crate::place::Place;
+use crate::status::{ALREADY_THERE, OK, OUT_OF_MEMORY};
+use gix_revision::graph::{InsertError, SourceCommit};
+use gix_revision::hash::ObjectId;
+use std::alloc::Global;
+
+/// Makes a history without commits, which `*out` owns from then on. What it owned before is not
+/// freed.
+#[unsafe(no_mangle)]
+pub extern "C" fn gix_history_new(alloc: Global, out: &mut Place) -> i32
+    ensures { ByCode result (IsNew out.new.value) ⊥ ((result ≡ OUT_OF_MEMORY) × (out.new ≡ out.old)) }
+{
+    let Ok(history) = Box::new(alloc, History::new(alloc)) else {
+        return OUT_OF_MEMORY;
+    };
+    let Ok(handle) = Box::new(alloc, Handle::new(history)) else {
+        return OUT_OF_MEMORY;
+    };
+    *out = Place::of(Loose::of(handle));
+    OK
+}
+
+/// Puts a commit under an id that has none.
+#[unsafe(no_mangle)]
+pub extern "C" fn gix_history_insert(
+    alloc: Global,
+    history: &mut Handle,
+    id: &[u8; 20],
+    parents: &[[u8; 20]],
+    time: i64,
+    has_generation: bool,
+    generation: u32,
+) -> i32
+    ensures new { ByCode result (entry_at (commits_of history.old) (id_of id.now) ≡ None) ⊥ ⊤ }
+    ensures put { ByCode result ((q : ObjectId) → entry_at (commits_of history.new) q
+        ≡ (if same_id (id_of id.now) q
+        then Some (entry_given parents.now time has_generation generation)
+        else entry_at (commits_of history.old) q)) ⊥ (commits_of history.new ≡ commits_of history.old) }
+    ensures there { result ≡ ALREADY_THERE → Has (commits_of history.old) (id_of id.now) }
+    ensures held { history.new.value.graph.held ≡ history.old.value.graph.held }
+{
+    let Ok(parents) = ids_of(alloc, parents) else {
+        return OUT_OF_MEMORY;
+    };
+    let commit = SourceCommit {
+        parents,
+        time,
+        generation: if has_generation {
+            Some(generation)
+        } else {
+            None
+        },
+    };
+    let history = history.get_mut();
+    if history.add_id(ObjectId(*id)).is_err() {
+        return OUT_OF_MEMORY;
+    }
+    match history.insert(ObjectId(*id), commit) {
+        Ok(()) => OK,
+        Err(InsertError::AlreadyThere(_)) => ALREADY_THERE,
+        Err(InsertError::OutOfMemory(_)) => OUT_OF_MEMORY,
+    }
+}
+
+fn dispose(handle: Loose<Handle, Global>) {
+    drop(handle.into_box());
+}
+
+/// Frees a history that [`gix_history_new`] made.
+#[unsafe(no_mangle)]
+pub unsafe extern "C" fn gix_history_free(alloc: Global, history: *mut Handle)
+    ghost value: { Handle }
+    requires* { sem 𝓛 (owns_handle alloc history value) }
+{
+    dispose(Loose { at: history, alloc });
+}

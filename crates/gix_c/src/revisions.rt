@@ -1,0 +1,199 @@
+//! What C calls to have revision texts resolved, and commits listed.
+
+ghost use Rattle.std.specs.Prelude.{◌≡◌, ⊤, None, Some, slice_get};
+ghost use Rattle.std.specs.Option.{option_map};
+ghost use Rattle.gix_resolve.specs.Resolved.{Resolved};
+ghost use Rattle.gix_resolve.specs.RevParse.{RevParsed};
+ghost use Rattle.gix_c.specs.Answers.{ByCode, id_of};
+ghost use Rattle.gix_c.specs.Behind.{commits_of};
+ghost use Rattle.gix_c.specs.Spans.{spec_at, HasFault, HasSpec, HasPage};
+
+use crate::handle::Handle;
+use crate::ids::{bytes_of, bytes_of_each, write};
+use crate::status::{FAULT, NO_KIND, OK, OUT_OF_MEMORY};
+use gix_resolve::{ListError, page, resolve, rev_parse};
+use gix_revision::date::Time;
+use gix_revision::hash::ObjectId;
+use gix_revision::spec::Spec;
+use gix_revision::spec::parse::Error;
+use std::alloc::Global;
+
+/// A set of commits by the ids that span it. The second id counts for `RANGE` and `MERGE` alone.
+#[repr(C)]
+#[derive(Clone, Copy)]
+pub struct Span {
+    kind: u32,
+    first: [u8; 20],
+    second: [u8; 20],
+}
+
+const INCLUDE: u32 = 0;
+
+const EXCLUDE: u32 = 1;
+
+const RANGE: u32 = 2;
+
+const MERGE: u32 = 3;
+
+const ONLY_PARENTS: u32 = 4;
+
+const WITHOUT_PARENTS: u32 = 5;
+
+fn span_of(spec: Spec) -> Span
+    ensures { spec_at result ≡ Some spec }
+{
+    let (kind, first, second) = match spec {
+        Spec::Include(id) => (INCLUDE, id, id),
+        Spec::Exclude(id) => (EXCLUDE, id, id),
+        Spec::Range { from, to } => (RANGE, from, to),
+        Spec::Merge { theirs, ours } => (MERGE, theirs, ours),
+        Spec::IncludeOnlyParents(id) => (ONLY_PARENTS, id, id),
+        Spec::ExcludeParents(id) => (WITHOUT_PARENTS, id, id),
+    };
+    let first = bytes_of(&first);
+    let second = bytes_of(&second);
+    Span {
+        kind,
+        first,
+        second,
+    }
+}
+
+fn spec_of(span: &Span) -> Option<Spec>
+    ensures { result ≡ spec_at span.now }
+{
+    let first = ObjectId(span.first);
+    let second = ObjectId(span.second);
+    match span.kind {
+        INCLUDE => Some(Spec::Include(first)),
+        EXCLUDE => Some(Spec::Exclude(first)),
+        RANGE => Some(Spec::Range {
+            from: first,
+            to: second,
+        }),
+        MERGE => Some(Spec::Merge {
+            theirs: first,
+            ours: second,
+        }),
+        ONLY_PARENTS => Some(Spec::IncludeOnlyParents(first)),
+        WITHOUT_PARENTS => Some(Spec::ExcludeParents(first)),
+        _ => None,
+    }
+}
+
+/// Says what a name stands for. A name that stood for another id stands for this one.
+#[unsafe(no_mangle)]
+pub extern "C" fn gix_history_name(
+    alloc: Global,
+    history: &mut Handle,
+    name: &[u8],
+    id: &[u8; 20],
+) -> i32
+    ensures { commits_of history.new ≡ commits_of history.old }
+{
+    let Ok(name) = name.to_vec(alloc) else {
+        return OUT_OF_MEMORY;
+    };
+    match history.get_mut().table.names.insert(name, ObjectId(*id)) {
+        Ok(_) => OK,
+        Err(_) => OUT_OF_MEMORY,
+    }
+}
+
+/// The set of commits that a text means, read at a moment.
+#[unsafe(no_mangle)]
+pub extern "C" fn gix_history_resolve(
+    alloc: Global,
+    history: &mut Handle,
+    text: &[u8],
+    seconds: i64,
+    offset: i32,
+    out: &mut Span,
+) -> i32
+    ensures spec { ByCode result
+        (HasSpec (Resolved text.now (record { seconds = seconds; offset = offset })
+        history.old.value.table (commits_of history.old)) out.new)
+        (HasFault (Resolved text.now (record { seconds = seconds; offset = offset })
+        history.old.value.table (commits_of history.old)) result)
+        (result ≡ OUT_OF_MEMORY) }
+    ensures kept { ByCode result ⊤ (out.new ≡ out.old) (out.new ≡ out.old) }
+    ensures commits { commits_of history.new ≡ commits_of history.old }
+{
+    let history = history.get_mut();
+    let now = Time { seconds, offset };
+    match resolve(alloc, alloc, text, now, &history.table, &mut history.graph) {
+        Ok(spec) => {
+            *out = span_of(spec);
+            OK
+        }
+        Err(Error::OutOfMemory) => OUT_OF_MEMORY,
+        Err(Error::Refused { fault, .. }) => FAULT + i32::from(fault.number()),
+    }
+}
+
+/// The set of commits that a text means, read at a moment, names before first digits
+/// of an id.
+#[unsafe(no_mangle)]
+pub extern "C" fn gix_history_rev_parse(
+    alloc: Global,
+    history: &mut Handle,
+    text: &[u8],
+    seconds: i64,
+    offset: i32,
+    out: &mut Span,
+) -> i32
+    ensures spec { ByCode result
+        (HasSpec (RevParsed text.now (record { seconds = seconds; offset = offset })
+        history.old.value.table (commits_of history.old)) out.new)
+        (HasFault (RevParsed text.now (record { seconds = seconds; offset = offset })
+        history.old.value.table (commits_of history.old)) result)
+        (result ≡ OUT_OF_MEMORY) }
+    ensures kept { ByCode result ⊤ (out.new ≡ out.old) (out.new ≡ out.old) }
+    ensures commits { commits_of history.new ≡ commits_of history.old }
+{
+    let history = history.get_mut();
+    let now = Time { seconds, offset };
+    match rev_parse(alloc, alloc, text, now, &history.table, &mut history.graph) {
+        Ok(spec) => {
+            *out = span_of(spec);
+            OK
+        }
+        Err(Error::OutOfMemory) => OUT_OF_MEMORY,
+        Err(Error::Refused { fault, .. }) => FAULT + i32::from(fault.number()),
+    }
+}
+
+/// The commits of a set, by rising id: the first ones past `after`, as many as there is room for.
+#[unsafe(no_mangle)]
+pub extern "C" fn gix_history_list(
+    alloc: Global,
+    history: &mut Handle,
+    span: &Span,
+    after: &[[u8; 20]],
+    out: &mut [[u8; 20]],
+    count: &mut usize,
+) -> i32
+    ensures page { ByCode result (HasPage (commits_of history.old) span.now
+        (option_map id_of (slice_get after.now 0)) out.old out.new count.new) ⊥ ⊤ }
+    ensures refused { ByCode result ⊤ ⊤ ((out.new ≡ out.old) × (count.new ≡ count.old)) }
+    ensures kind { result ≡ NO_KIND → spec_at span.now ≡ None }
+    ensures commits { commits_of history.new ≡ commits_of history.old }
+{
+    let Some(spec) = spec_of(span) else {
+        return NO_KIND;
+    };
+    let after = after.first().map(|id| ObjectId(*id));
+    let graph = &mut history.get_mut().graph;
+    match page(alloc, &spec, graph, after, out.len()) {
+        Ok(ids) => {
+            let Ok(bytes) = bytes_of_each(alloc, &ids) else {
+                return OUT_OF_MEMORY;
+            };
+            write(&bytes, out, count);
+            OK
+        }
+        // A source in memory does not fail.
+        Err(ListError::Source) => unreachable!(),
+        Err(ListError::OutOfMemory) => OUT_OF_MEMORY,
+    }
+}

@@ -1,0 +1,103 @@
+/* Each allocation fails in turn: the call is refused and repeated, then answers right, and nothing leaks.
+ * Linked with --wrap for the three functions that take memory. */
+#include "case.h"
+
+#include <stdlib.h>
+
+static long left = -1; /* allocations until one fails; below 0 none does */
+static long live = 0, refused = 0;
+
+static int fails(void) {
+    if (left < 0)
+        return 0;
+    if (left-- > 0)
+        return 0;
+    refused++;
+    return 1;
+}
+
+void *__real_malloc(size_t size);
+void *__real_realloc(void *block, size_t size);
+void __real_free(void *block);
+void *__wrap_malloc(size_t size);
+void *__wrap_realloc(void *block, size_t size);
+void __wrap_free(void *block);
+
+void *__wrap_malloc(size_t size) {
+    if (fails())
+        return NULL;
+    void *block = __real_malloc(size);
+    live += block != NULL;
+    return block;
+}
+
+void *__wrap_realloc(void *block, size_t size) {
+    if (fails())
+        return NULL;
+    void *moved = __real_realloc(block, size);
+    live += block == NULL && moved != NULL;
+    return moved;
+}
+
+void __wrap_free(void *block) {
+    live -= block != NULL;
+    __real_free(block);
+}
+
+/* Repeats a call that is refused for want of memory. */
+#define UNTIL(code, call)                                                     \
+    do {                                                                      \
+        int32_t got = (call);                                                 \
+        if (got == GIX_OUT_OF_MEMORY)                                         \
+            got = (call);                                                     \
+        if (got != (code)) {                                                  \
+            printf("line %d: code %d, allocation %ld\n", __LINE__, got, turn); \
+            failed = 1;                                                       \
+        }                                                                     \
+    } while (0)
+
+static void calls(gix_history *history, long turn) {
+    gix_id one = id_of(0x11), four = id_of(0x44), five = id_of(0x55), out[4];
+    gix_name name = {one, text_of("v1"), 2};
+    gix_how how = {10, 7, false, false, false};
+    gix_span span;
+    uint8_t text[32];
+    size_t count = 0, len = 0;
+    uint32_t depth = 0;
+    UNTIL(GIX_OK, put(history, 0x11, 0, 0, 1));
+    UNTIL(GIX_OK, put(history, 0x22, 0x11, 0, 2));
+    UNTIL(GIX_OK, put(history, 0x33, 0x11, 0, 2));
+    UNTIL(GIX_OK, put(history, 0x44, 0x22, 0x33, 4));
+    UNTIL(GIX_OK, put(history, 0x55, 0x22, 0x33, 5));
+    UNTIL(GIX_OK, gix_history_merge_bases(history, &four, &five, 1, out, 4, &count));
+    EXPECT(count == 2 && is_id(&out[0], 0x22) && is_id(&out[1], 0x33));
+    UNTIL(GIX_OK, gix_history_octopus(history, &four, &five, 1, out));
+    EXPECT(is_id(out, 0x22));
+    UNTIL(GIX_OK, gix_history_is_ancestor(history, &one, &five));
+    UNTIL(GIX_OK, gix_history_independent(history, &one, 1, out, 4, &count));
+    EXPECT(count == 1 && is_id(out, 0x11));
+    UNTIL(GIX_OK, gix_history_describe(history, &four, &name, 1, &how, text, sizeof text, &len, &depth));
+    EXPECT(len == 13 && memcmp(text, "v1-3-g4444444", 13) == 0);
+    UNTIL(GIX_OK, gix_history_name(history, text_of("main"), 4, &four));
+    UNTIL(GIX_OK, gix_history_resolve(history, text_of("5555~1..main^{commit}"), 21, 0, 0, &span));
+    UNTIL(GIX_OK, gix_history_rev_parse(history, text_of("5555^..main^{}"), 14, 0, 0, &span));
+    UNTIL(GIX_OK, gix_history_list(history, &span, &one, 0, out, 4, &count));
+    EXPECT(count == 2 && is_id(&out[0], 0x33) && is_id(&out[1], 0x44));
+}
+
+int main(void) {
+    long turn = -1, before;
+    do {
+        gix_history *history = NULL;
+        turn++;
+        before = refused;
+        left = turn;
+        UNTIL(GIX_OK, gix_history_new(&history));
+        calls(history, turn);
+        gix_history_free(history);
+        EXPECT(live == 0);
+    } while (refused > before);
+    left = -1;
+    printf("%ld allocations failed in turn: %s\n", turn, failed ? "failed" : "passed");
+    return failed;
+}
