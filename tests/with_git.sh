@@ -47,6 +47,40 @@ make() {
     git update-ref "refs/heads/commit-$((${#ids[@]} - 1))" "${ids[-1]}"
 }
 
+# A random history of 45 commits with 16 tags for git fast-import. Times rise, or with a second word are any.
+history() {
+    awk -v state="$1" -v skewed="${2-}" "$numbers"'
+        function who(n) { return " a <a@example.org> " 1000000000 + 100 * (skewed ? n * 29 % 53 : n) " +0000\ndata 0" }
+        BEGIN {
+            for (n = 1; n <= 45; n++) {
+                branch = "refs/heads/line-" drawn(4)
+                print "reset " branch "\ncommit " branch "\nmark :" n "\ncommitter" who(n)
+                parents = n == 1 || drawn(12) == 0 ? 0 : drawn(3) ? 1 : drawn(3) ? 2 : 3 + drawn(2)
+                for (i = 0; i < parents; i++) {
+                    parent = n - 1 - drawn(7)
+                    if (parent < 1) continue
+                    print (i ? "merge" : "from") " :" parent
+                }
+                print ""
+            }
+            for (tag = 1; tag <= 16; tag++) {
+                name = one_of("v|v|w|rel/|x-3-g") tag
+                commit = 1 + drawn(45)
+                if (drawn(2)) print "tag " name "\nfrom :" commit "\ntagger" who(drawn(45)) "\n"
+                else print "reset refs/tags/" name "\nfrom :" commit "\n"
+            }
+        }'
+}
+
+# A repository with a random history, whose folder, seed and times are given.
+make_random() {
+    git init -q "$1"
+    history "$2" "${3-}" | git -C "$1" fast-import --quiet --export-marks="$room/marks"
+    git -C "$1" symbolic-ref HEAD "refs/heads/$(git -C "$1" for-each-ref --count=1 --format='%(refname:lstrip=2)' refs/heads)"
+    git -C "$1" read-tree HEAD
+    sort -t : -k 2n "$room/marks" | cut -d ' ' -f 2 >"$room/ids"
+}
+
 # A copy of this project's own history without its tags, where there is one of at least five commits.
 begin_with_own_history() {
     local found
