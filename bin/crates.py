@@ -1,4 +1,5 @@
-"""What bin/build and bin/edits share. They do for many crates at once what rt does for one, by the functions of rt itself."""
+"""What the scripts in Python share: how they refuse and end; and for bin/build and bin/edits, which do for many crates at once what rt does
+for one, the functions of rt itself."""
 
 from __future__ import annotations
 
