@@ -4,12 +4,11 @@ ghost use Rattle.std.specs.Prelude.{◌≡◌, ◌≤◌, ◌<◌, ◌+◌, ◌^
 ghost use Rattle.std.specs.Option.{option_map};
 ghost use Rattle.std.specs.List.Sorted.{IsPermutation};
 ghost use Rattle.gix_base.specs.declared.hash.ObjectId.{ObjectId};
-ghost use Rattle.gix_revwalk.specs.Followed.{followed};
 ghost use Rattle.gix_revwalk.specs.Graph.{held_at};
 ghost use Rattle.gix_revwalk.specs.Noted.{noted_at};
 ghost use Rattle.gix_revwalk.specs.History.{History, same_id};
 ghost use Rattle.std.specs.Ordering.{is_lt, is_gt};
-ghost use Rattle.gix_describe.specs.Asks.{Asks, IsHandRefused, IsWalkRefused};
+ghost use Rattle.gix_describe.specs.Asks.{Asks, IsHandRefused};
 ghost use Rattle.gix_describe.specs.DescribeRefusals.{refusal};
 ghost use Rattle.gix_describe.specs.Choice.{rank_order, rank_at, name_of, IsChosen, IsFound};
 ghost use Rattle.gix_describe.specs.Counted.{CountsNamed};
@@ -19,7 +18,7 @@ ghost use Rattle.gix_describe.specs.Lacking.{lacks, lacking_in};
 ghost use Rattle.gix_describe.specs.Numbered.{IsNumbered, KeepsNumbers};
 ghost use Rattle.gix_describe.specs.Order.{HoldsFirst, IsTied};
 ghost use Rattle.gix_describe.specs.Outcomes.{names_of};
-ghost use Rattle.gix_describe.specs.Ties.{IsHeldAtFault};
+ghost use Rattle.gix_describe.specs.Searches.{along, RestsBy, TakesBy, AdmitsBy, IsEndedBy, IsFullBy, CompletesBy, CompletesTakenBy, IsCompleteBy, IsHeldAtFaultBy, AsksBy};
 
 use crate::describe::handing::{Hand, bit_of, count_late, hand_on, is_settled, mark, marks_of};
 use crate::describe::key::Key;
@@ -66,7 +65,7 @@ fn name_bytes<'a, 'name, A: Allocator + Copy>(names: &'a Names<'name, A>, id: &O
 impl<A: Allocator + Copy> Walk<A> {
     ghost use Rattle.gix_describe.specs.Handing.{IsEntry};
     ghost use Rattle.gix_describe.specs.Trace.{is_open, IsNext, IsWalk};
-    ghost use Rattle.gix_describe.specs.WalkState.{others, IsQueue, Rests, Takes, Admits, IsEnded, IsFull, Completes, CompletesTaken, IsComplete};
+    ghost use Rattle.gix_describe.specs.WalkState.{others, IsQueue};
 
     /// The start alone is queued, under the greatest of times, and held without marks.
     fn begin<S: Find>(
@@ -76,11 +75,10 @@ impl<A: Allocator + Copy> Walk<A> {
     ) -> Result<Walk<A>, Message>
         requires empty { (q : ObjectId) → held_at graph.old q ≡ None }
         ensures begun { IfOk result (λ w. (names : List (ObjectId × List ℕ))
-            → Rests (followed search.first_parent (S.history graph.old.source)) search.start names search.cap w graph.new) }
-        ensures fault { IfErr result (λ e. IsHeldAtFault (followed search.first_parent (S.history graph.old.source))
-            search.start e (held_at graph.new)) }
+            → RestsBy (S.history graph.old.source) search names w graph.new) }
+        ensures fault { IfErr result (IsHeldAtFaultBy (S.history graph.old.source) search (held_at graph.new)) }
         ensures asked { Asks S.history S.fault_count
-            (IsHandRefused (followed search.first_parent (S.history graph.old.source)) search.start)
+            (IsHandRefused (along search (S.history graph.old.source)) search.start)
             graph.old.source graph.new.source (refusal result) }
     {
         let start = search.start;
@@ -161,13 +159,10 @@ impl<A: Allocator + Copy> Walk<A> {
     ) -> Result<Option<Met>, Message>
         requires some { 0 < search.cap }
         requires cap { search.cap ≤ 32 }
-        requires taken { Takes (followed search.first_parent (S.history graph.old.source)) search.start
-            (names_of names.now.entries) search.cap next self.old graph.old }
+        requires taken { TakesBy (S.history graph.old.source) search (names_of names.now.entries) next self.old graph.old }
         ensures admitted { IfOk result (λ r. MatchOption r
-            (IsFull (followed search.first_parent (S.history graph.old.source)) search.start
-            (names_of names.now.entries) search.cap self.new graph.new)
-            (λ met. Admits (followed search.first_parent (S.history graph.old.source)) search.start
-            (names_of names.now.entries) search.cap met self.new graph.new)) }
+            (IsFullBy (S.history graph.old.source) search (names_of names.now.entries) self.new graph.new)
+            (λ met. AdmitsBy (S.history graph.old.source) search (names_of names.now.entries) met self.new graph.new)) }
         ensures refused { IfErr result (λ e. e ≡ Message.OutOfMemory) }
         ensures seen { self.new.seen ≡ self.old.seen }
         ensures source { graph.new.source ≡ graph.old.source }
@@ -198,19 +193,13 @@ impl<A: Allocator + Copy> Walk<A> {
     ) -> Result<bool, Message>
         requires cap { search.cap ≤ 32 }
         requires unnamed { name_at (names_of names.now.entries) search.start ≡ None }
-        requires admitted { Admits (followed search.first_parent (S.history graph.old.source)) search.start
-            (names_of names.now.entries) search.cap met.now self.old graph.old }
+        requires admitted { AdmitsBy (S.history graph.old.source) search (names_of names.now.entries) met.now self.old graph.old }
         ensures passed { IfOk result (λ settled. MatchBool settled
-            (IsEnded (followed search.first_parent (S.history graph.old.source)) search.start
-            (names_of names.now.entries) search.cap self.new graph.new)
-            (Rests (followed search.first_parent (S.history graph.old.source)) search.start
-            (names_of names.now.entries) search.cap self.new graph.new)) }
+            (IsEndedBy (S.history graph.old.source) search (names_of names.now.entries) self.new graph.new)
+            (RestsBy (S.history graph.old.source) search (names_of names.now.entries) self.new graph.new)) }
         ensures seen { OnOk result (self.new.seen ≡ self.old.seen + 1) }
-        ensures fault { IfErr result (λ e. IsHeldAtFault (followed search.first_parent (S.history graph.old.source))
-            search.start e (held_at graph.new)) }
-        ensures asked { Asks S.history S.fault_count
-            (IsWalkRefused (followed search.first_parent (S.history graph.old.source)) search.start)
-            graph.old.source graph.new.source (refusal result) }
+        ensures fault { IfErr result (IsHeldAtFaultBy (S.history graph.old.source) search (held_at graph.new)) }
+        ensures asked { AsksBy S.history S.fault_count search graph.old.source graph.new.source (refusal result) }
     {
         if self.seen == u32::MAX {
             return Err(Message::CounterFull);
@@ -251,18 +240,12 @@ impl<A: Allocator + Copy> Walk<A> {
         requires some { 0 < search.cap }
         requires cap { search.cap ≤ 32 }
         requires unnamed { name_at (names_of names.now.entries) search.start ≡ None }
-        requires rests { Rests (followed search.first_parent (S.history graph.old.source)) search.start
-            (names_of names.now.entries) search.cap self.old graph.old }
+        requires rests { RestsBy (S.history graph.old.source) search (names_of names.now.entries) self.old graph.old }
         ensures ended { IfOk result (λ full. MatchBool full
-            (IsFull (followed search.first_parent (S.history graph.old.source)) search.start
-            (names_of names.now.entries) search.cap self.new graph.new)
-            (IsEnded (followed search.first_parent (S.history graph.old.source)) search.start
-            (names_of names.now.entries) search.cap self.new graph.new)) }
-        ensures fault { IfErr result (λ e. IsHeldAtFault (followed search.first_parent (S.history graph.old.source))
-            search.start e (held_at graph.new)) }
-        ensures asked { Asks S.history S.fault_count
-            (IsWalkRefused (followed search.first_parent (S.history graph.old.source)) search.start)
-            graph.old.source graph.new.source (refusal result) }
+            (IsFullBy (S.history graph.old.source) search (names_of names.now.entries) self.new graph.new)
+            (IsEndedBy (S.history graph.old.source) search (names_of names.now.entries) self.new graph.new)) }
+        ensures fault { IfErr result (IsHeldAtFaultBy (S.history graph.old.source) search (held_at graph.new)) }
+        ensures asked { AsksBy S.history S.fault_count search graph.old.source graph.new.source (refusal result) }
     {
         while let Some(next) = self.next() {
             let Some(met) = self.admit(next, names, search, graph)? else {
@@ -346,26 +329,18 @@ impl<A: Allocator + Copy> Walk<A> {
         requires few { place < 32 }
         requires lacking { lacking.old ≡ lacks (Some place) (bits (held_at graph.old met.now.id))
             + lacking_in (Some place) (held_at graph.old) self.old.queue }
-        requires taken { (cut : ℕ) × CompletesTaken (followed search.first_parent (S.history graph.old.source))
-            search.start place count met.now cut self.old graph.old }
+        requires taken { (cut : ℕ) × CompletesTakenBy (S.history graph.old.source) search place count met.now cut self.old graph.old }
         ensures passed { IfOk result (λ r. (cut : ℕ)
-            → CompletesTaken (followed search.first_parent (S.history graph.old.source)) search.start
-            place count met.now cut self.old graph.old
+            → CompletesTakenBy (S.history graph.old.source) search place count met.now cut self.old graph.old
             → MatchBool r.1
-            (IsComplete (followed search.first_parent (S.history graph.old.source)) search.start
-            (get_or self.old.candidates.items place search.start) r.0 self.new.seen cut
-            (held_at graph.new))
-            (Completes (followed search.first_parent (S.history graph.old.source)) search.start
-            place r.0 cut self.new graph.new)) }
+            (IsCompleteBy (S.history graph.old.source) search place self.old r.0 self.new.seen cut (held_at graph.new))
+            (CompletesBy (S.history graph.old.source) search place r.0 cut self.new graph.new)) }
         ensures lacking { IfOk result (λ r. r.1 ≡ false
             → lacking.new ≡ lacking_in (Some place) (held_at graph.new) self.new.queue) }
         ensures seen { OnOk result (self.new.seen ≡ self.old.seen + 1) }
         ensures candidates { self.new.candidates ≡ self.old.candidates }
-        ensures fault { IfErr result (λ e. IsHeldAtFault (followed search.first_parent (S.history graph.old.source))
-            search.start e (held_at graph.new)) }
-        ensures asked { Asks S.history S.fault_count
-            (IsWalkRefused (followed search.first_parent (S.history graph.old.source)) search.start)
-            graph.old.source graph.new.source (refusal result) }
+        ensures fault { IfErr result (IsHeldAtFaultBy (S.history graph.old.source) search (held_at graph.new)) }
+        ensures asked { AsksBy S.history S.fault_count search graph.old.source graph.new.source (refusal result) }
     {
         if self.seen == u32::MAX {
             return Err(Message::CounterFull);
@@ -404,17 +379,11 @@ impl<A: Allocator + Copy> Walk<A> {
         graph: &mut Graph<S, u32, A>,
     ) -> Result<u32, Message>
         requires few { place < 32 }
-        requires completes { Completes (followed search.first_parent (S.history graph.old.source)) search.start
-            place count self.old.seen self.old graph.old }
+        requires completes { CompletesBy (S.history graph.old.source) search place count self.old.seen self.old graph.old }
         ensures complete { IfOk result (λ depth.
-            IsComplete (followed search.first_parent (S.history graph.old.source)) search.start
-            (get_or self.old.candidates.items place search.start) depth self.new.seen self.old.seen
-            (held_at graph.new)) }
-        ensures fault { IfErr result (λ e. IsHeldAtFault (followed search.first_parent (S.history graph.old.source))
-            search.start e (held_at graph.new)) }
-        ensures asked { Asks S.history S.fault_count
-            (IsWalkRefused (followed search.first_parent (S.history graph.old.source)) search.start)
-            graph.old.source graph.new.source (refusal result) }
+            IsCompleteBy (S.history graph.old.source) search place self.old depth self.new.seen self.old.seen (held_at graph.new)) }
+        ensures fault { IfErr result (IsHeldAtFaultBy (S.history graph.old.source) search (held_at graph.new)) }
+        ensures asked { AsksBy S.history S.fault_count search graph.old.source graph.new.source (refusal result) }
     {
         let mut depth = count;
         // What was met and is not noted is queued.
@@ -467,21 +436,18 @@ pub(crate) fn find_name<'name, S: Find, A: Allocator + Copy>(
     requires cap { search.cap ≤ 32 }
     requires unnamed { name_at (names_of names.now.entries) search.start ≡ None }
     requires empty { (q : ObjectId) → held_at graph.old q ≡ None }
-    ensures found { IfOk result (λ f. IsFound (followed search.first_parent (S.history graph.old.source)) search.start
+    ensures found { IfOk result (λ f. IsFound (along search (S.history graph.old.source)) search.start
         (names_of names.now.entries) search.cap f.best f.seen) }
     ensures tied { IfOk result (λ f. IfSome f.best (λ p. IsTied
-        (followed search.first_parent (S.history graph.old.source)) search.start
+        (along search (S.history graph.old.source)) search.start
         (names_of names.now.entries) search.cap p.0 p.1 f.seen)) }
     ensures held { IfOk result (λ f. HoldsFirst
-        (followed search.first_parent (S.history graph.old.source)) search.start f.seen (held_at graph.new)) }
+        (along search (S.history graph.old.source)) search.start f.seen (held_at graph.new)) }
     ensures pops { IfOk result (λ f. MatchOption f.best (f.pops ≡ f.seen) (λ _. CountsNamed
-        (followed search.first_parent (S.history graph.old.source)) search.start
+        (along search (S.history graph.old.source)) search.start
         (names_of names.now.entries) search.cap f.seen f.pops)) }
-    ensures fault { IfErr result (λ e. IsHeldAtFault (followed search.first_parent (S.history graph.old.source))
-        search.start e (held_at graph.new)) }
-    ensures asked { Asks S.history S.fault_count
-        (IsWalkRefused (followed search.first_parent (S.history graph.old.source)) search.start)
-        graph.old.source graph.new.source (refusal result) }
+    ensures fault { IfErr result (IsHeldAtFaultBy (S.history graph.old.source) search (held_at graph.new)) }
+    ensures asked { AsksBy S.history S.fault_count search graph.old.source graph.new.source (refusal result) }
 {
     let mut walk = Walk::begin(alloc, search, graph)?;
     let full = walk.run(alloc, names, search, graph)?;
