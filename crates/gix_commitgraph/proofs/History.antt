@@ -1,5 +1,6 @@
 -- The history of a file.
-use Rattle.std.proofs.Common.{◌≡◌, ◌≢◌, ℕ, zero, suc, ◌+◌, ◌<◌, ◌≤◌, inl, inr, List, Some, None, true, false, refl, sym, ap, ◌∙◌, subst, arith}
+use Rattle.std.specs.Prelude.{MatchOption}
+use Rattle.std.proofs.Common.{◌≡◌, ◌≢◌, ℕ, zero, suc, ◌+◌, ◌<◌, ◌≤◌, inl, inr, List, Option, Some, None, is_some, true, false, refl, sym, ap, ◌∙◌, subst, arith}
 use Rattle.std.proofs.lemmas.Bool.{cases_eq, false_from_ne_true}
 use Rattle.gix_base.specs.declared.hash.ObjectId.{ObjectId}
 use Rattle.gix_revwalk.specs.History.{entry_at, same_id}
@@ -48,3 +49,8 @@ module _ (s : List ℕ) (l : Layout) (laid : l ≡ layout_of s) (sound : IsSound
       let e : entry_at (commits_from s l 0 l.count) id ≡ None = absent-from s l id 0 l.count (λ k a b. nowhere k (omega arith)) in
       let P : Layout → Type 0 = λ m. entry_at (commits_from s m 0 m.count) id ≡ None in
       subst P laid e
+
+  -- it is found where the history has it
+  pub history-contains : (o : Option ℕ) → MatchOption o (IsAbsent s l id) (IsAt s l id) → is_some o ≡ is_some (entry_at (history_in s) id)
+  history-contains None nowhere = ap is_some (sym (history-lacks nowhere))
+  history-contains (Some k) is = ap is_some (sym (history-has k is))

@@ -8,3 +8,4 @@ pub mod Refusals
 pub mod Joins
 pub mod Listed
 pub mod Hashed
+pub mod Grown

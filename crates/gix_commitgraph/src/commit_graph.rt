@@ -13,5 +13,5 @@ mod lookup;
 
 pub use fault::{OpenError, OpenFault};
 pub use file::CommitGraph;
-pub use joined::Joined;
+pub use joined::{Commits, Joined};
 pub use levelled::LevelledGraph;

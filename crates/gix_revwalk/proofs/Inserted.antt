@@ -74,3 +74,8 @@ pub graph-inserted : {D A X E : Type 0} (h n : History) (k : ObjectId) (d : Entr
 graph-inserted h n k d (Ok x) new put same ns past edges turn is =
     (agree-stays h n k d new put (λ q. lookup (same_id q) (map pair_of ns)) is.0, nodes-stay h n k d new put ns past edges turn is.0 is.1)
 graph-inserted h n k d (Err x) new put same ns past edges turn is = rw same is
+
+-- a source that was refused has its history
+pub same-on-err : {S X E : Type 0} (f : S → History) (a b : S) (r : Result X E) → OnErr r (a ≡ b) → OnErr r (f a ≡ f b)
+same-on-err f a b (Ok x) same = tt
+same-on-err f a b (Err x) same = ap f same

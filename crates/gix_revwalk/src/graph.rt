@@ -11,6 +11,7 @@ ghost use Rattle.gix_revwalk.specs.Graph.{held_at, held_len, held_ids};
 
 mod commit;
 mod find;
+mod insert;
 mod marks;
 mod memory;
 
@@ -19,7 +20,8 @@ use crate::past::Past;
 pub use commit::{Commit, FullCommit};
 pub use find::{Find, FindFault, SourceCommit};
 use gix_base::hash::ObjectId;
-pub use memory::{InsertError, MemorySource};
+pub use insert::{Insert, InsertError};
+pub use memory::MemorySource;
 use std::alloc::{AllocError, AllocFailed, Allocator, Global};
 use std::fmt;
 use std::marker::Model;

@@ -1,6 +1,6 @@
 //! A file as a source of commits.
 
-ghost use Rattle.std.specs.Prelude.{◌≡◌, ◌↔◌, length, slice_get, IsOk, IfOk, IfErr, OnOk, IsTrue};
+ghost use Rattle.std.specs.Prelude.{◌≡◌, ◌↔◌, length, slice_get, IsOk, IfOk, IfErr, OnOk, IsTrue, is_some};
 ghost use Rattle.std.specs.Option.{option_map};
 ghost use Rattle.gix_revwalk.specs.Held.{entry_of};
 ghost use Rattle.gix_revwalk.specs.History.{entry_at};
@@ -126,6 +126,13 @@ impl<B: AsSlice<u8> + Drop> CommitGraph<B> {
         let bytes = self.bytes.as_slice();
         let end = bytes.len() - 20;
         &bytes[end..] == Sha1::digest(&bytes[..end]).as_slice()
+    }
+
+    /// Whether the file has a commit under an id. It takes no memory.
+    pub fn contains(&self, id: ObjectId) -> bool
+        ensures { result ≡ is_some (entry_at (history_in self.now) id) }
+    {
+        position(self.bytes.as_slice(), self.layout, id).is_some()
     }
 
     /// The commit under an id, in the memory of `alloc`; `None` where the file has none.
