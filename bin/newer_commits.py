@@ -1,16 +1,13 @@
 #!/usr/bin/env -S python3 -BIS
-"""Prints as lines for bin/revtool the commits that some commits reach and a commit-graph file lacks: bin/newer_commits.py FILE
-REPOSITORY REVISION.., as git rev-list takes revisions.
+"""Prints as lines for bin/revtool the commits that some commits reach and a commit-graph file lacks: bin/newer_commits.py FILE GIT..,
+where the ids of the commits come on standard input, and GIT.. are the words that begin a command of git about the repository.
 
 git takes commits by their times, and is stopped once all that the file lacks are met: of what a file has it has all ancestors, too
 (gitformat-commit-graph). Status: 4 for a file of another format, else that of the git command that failed.
 """
 
-from __future__ import annotations
-
 import bisect
 import mmap
-import subprocess
 import sys
 
 # Past this a line of bin/revtool can't hold a time.
@@ -53,15 +50,11 @@ class Ids:
         return place < len(self) and self[place] == wanted
 
 
-def heads_of(git: list[str], revisions: list[str]) -> list[str]:
-    said = subprocess.run([*git, "rev-list", "--no-walk", *revisions, "--"], stdout=subprocess.PIPE, text=True, check=False)
-    if said.returncode:
-        raise Refused(said.returncode)
-    return said.stdout.split()
-
-
-def print_newer(git: list[str], heads: set[str], ids: Ids) -> None:
+def print_newer(git: "list[str]", heads: "set[str]", ids: Ids) -> None:
     """Prints the heads, which the file lacks, and their ancestors that it lacks."""
+    # Most often the file has all, and this takes half of the time of a start.
+    import subprocess
+
     command = [*git, "rev-list", "--timestamp", "--parents", "--stdin"]
     left = len(heads)
     with subprocess.Popen(command, stdin=subprocess.PIPE, stdout=subprocess.PIPE, text=True) as walk:
@@ -81,13 +74,12 @@ def print_newer(git: list[str], heads: set[str], ids: Ids) -> None:
     raise Refused(walk.returncode or 1)
 
 
-def main(graph: str, repository: str, *revisions: str) -> int:
-    git = ["git", "-C", repository]
+def main(graph: str, *git: str) -> int:
     try:
         ids = Ids(graph)
-        heads = {it for it in heads_of(git, list(revisions)) if it not in ids}
+        heads = {it for it in sys.stdin.read().split() if it not in ids}
         if heads:
-            print_newer(git, heads, ids)
+            print_newer(list(git), heads, ids)
     except Refused as status:
         return status.args[0]
     return 0
