@@ -77,8 +77,8 @@ int32_t gix_history_octopus(gix_history *history, const gix_id *first, const gix
                             gix_id *out);
 
 /* GIX_OK where `ancestor` is reached from `of`, as `git merge-base --is-ancestor`; GIX_NONE where it is not. A commit
- * reaches itself, an id that the history lacks nothing. Among the ancestors of both there may be no cycle; with one
- * GIX_OK is still right.
+ * reaches itself, an id that the history lacks nothing. Among the ancestors of `of` there may be no parent with a greater
+ * generation than its child, an absent one counting as the greatest; with one GIX_OK is still right. Cycles do not matter.
  * GIX_OK, GIX_NONE, GIX_OUT_OF_MEMORY. */
 int32_t gix_history_is_ancestor(gix_history *history, const gix_id *ancestor, const gix_id *of);
 

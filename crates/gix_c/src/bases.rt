@@ -94,7 +94,8 @@ pub extern "C" fn gix_history_octopus(
     }
 }
 
-/// Whether `ancestor` is reached from `of`, which reaches itself where the history has it.
+/// Whether `ancestor` is reached from `of`, which reaches itself where the history has it. Among the ancestors
+/// of `of` no parent's generation may exceed its child's.
 #[unsafe(no_mangle)]
 pub extern "C" fn gix_history_is_ancestor(
     alloc: Global,
@@ -102,13 +103,13 @@ pub extern "C" fn gix_history_is_ancestor(
     ancestor: &[u8; 20],
     of: &[u8; 20],
 ) -> i32
-    ensures ancestor { IsAcyclicFrom (commits_of history.old) (id_of ancestor.now ∷ id_of of.now ∷ [])
+    ensures ancestor { GenerationsNeverRiseFrom (commits_of history.old) (id_of of.now ∷ [])
         → ByCode result
         (IsAncestor (commits_of history.old) (id_of of.now) (id_of ancestor.now))
         (¬ IsAncestor (commits_of history.old) (id_of of.now) (id_of ancestor.now))
         ⊤ }
 
-    // Also where there are cycles.
+    // Whatever the generations.
     ensures reached { ByCode result
         (IsAncestor (commits_of history.old) (id_of of.now) (id_of ancestor.now)) ⊤ ⊤ }
 

@@ -38,7 +38,7 @@ level_true false true z k = omega arith
 level_true false false true k = omega arith
 level_true false false false k = elim k as (λ _. 1 ≤ level false + (level false + level false)) [ inl a ↦ cc | inr b ↦ elim b as (λ _. 1 ≤ level false + (level false + level false)) [ inl a ↦ cc | inr d ↦ cc ] ]
 
-hands_has : (h : History) (w : MarkSet) (ps : List ObjectId) (m m' : ObjectId → MarkSet) (q q' : List ObjectId) → Hands h w ps m q m' q' → ((c : ObjectId) → 1 ≤ marks_in (m c) → Has h c) → (c : ObjectId) → 1 ≤ marks_in (m' c) → Has h c
+pub hands_has : (h : History) (w : MarkSet) (ps : List ObjectId) (m m' : ObjectId → MarkSet) (q q' : List ObjectId) → Hands h w ps m q m' q' → ((c : ObjectId) → 1 ≤ marks_in (m c) → Has h c) → (c : ObjectId) → 1 ≤ marks_in (m' c) → Has h c
 hands_has h w ps m m' q q' did old c k =
     elim (which_mark (m' c) k) as (λ _. Has h c) [
       | inl a ↦ elim (did.one c a) as (λ _. Has h c) [ inl x ↦ old c (level_true (m c).one (m c).two (m c).stale (inl x)) | inr y ↦ y.2 ]
@@ -47,6 +47,9 @@ hands_has h w ps m m' q q' did old c k =
         | inr a ↦ elim (did.stale c a) as (λ _. Has h c) [ inl x ↦ old c (level_true (m c).one (m c).two (m c).stale (inr (inr x))) | inr y ↦ y.2 ]
       ]
     ]
+
+pub unmarked_none : (m : ObjectId → MarkSet) → Unmarked m → (c : ObjectId) → 1 ≤ marks_in (m c) → ⊥
+unmarked_none m none c k = let e = none c in let a = ap level e.0 in let b = ap level e.1 in let d = ap level e.2 in omega arith
 
 -- what holds once the parents of all the ids are met
 pub reduce_begins : (h : History) (ids : List ObjectId) (m m' : ObjectId → MarkSet) (q' : List ObjectId) → Unmarked m → Hands h met (parents_of_all h ids) m [] m' q' → Reducing h ids m' q'
@@ -58,14 +61,11 @@ reduce_begins h ids m m' q' none did = record {
   begun = λ r p k e. (did.gets p (parent_of_one h ids r p k e.0) e.1).stale refl;
   queued = λ c k. elim (did.from c k) as (λ _. IsTrue (m' c).stale) [ inl x ↦ cc | inr y ↦ y.2.stale refl ];
   settled = λ c k. inl (elim (did.changed c) as (λ _. IsTrue (is_one_of q' c)) [ inl e ↦ absurd (unmarked c (subst (λ z. IsTrue z.stale) e k)) | inr x ↦ x ]);
-  has = hands_has h met (parents_of_all h ids) m m' [] q' did (λ c k. absurd (lone c k));
+  has = hands_has h met (parents_of_all h ids) m m' [] q' did (λ c k. absurd (unmarked_none m none c k));
 }
   where
     unmarked : (c : ObjectId) → IsTrue (m c).stale → ⊥
     unmarked c k = let e = (none c).2 in cc
-
-    lone : (c : ObjectId) → 1 ≤ marks_in (m c) → ⊥
-    lone c k = let e = none c in let a = ap level e.0 in let b = ap level e.1 in let d = ap level e.2 in omega arith
 
 abbrev Fate : History → List ObjectId → (ObjectId → MarkSet) → List ObjectId → ObjectId → Type 0
 Fate h ids m2 q2 p = IsTrue (is_one_of q2 p) ⊎ (((r : ObjectId) → IsEdge h p r → IsTrue (m2 r).stale) ⊎ ((r : ObjectId) → IsTrue (is_one_of ids r) → (m2 r).stale ≡ false → generation_of h p < generation_of h r))
@@ -125,7 +125,7 @@ reduce_permuted h ids m q q' perm at =
       has = at.has;
     }
 
-generations_along : (h : History) (ids : List ObjectId) → GenerationsNeverRiseFrom h ids → (a c : ObjectId) → IsAncestorOfOne h ids a → IsAncestor h a c → generation_of h c ≤ generation_of h a
+pub generations_along : (h : History) (ids : List ObjectId) → GenerationsNeverRiseFrom h ids → (a c : ObjectId) → IsAncestorOfOne h ids a → IsAncestor h a c → generation_of h c ≤ generation_of h a
 generations_along h ids hold a c reached (itself has) = omega arith
 generations_along h ids hold a c reached (further b c' p e) =
     let x = generations_along h ids hold a b reached p in
@@ -261,12 +261,16 @@ keys_all (e ∷ h) p has = elim (same_id p e.0) as (λ s. IsTrue (is_some (cond 
 pub fewer_cut : (h : History) (m : ObjectId → MarkSet) (c : ObjectId) (q0 q : List ObjectId) → IsPermutation q0 (c ∷ q) → left_to_meet h m q + 1 ≤ left_to_meet h m q0
 fewer_cut h m c q0 q perm = let l : length (c ∷ q) ≡ length q0 = length_permutation q0 (c ∷ q) perm in omega arith
 
-pub fewer_left : (h : History) (ids : List ObjectId) (m m2 : ObjectId → MarkSet) (c : ObjectId) (q0 q q2 : List ObjectId) → IsPermutation q0 (c ∷ q) → Hands h met (parents_in (entry_at h c)) m q m2 q2 → Reducing h ids m2 q2
-    → left_to_meet h m2 q2 + 1 ≤ left_to_meet h m q0
-fewer_left h ids m m2 c q0 q q2 perm did at =
+pub fewer_handed : (h : History) (m m2 : ObjectId → MarkSet) (c : ObjectId) (q0 q q2 : List ObjectId) → IsPermutation q0 (c ∷ q) → Hands h met (parents_in (entry_at h c)) m q m2 q2
+    → ((p : ObjectId) → 1 ≤ marks_in (m2 p) → Has h p) → left_to_meet h m2 q2 + 1 ≤ left_to_meet h m q0
+fewer_handed h m m2 c q0 q q2 perm did has =
     let l : length (c ∷ q) ≡ length q0 = length_permutation q0 (c ∷ q) perm in
-    let s = did.spends (map (λ e. e.0) h) (λ p k. keys_all h p (at.has p k)) in
+    let s = did.spends (map (λ e. e.0) h) (λ p k. keys_all h p (has p k)) in
     let a = total_bound (map (λ e. e.0) h) m in
     let b = total_bound (map (λ e. e.0) h) m2 in
     let k = length_keys h in
     omega arith
+
+pub fewer_left : (h : History) (ids : List ObjectId) (m m2 : ObjectId → MarkSet) (c : ObjectId) (q0 q q2 : List ObjectId) → IsPermutation q0 (c ∷ q) → Hands h met (parents_in (entry_at h c)) m q m2 q2 → Reducing h ids m2 q2
+    → left_to_meet h m2 q2 + 1 ≤ left_to_meet h m q0
+fewer_left h ids m m2 c q0 q q2 perm did at = fewer_handed h m m2 c q0 q q2 perm did at.has

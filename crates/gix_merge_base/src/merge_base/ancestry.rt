@@ -1,26 +1,54 @@
 //! Whether one commit is reached from another.
 
-ghost use Rattle.std.specs.Prelude.{◌≡◌, ◌∷◌, [], ◌⊎◌, ◌↔◌, IfOk, IfErr, IsTrue, is_some};
+ghost use Rattle.std.specs.Prelude.{◌≡◌, ◌<◌, ◌∷◌, [], ◌⊎◌, ◌↔◌, IfOk, IfErr, OnOk, IsTrue, is_some};
+ghost use Rattle.std.specs.Option.{option_map};
 ghost use Rattle.gix_base.specs.declared.hash.ObjectId.{ObjectId};
-ghost use Rattle.gix_revwalk.specs.History.{IsAncestor, entry_at, same_id};
+ghost use Rattle.gix_revwalk.specs.History.{Has, IsAncestor, entry_at, same_id};
+ghost use Rattle.gix_revwalk.specs.Data.{mark_at};
 ghost use Rattle.gix_revwalk.specs.Faults.{count_after};
-ghost use Rattle.gix_revwalk.specs.Graph.{KeepsHeld};
+ghost use Rattle.gix_revwalk.specs.Graph.{held_len, KeepsHeld};
+ghost use Rattle.gix_revwalk.specs.Number.{place_in};
+ghost use Rattle.gix_revwalk.specs.Numbers.{number_at, Grows};
 ghost use Rattle.gix_revwalk.specs.Walks.{HoldsMore};
 ghost use Rattle.gix_merge_base.specs.AfterCall.{AfterCall};
-ghost use Rattle.gix_merge_base.specs.PaintQueue.{IsHeld};
-ghost use Rattle.gix_merge_base.specs.Painting.{MayBeMet};
-ghost use Rattle.gix_merge_base.specs.Premises.{IsAcyclicFrom};
+ghost use Rattle.gix_merge_base.specs.PaintQueue.{id_at, marks_at, IsHeld};
+ghost use Rattle.gix_merge_base.specs.Premises.{GenerationsNeverRiseFrom};
+ghost use Rattle.gix_merge_base.specs.ReduceSteps.{Unmarked};
 ghost use Rattle.gix_merge_base.specs.Refusals.{HasInsertText, is_source_fault};
 
-use crate::merge_base::bases::stands_in;
-use crate::merge_base::error::{Error, commit_refused};
+use crate::merge_base::error::{Error, commit_refused, parent_refused};
 use crate::merge_base::flags::Flags;
-use crate::merge_base::painting::paint;
+use crate::merge_base::gen_then_time::GenThenTime;
+use crate::merge_base::hand::{hand, hand_parents, mark_of};
 use bitflags::Flags as BitFlags;
 use gix_base::hash::ObjectId;
 use gix_revwalk::graph::{Commit, Find, Graph};
-use gix_revwalk::numbers;
+use gix_revwalk::numbers::{self, Number};
+use gix_revwalk::queue::PriorityQueue;
 use std::alloc::Allocator;
+
+/// The mark of what the walk has met.
+const MET: Flags = Flags::STALE;
+
+/// The number of a commit, which is taken in unless it is held; `None` where the source lacks it.
+fn look_up<S: Find, A: Allocator + Copy>(
+    alloc: A,
+    id: ObjectId,
+    graph: &mut Graph<S, Commit<Flags, A>, A>,
+) -> Result<Option<Number>, Error>
+    ensures has { IfOk result
+        (λ n. is_some n ≡ is_some (entry_at (S.history graph.old.source) id)) }
+    ensures number { IfOk result (λ n. option_map place_in n ≡ number_at graph.new id) }
+    ensures grows { OnOk result (Grows graph.old graph.new) }
+    ensures marks { OnOk result ((q : ObjectId) → mark_at graph.new q ≡ mark_at graph.old q) }
+    ensures holds { HoldsMore (S.history graph.old.source) (id ∷ []) graph.old graph.new }
+    ensures after { AfterCall S.history S.fault_count graph.old graph.new result }
+{
+    match numbers::take(graph, alloc, id, Flags::empty()) {
+        Ok(found) => Ok(found),
+        Err(error) => Err(commit_refused(error)),
+    }
+}
 
 /// Whether the source has a commit, which is taken in unless it is held.
 fn is_there<S: Find, A: Allocator + Copy>(
@@ -32,10 +60,83 @@ fn is_there<S: Find, A: Allocator + Copy>(
     ensures holds { HoldsMore (S.history graph.old.source) (id ∷ []) graph.old graph.new }
     ensures after { AfterCall S.history S.fault_count graph.old graph.new result }
 {
-    match numbers::take(graph, alloc, id, Flags::empty()) {
-        Ok(found) => Ok(found.is_some()),
-        Err(error) => Err(commit_refused(error)),
+    Ok(look_up(alloc, id, graph)?.is_some())
+}
+
+/// Whether a walk from one commit meets another. It takes commits by falling generation, then time, and
+/// ends once all that is queued has a smaller generation than the one that is looked for.
+fn meets<S: Find, A: Allocator + Copy>(
+    alloc: A,
+    from: Number,
+    target: Number,
+    graph: &mut Graph<S, Commit<Flags, A>, A>,
+) -> Result<bool, Error>
+    requires from { place_in from < held_len graph.old }
+    requires target { place_in target < held_len graph.old }
+    requires has { Has (S.history graph.old.source) (id_at graph.old (place_in from)) }
+    requires unmarked { Unmarked (marks_at graph.old) }
+    ensures exact { GenerationsNeverRiseFrom (S.history graph.old.source)
+        (id_at graph.old (place_in from) ∷ [])
+        → IfOk result (λ yes. IsTrue yes ↔ IsAncestor (S.history graph.old.source)
+        (id_at graph.old (place_in from)) (id_at graph.old (place_in target))) }
+    ensures reached { IfOk result (λ yes. IsTrue yes → IsAncestor (S.history graph.old.source)
+        (id_at graph.old (place_in from)) (id_at graph.old (place_in target))) }
+    ensures taken { (q : ObjectId) → IsHeld graph.new q → IsHeld graph.old q
+        ⊎ IsAncestor (S.history graph.old.source) (id_at graph.old (place_in from)) q }
+    ensures after { AfterCall S.history S.fault_count graph.old graph.new result }
+{
+    let least = GenThenTime::from(numbers::value(graph, target)).generation;
+    let mut queue = PriorityQueue::new(alloc);
+    let mut into = Vec::new(alloc);
+    // What is met is stale, so no entry counts as open.
+    let mut open_entries = 0usize;
+    hand(from, MET, &mut queue, &mut open_entries, graph)?;
+    while !mark_of(graph, target).marks.is_stale() {
+        let Some((key, number)) = queue.pop() else {
+            return Ok(false);
+        };
+        if key.generation < least {
+            return Ok(false);
+        }
+        if let Err(error) = hand_parents(
+            alloc,
+            number,
+            MET,
+            &mut into,
+            &mut queue,
+            &mut open_entries,
+            graph,
+        ) {
+            return Err(parent_refused(error));
+        }
     }
+    Ok(true)
+}
+
+/// Begins a walk: whether `of` reaches `ancestor`.
+fn reaches<S: Find, A: Allocator + Copy>(
+    alloc: A,
+    ancestor: ObjectId,
+    of: ObjectId,
+    graph: &mut Graph<S, Commit<Flags, A>, A>,
+) -> Result<bool, Error>
+    ensures exact { GenerationsNeverRiseFrom (S.history graph.old.source) (of ∷ [])
+        → IfOk result (λ yes. IsTrue yes
+        ↔ IsAncestor (S.history graph.old.source) of ancestor) }
+    ensures reached { IfOk result (λ yes. IsTrue yes
+        → IsAncestor (S.history graph.old.source) of ancestor) }
+    ensures taken { (q : ObjectId) → IsHeld graph.new q → IsHeld graph.old q
+        ⊎ ((q ≡ ancestor) ⊎ IsAncestor (S.history graph.old.source) of q) }
+    ensures after { AfterCall S.history S.fault_count graph.old graph.new result }
+{
+    numbers::begin_walk(graph);
+    let Some(target) = look_up(alloc, ancestor, graph)? else {
+        return Ok(false);
+    };
+    let Some(from) = look_up(alloc, of, graph)? else {
+        return Ok(false);
+    };
+    meets(alloc, from, target, graph)
 }
 
 /// Whether `ancestor` is reached from `of`, which reaches itself: git-merge-base, "--is-ancestor".
@@ -43,11 +144,13 @@ fn is_there<S: Find, A: Allocator + Copy>(
 /// An id that the source lacks is nobody's ancestor and has none, and so does not reach itself. Where both
 /// are one id, it alone is looked up.
 ///
-/// Among the ancestors of both there must be no cycles; whatever generations and times they have, and
-/// whatever else the source has, does not matter. With cycles the call returns, and `true` is still right.
+/// The walk starts at `of` alone, and goes no lower than the generation of `ancestor`. So among the
+/// ancestors of `of` no parent's generation may exceed its child's, an absent one counting as the
+/// greatest (git's technical/commit-graph, "generation number"); otherwise `false` may be wrong, and `true`
+/// is still right. Cycles, times, and what else the source has do not matter.
 ///
 /// What the graph held it still holds, refused or not; the data beside it may have changed. What it newly
-/// holds was handed in, or is an ancestor of one of the two.
+/// holds is `ancestor`, or is reached from `of`.
 ///
 /// # Errors
 ///
@@ -58,10 +161,10 @@ pub fn is_ancestor<S: Find, A: Allocator + Copy>(
     of: ObjectId,
     graph: &mut Graph<S, Commit<Flags, A>, A>,
 ) -> Result<bool, Error>
-    ensures ancestor { IsAcyclicFrom (S.history graph.old.source) (ancestor ∷ of ∷ [])
+    ensures ancestor { GenerationsNeverRiseFrom (S.history graph.old.source) (of ∷ [])
         → IfOk result (λ yes. IsTrue yes ↔ IsAncestor (S.history graph.old.source) of ancestor) }
 
-    // Also where there are cycles.
+    // Whatever the generations.
     ensures reached { IfOk result (λ yes. IsTrue yes
         → IsAncestor (S.history graph.old.source) of ancestor) }
 
@@ -71,8 +174,8 @@ pub fn is_ancestor<S: Find, A: Allocator + Copy>(
     ensures same_taken { IsTrue (same_id ancestor of)
         → HoldsMore (S.history graph.old.source) (of ∷ []) graph.old graph.new }
 
-    ensures taken { (q : ObjectId) → IsHeld graph.new q
-        → IsHeld graph.old q ⊎ MayBeMet (S.history graph.old.source) ancestor (of ∷ []) q }
+    ensures taken { (q : ObjectId) → IsHeld graph.new q → IsHeld graph.old q
+        ⊎ ((q ≡ ancestor) ⊎ IsAncestor (S.history graph.old.source) of q) }
     ensures history { S.history graph.new.source ≡ S.history graph.old.source }
     ensures cause { IfErr result HasInsertText }
     ensures count { S.fault_count graph.new.source
@@ -82,6 +185,5 @@ pub fn is_ancestor<S: Find, A: Allocator + Copy>(
     if ancestor == of {
         return is_there(alloc, of, graph);
     }
-    let (common, _pops) = paint(alloc, ancestor, &[of], graph)?;
-    Ok(stands_in(&common, ancestor))
+    reaches(alloc, ancestor, of, graph)
 }
