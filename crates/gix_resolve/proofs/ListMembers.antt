@@ -47,13 +47,10 @@ lists-range h a b xs k = lists-same xs (IsBeyond h (a ∷ []) (b ∷ [])) (IsMea
 pub lists-parents : (h : History) (a : ObjectId) (ps xs : List ObjectId) → ps ≡ parents_in (entry_at h a) → Lists xs (IsBeyond h [] ps) → Lists xs (IsMeant h (IncludeOnlyParents a))
 lists-parents h a ps xs is k = rw (sym is) (lists-same xs (IsBeyond h [] ps) (IsAncestorOfOne h ps) (λ c p. p.0) (λ c q. (q, of-none h c)) k)
 
--- the parents of a commit that the history lacks reach nothing
-pub lists-no_parents : (h : History) (a : ObjectId) (xs : List ObjectId) → xs ≡ [] → is_some (entry_at h a) ≡ false → Lists xs (IsMeant h (IncludeOnlyParents a))
-lists-no_parents h a xs is lacks = rw is (lists-none (IsMeant h (IncludeOnlyParents a)) (λ c q. no_parents (entry_at h a) lacks c q))
-  where
-    no_parents : (e : Option Entry) → is_some e ≡ false → (c : ObjectId) → ¬ IsAncestorOfOne h (parents_in e) c
-    no_parents None e c k = of-none h c k
-    no_parents (Some x) e c k = absurd (true≢false e)
+-- a commit that the history lacks has no parents
+pub no_parents : (e : Option Entry) → is_some e ≡ false → parents_in e ≡ []
+no_parents None lacks = refl
+no_parents (Some x) lacks = absurd (true≢false lacks)
 
 pub lists-alone : (h : History) (a : ObjectId) (xs : List ObjectId) → xs ≡ a ∷ [] → Has h a → Lists xs (IsMeant h (ExcludeParents a))
 lists-alone h a xs is has = rw is (one_is_distinct a, λ c. ((λ m. (has, one_of-single a c m)), (λ q. subst (λ z. IsTrue (is_one_of (a ∷ []) z)) (sym q.1) (one_of-head a []))))

@@ -1,8 +1,8 @@
 -- What the walk takes in is what it reaches.
-use Rattle.std.proofs.Common.{◌≡◌, ℕ, zero, suc, sym, subst, ap, ◌∙◌, List, [], ◌∷◌, ◌++◌, ◌⊎◌, inl, inr, ◌<◌, take, length, get_or, is_some, IsTrue, false, refl, arith}
+use Rattle.std.proofs.Common.{◌≡◌, ℕ, zero, suc, sym, subst, ap, ◌∙◌, List, [], ◌∷◌, ◌++◌, ◌⊎◌, inl, inr, ◌<◌, take, length, get_or, is_some, Option, Some, None, IsTrue, false, refl, arith}
 use Rattle.std.proofs.lemmas.List.{length-map}
 use Rattle.gix_base.specs.declared.hash.ObjectId.{ObjectId}
-use Rattle.gix_revwalk.specs.History.{History, Has, entry_at, parents_in, is_one_of, IsAncestor, IsAncestorOfOne}
+use Rattle.gix_revwalk.specs.History.{History, Entry, Has, entry_at, parents_in, is_one_of, IsAncestor, IsAncestorOfOne}
 use Rattle.gix_revwalk.specs.History.IsAncestor.{itself, further}
 use Rattle.gix_revwalk.specs.Graph.{Graphed, held_at, held_ids}
 use Rattle.gix_revwalk.specs.Number.{place_in}
@@ -27,10 +27,16 @@ one_of-first (x ∷ xs) (suc i) q m = elim (one_of-cons_cases x (take i xs) q m)
   | inr k ↦ one_of-tail x xs q (one_of-first xs i q k)
 ]
 
+-- what has a parent is there
+has_parent : (e : Option Entry) (p : ObjectId) → IsTrue (is_one_of (parents_in e) p) → IsTrue (is_some e)
+has_parent None p m = cc
+has_parent (Some x) p m = refl
+
 -- what the parents of a commit reach it reaches
-above_parents : (h : History) (id : ObjectId) (ps : List ObjectId) (q : ObjectId) → Has h id → ps ≡ parents_in (entry_at h id) → IsAncestorOfOne h ps q → IsAncestor h id q
-above_parents h id ps q has is k =
-    anc-trans h id k.0 q (further id k.0 (itself has) (subst (λ l. IsTrue (is_one_of l k.0)) is k.1, (has_ancestor h k.0 q k.2).1)) k.2
+above_parents : (h : History) (id : ObjectId) (ps : List ObjectId) (q : ObjectId) → ps ≡ parents_in (entry_at h id) → IsAncestorOfOne h ps q → IsAncestor h id q
+above_parents h id ps q is k =
+    let among = subst (λ l. IsTrue (is_one_of l k.0)) is k.1 in
+    anc-trans h id k.0 q (further id k.0 (itself (has_parent (entry_at h id) k.0 among)) (among, (has_ancestor h k.0 q k.2).1)) k.2
 
 -- two starts, in either order
 pub swapped : (h : History) (a b q : ObjectId) → IsAncestorOfOne h (a ∷ b ∷ []) q → IsAncestorOfOne h (b ∷ a ∷ []) q
@@ -91,9 +97,9 @@ module _ {S T : Type 0} (h : History) where
       only_wider (λ q. Has h id × (q ≡ id)) (IsAncestor h id) m n (λ q k. subst (λ z. IsAncestor h id z) (sym k.1) (itself k.0)) (only_alone id m n more)
 
   -- and what its parents reach
-  pub only_above : (id : ObjectId) (ps : List ObjectId) (a b c : Graphed S T) → Has h id → ps ≡ parents_in (entry_at h id) → HoldsMore h (id ∷ []) a b → TakesOnly (IsAncestorOfOne h ps) b c → TakesOnly (IsAncestor h id) a c
-  only_above id ps a b c has is more taken =
-      only_then (IsAncestor h id) a b c (only_itself id a b more) (only_wider (IsAncestorOfOne h ps) (IsAncestor h id) b c (λ q k. above_parents h id ps q has is k) taken)
+  pub only_above : (id : ObjectId) (ps : List ObjectId) (a b c : Graphed S T) → ps ≡ parents_in (entry_at h id) → HoldsMore h (id ∷ []) a b → TakesOnly (IsAncestorOfOne h ps) b c → TakesOnly (IsAncestor h id) a c
+  only_above id ps a b c is more taken =
+      only_then (IsAncestor h id) a b c (only_itself id a b more) (only_wider (IsAncestorOfOne h ps) (IsAncestor h id) b c (λ q k. above_parents h id ps q is k) taken)
 
   -- a start
   pub only_start : (xs : List ObjectId) (id : ObjectId) (m n : Graphed S T) → HoldsMore h (id ∷ []) m n → TakesOnly (IsAncestorOfOne h (xs ++ id ∷ [])) m n

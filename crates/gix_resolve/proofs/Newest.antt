@@ -1,56 +1,117 @@
--- Ids that are put in order by their numbers.
-use Rattle.std.proofs.Common.{◌≡◌, ℕ, refl, ap, sym, ◌∙◌, List, [], ◌∷◌, ◌++◌, ◌<◌, ◌+◌, take, length, get_or, Option, Some, IsTrue, ◌↔◌, inl, inr, false, arith}
-use Rattle.std.specs.List.{filter_map, IsDistinct}
+-- Ids that are put in order.
+use Rattle.std.proofs.Common.{◌≡◌, ℕ, Bool, true, false, cond, refl, ap, sym, subst, ◌∙◌, List, [], ◌∷◌, ◌++◌, ◌||◌, ◌<◌, ◌+◌, take, length, get_or, map, Option, Some, None, is_some, IsTrue, arith}
+use Rattle.std.specs.List.{filter_map, dedup, dedup_from, AllByRecursion}
+use Rattle.std.specs.List.Sorted.{IsPermutation, IsSorted}
+use Rattle.std.specs.Ordering.{is_lt, is_eq, eq_by_cmp}
+use Rattle.std.specs.Cmp.{tied_itself}
+use Rattle.std.specs.declared.cmp.Ordering.{Ordering}
 use Rattle.std.specs.declared.cmp.Reverse.{Reverse}
 use Rattle.std.proofs.lemmas.List.{length-map}
-use Rattle.std.proofs.lemmas.List.Elements.{filter_map-append}
+use Rattle.std.proofs.lemmas.List.Elements.{All-from_recursion, recursion_from_All, filter_map-append}
+use Rattle.std.proofs.lemmas.List.Kept.{IsStrictlySortedBy-dedup}
+use Rattle.std.proofs.lemmas.List.Sorted.{All-permutation}
+use Rattle.std.proofs.Math.ListN.{get_or-map}
 use Rattle.gix_base.specs.declared.hash.ObjectId.{ObjectId}
-use Rattle.gix_revwalk.specs.History.{History, Entry, Has, entry_at, is_one_of, same_id}
-use Rattle.gix_revwalk.specs.Graph.{Graphed}
-use Rattle.gix_revwalk.specs.Number.{place_in}
-use Rattle.gix_revwalk.specs.Walks.{visited, all_visited}
-use Rattle.gix_revwalk.specs.declared.numbers.Number.{Number}
-use Rattle.gix_revwalk.proofs.Members.{nothing, take_next}
-use Rattle.gix_revwalk.proofs.Walk.{visits_all}
-use Rattle.gix_merge_base.specs.Candidates.{Candidate, turned_at}
-use Rattle.gix_merge_base.specs.PaintQueue.{id_at, ids_at, key_in}
+use Rattle.gix_revwalk.specs.History.{History, Entry, entry_at, is_one_of, same_id}
+use Rattle.gix_revwalk.proofs.Ids.{same_id-true, same_id-equal}
+use Rattle.gix_revwalk.proofs.Members.{take_next}
+use Rattle.gix_merge_base.specs.Candidates.{Candidate, candidate_for, turned_at, id_in}
+use Rattle.gix_merge_base.specs.Keys.{choice, IsInOrder}
+use Rattle.gix_merge_base.specs.PaintQueue.{key_in}
 use Rattle.gix_merge_base.specs.declared.merge_base.gen_then_time.GenThenTime.{GenThenTime}
-use Rattle.gix_merge_base.proofs.Numbered.{id-of-item}
-
-visited-push : (h : History) (xs ps : List ObjectId) (p : ObjectId) → all_visited h xs (ps ++ p ∷ []) ≡ visited h (all_visited h xs ps) p
-visited-push h xs [] p = refl
-visited-push h xs (x ∷ ps) p = visited-push h (visited h xs x) ps p
-
--- one id more
-pub visited_next : (h : History) (ids : List ObjectId) (i : ℕ) (d : ObjectId) (ys zs : List ObjectId) → i < length ids → ys ≡ all_visited h [] (take i ids) → zs ≡ visited h ys (get_or ids i d) → zs ≡ all_visited h [] (take (i + 1) ids)
-visited_next h ids i d ys zs below was is =
-    is ∙ ap (λ l. visited h l (get_or ids i d)) was ∙ sym (ap (all_visited h []) (take_next ids i d below) ∙ visited-push h [] (take i ids) (get_or ids i d))
-
-pub visited_once : (h : History) (ids : List ObjectId) → IsDistinct same_id (all_visited h [] ids)
-visited_once h ids = (visits_all h [] ids).once nothing
-
--- those that the history has are visited
-pub visited_same : (h : History) (ids : List ObjectId) (c : ObjectId) → (IsTrue (is_one_of (all_visited h [] ids) c) × Has h c) ↔ (IsTrue (is_one_of ids c) × Has h c)
-visited_same h ids c =
-    let all = visits_all h [] ids in (
-      (λ k. elim (all.from c k.0) as (λ _. IsTrue (is_one_of ids c) × Has h c) [ inl none ↦ let no : IsTrue false = none in cc | inr there ↦ there ]),
-      (λ k. (all.gets c k.0 k.1, k.1)),
-    )
+use Rattle.gix_merge_base.proofs.Choice.{choice_total, choice-same, greater_first}
+use Rattle.gix_merge_base.proofs.Sorting.{turned_cmp}
 
 -- where a commit that the history has stands
-pub turned_some : (h : History) (id : ObjectId) (e : Entry) (key : GenThenTime) → entry_at h id ≡ Some e → key ≡ key_in (Some e) → turned_at h id ≡ Some (record { 0 = (key, record { 0 = id }) })
+pub turned_some : (h : History) (id : ObjectId) (e : Entry) (key : GenThenTime) → entry_at h id ≡ Some e → key ≡ key_in (Some e) → Some (record { 0 = (key, record { 0 = id }) }) ≡ turned_at h id
 turned_some h id e key has is = rw (has, is) refl
+
+-- where one that it lacks does
+pub turned_none : (h : History) (id : ObjectId) → is_some (entry_at h id) ≡ false → None ≡ turned_at h id
+turned_none h id lacks = rw lacks refl
+
+one_of-none : {A B : Type 0} (f : A → Option B) (x : A) → f x ≡ None → filter_map f (x ∷ []) ≡ []
+one_of-none f x e = rw e refl
 
 one_of-some : {A B : Type 0} (f : A → Option B) (x : A) (t : B) → f x ≡ Some t → filter_map f (x ∷ []) ≡ t ∷ []
 one_of-some f x t e = rw e refl
 
--- one number more
-pub turned_next : {S T : Type 0} (h : History) (g : Graphed S T) (ns : List Number) (i : ℕ) (d : Number) (t : Reverse Candidate) (xs ys : List (Reverse Candidate)) → i < length ns
-    → xs ≡ filter_map (turned_at h) (take i (ids_at g ns)) → turned_at h (id_at g (place_in (get_or ns i d))) ≡ Some t → ys ≡ xs ++ t ∷ [] → ys ≡ filter_map (turned_at h) (take (i + 1) (ids_at g ns))
-turned_next h g ns i d t xs ys below was some new =
-    let len = length-map ns (λ (k : Number). id_at g (place_in k)) in
-    let id = id_at g (place_in (get_or ns i d)) in
-    let first = take i (ids_at g ns) in
-    let more : take (i + 1) (ids_at g ns) ≡ first ++ id ∷ [] = take_next (ids_at g ns) i (id_at g (place_in d)) (omega arith) ∙ ap (λ z. first ++ z ∷ []) (sym (id-of-item g g refl ns i d below)) in
+append_none : {A : Type 0} (l : List A) → l ++ [] ≡ l
+append_none [] = refl
+append_none (x ∷ l) = ap (λ t. x ∷ t) (append_none l)
+
+-- one id more
+pub turned_skip : (h : History) (ids : List ObjectId) (i : ℕ) (d : ObjectId) (xs : List (Reverse Candidate)) → i < length ids → xs ≡ filter_map (turned_at h) (take i ids) → None ≡ turned_at h (get_or ids i d)
+    → xs ≡ filter_map (turned_at h) (take (i + 1) ids)
+turned_skip h ids i d xs below was none =
+    was ∙ sym (ap (filter_map (turned_at h)) (take_next ids i d below) ∙ filter_map-append (turned_at h) (take i ids) (get_or ids i d ∷ [])
+    ∙ ap (λ l. filter_map (turned_at h) (take i ids) ++ l) (one_of-none (turned_at h) (get_or ids i d) (sym none)) ∙ append_none (filter_map (turned_at h) (take i ids)))
+
+pub turned_next : (h : History) (ids : List ObjectId) (i : ℕ) (d : ObjectId) (t : Reverse Candidate) (xs ys : List (Reverse Candidate)) → i < length ids → xs ≡ filter_map (turned_at h) (take i ids)
+    → Some t ≡ turned_at h (get_or ids i d) → ys ≡ xs ++ t ∷ [] → ys ≡ filter_map (turned_at h) (take (i + 1) ids)
+turned_next h ids i d t xs ys below was some new =
     new ∙ ap (λ l. l ++ t ∷ []) was
-    ∙ sym (ap (filter_map (turned_at h)) more ∙ filter_map-append (turned_at h) first (id ∷ []) ∙ ap (λ l. filter_map (turned_at h) first ++ l) (one_of-some (turned_at h) id t some))
+    ∙ sym (ap (filter_map (turned_at h)) (take_next ids i d below) ∙ filter_map-append (turned_at h) (take i ids) (get_or ids i d ∷ [])
+    ∙ ap (λ l. filter_map (turned_at h) (take i ids) ++ l) (one_of-some (turned_at h) (get_or ids i d) t (sym some)))
+
+module _ (h : History) where
+  -- what is compared for an id that the history has
+  abbrev turned_for : ObjectId → Reverse Candidate
+  turned_for id = record { 0 = candidate_for h id }
+
+  -- each is that of its id
+  are_turned : (ids : List ObjectId) → AllByRecursion (λ p. p ≡ turned_for (id_in p)) (filter_map (turned_at h) ids)
+  are_turned [] = tt
+  are_turned (x ∷ xs) = elim (is_some (entry_at h x)) as (λ b. is_some (entry_at h x) ≡ b → AllByRecursion (λ p. p ≡ turned_for (id_in p)) (filter_map (turned_at h) (x ∷ xs))) [
+    | true ↦ λ e. rw e (refl, are_turned xs)
+    | false ↦ λ e. rw e (are_turned xs)
+  ] refl
+
+  turned_again : (ps : List (Reverse Candidate)) → AllByRecursion (λ p. p ≡ turned_for (id_in p)) ps → ps ≡ map turned_for (map id_in ps)
+  turned_again [] a = refl
+  turned_again (p ∷ ps) a = ap (λ q. q ∷ ps) a.0 ∙ ap (λ l. turned_for (id_in p) ∷ l) (turned_again ps a.1)
+
+  -- ids rise where what is compared for them does
+  falls : (found : List ObjectId) → IsSorted (turned_cmp h) (map turned_for found) → IsSorted (choice h) found
+  falls found s k e low high =
+      let at = s k (turned_for e) low (rw (length-map found turned_for) high) in
+      let this = get_or-map turned_for found k e in
+      let next = get_or-map turned_for found (k + 1) e in
+      sym (ap is_lt (greater_first h (get_or found k e) (get_or found (k + 1) e)))
+      ∙ sym (ap is_lt (ap (λ q. turned_cmp h q (get_or (map turned_for found) k (turned_for e))) next ∙ ap (turned_cmp h (turned_for (get_or found (k + 1) e))) this)) ∙ at
+
+  pub ids_rise : (ids : List ObjectId) (ps : List (Reverse Candidate)) → IsPermutation (filter_map (turned_at h) ids) ps → IsSorted (turned_cmp h) ps → IsSorted (choice h) (map id_in ps)
+  ids_rise ids ps perm sorted =
+      let each = All-permutation (λ p. p ≡ turned_for (id_in p)) (filter_map (turned_at h) ids) ps perm (All-from_recursion (λ p. p ≡ turned_for (id_in p)) (filter_map (turned_at h) ids) (are_turned ids)) in
+      falls (map id_in ps) (subst (IsSorted (turned_cmp h)) (turned_again ps (recursion_from_All (λ p. p ≡ turned_for (id_in p)) ps each)) sorted)
+
+  -- only an id itself stands beside it in the order
+  ties : (x y : ObjectId) → same_id x y ≡ eq_by_cmp (choice h) x y
+  ties x y = elim (same_id x y) as (λ b. same_id x y ≡ b → b ≡ eq_by_cmp (choice h) x y) [
+    | true ↦ λ e. sym (ap (λ z. is_eq (choice h x z)) (sym (same_id-true x y e)) ∙ ap is_eq (tied_itself (choice_total h) x))
+    | false ↦ λ e. untied (choice h x y) refl e
+  ] refl
+    where
+      untied : (r : Ordering) → choice h x y ≡ r → same_id x y ≡ false → false ≡ is_eq r
+      untied Ordering.Less is e = refl
+      untied Ordering.Equal is e = sym e ∙ same_id-equal x y (choice-same h x y is)
+      untied Ordering.Greater is e = refl
+
+  pub once_in_order : (xs : List ObjectId) → IsSorted (choice h) xs → IsInOrder h (dedup same_id xs)
+  once_in_order xs rises = IsStrictlySortedBy-dedup (choice_total h) ties xs rises
+
+-- what is dropped stands there still
+or_again : (a r : Bool) → (a || r) ≡ (a || (a || r))
+or_again true r = refl
+or_again false r = refl
+
+one_of-dedup_from : (x : ObjectId) (xs : List ObjectId) (c : ObjectId) → is_one_of (dedup_from same_id x xs) c ≡ is_one_of (x ∷ xs) c
+one_of-dedup_from x [] c = refl
+one_of-dedup_from x (y ∷ ys) c = elim (same_id y x) as (λ b. same_id y x ≡ b → is_one_of (cond b (dedup_from same_id x ys) (x ∷ dedup_from same_id y ys)) c ≡ is_one_of (x ∷ y ∷ ys) c) [
+  | true ↦ λ e. one_of-dedup_from x ys c ∙ or_again (same_id c x) (is_one_of ys c) ∙ ap (λ z. same_id c x || (same_id c z || is_one_of ys c)) (sym (same_id-true y x e))
+  | false ↦ λ e. ap (λ b. same_id c x || b) (one_of-dedup_from y ys c)
+] refl
+
+pub one_of-dedup : (xs : List ObjectId) (c : ObjectId) → is_one_of (dedup same_id xs) c ≡ is_one_of xs c
+one_of-dedup [] c = refl
+one_of-dedup (x ∷ xs) c = one_of-dedup_from x xs c

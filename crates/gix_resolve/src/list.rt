@@ -1,16 +1,19 @@
 //! The commits that a spec means, as a list in rising order of their ids: git-rev-list.
 
-ghost use Rattle.std.specs.Prelude.{◌≡◌, IfOk, IsOkAnd, IsTrue, Some, []};
+ghost use Rattle.std.specs.Prelude.{◌≡◌, IfOk, IsOkAnd, IsTrue, Some, Ok, []};
 ghost use Rattle.gix_revwalk.specs.Faults.{count_after};
 ghost use Rattle.gix_revwalk.specs.Graph.{KeepsHeld};
+ghost use Rattle.gix_revwalk.specs.Sizes.{HasSize};
 ghost use Rattle.gix_resolve.specs.ListErrors.{is_list_source_fault};
-ghost use Rattle.gix_resolve.specs.ListMeaning.{ListsMeant, IsPage, past};
+ghost use Rattle.gix_resolve.specs.ListMeaning.{ListsMeant, IsMeant, IsPage, past};
 ghost use Rattle.gix_resolve.specs.Taken.{TakesOnly, IsLookedAt, is_exclude};
 
+mod count;
 mod members;
 mod newest;
 mod walk;
 
+use crate::list::count::count_members;
 use crate::list::members::members;
 pub use crate::list::newest::newest_first;
 use gix_revision::graph::{self, Commit, Find, Graph};
@@ -86,6 +89,35 @@ pub fn commits<S: Find, A: Allocator + Copy>(
     let mut ids = members(alloc, *spec, graph)?;
     ids.sort_unstable();
     Ok(ids)
+}
+
+/// How many commits a spec means, as many as [`commits`] lists: git-rev-list, "--count". None of their ids is
+/// listed, and none is sorted. It reads no generations, and is right whatever they are.
+///
+/// What the graph held it still holds, refused or not; the data beside it may have changed. What it
+/// newly holds is reached from the ids of the spec. `^a` means no commit: it is always answered, by 0,
+/// and the graph is as it was.
+///
+/// # Errors
+///
+/// As [`commits`].
+pub fn count_commits<S: Find, A: Allocator + Copy>(
+    alloc: A,
+    spec: &Spec,
+    graph: &mut Graph<S, Commit<Flags, A>, A>,
+) -> Result<usize, ListError>
+    ensures size { IfOk result (λ n. HasSize (IsMeant (S.history graph.old.source) spec.now) n) }
+    ensures history { S.history graph.new.source ≡ S.history graph.old.source }
+    ensures count { S.fault_count graph.new.source
+        ≡ count_after (is_list_source_fault result) (S.fault_count graph.old.source) }
+    ensures held { KeepsHeld graph.old graph.new }
+    ensures taken { TakesOnly (IsLookedAt (S.history graph.old.source) spec.now)
+        graph.old graph.new }
+    ensures exclude { IsTrue (is_exclude spec.now)
+        → (result ≡ Ok 0) × (graph.new ≡ graph.old) }
+{
+    let count = count_members(alloc, *spec, graph)?;
+    Ok(count)
 }
 
 /// The ids that are greater than the bound; all of them where there is none.

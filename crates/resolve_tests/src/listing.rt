@@ -1,5 +1,5 @@
-//! Lists of the commits that specs mean, and pages of them, over small histories; the same with failing
-//! look-ups and with memory refused in turn.
+//! Lists of the commits that specs mean, pages of them, and their counts, over small histories; the same with
+//! failing look-ups and with memory refused in turn.
 //!
 //! ```text
 //!   2---4      2       3   6
@@ -11,7 +11,7 @@
 
 use fixtures::faults::{Answered, Asks, first_lost, first_wrong};
 use fixtures::histories::{CRISS_CROSS, Row, are, id, source_of};
-use gix_resolve::{ListError, commits, page};
+use gix_resolve::{ListError, commits, count_commits, page};
 use gix_revision::graph::{Commit, Find, Graph};
 use gix_revision::hash::ObjectId;
 use gix_revision::merge_base::Flags;
@@ -36,9 +36,11 @@ enum Part {
     Whole,
     /// The first so many behind the id of a digit, or of all.
     Page(Option<u8>, usize),
+    /// How many there are.
+    Count,
 }
 
-/// A call: the spec, the history, what is asked for, and the ids of the answer in their order.
+/// A call: the spec, the history, what is asked for, and the ids of the answer in their order, or those that it counts.
 #[derive(Clone, Copy)]
 struct Listing(Of, &'static [Row<'static>], Part, &'static [u8]);
 
@@ -57,7 +59,7 @@ const UNEVEN: [Row<'static>; 4] = [
     Row(6, 1, None, &[8]),
 ];
 
-static WORKED: [Listing; 25] = [
+static WORKED: [Listing; 34] = [
     Listing(Of::Include(5), &CRISS_CROSS, Part::Whole, &[1, 2, 3, 5]),
     Listing(Of::Range(4, 5), &CRISS_CROSS, Part::Whole, &[5]),
     Listing(Of::Merge(4, 5), &CRISS_CROSS, Part::Whole, &[4, 5]),
@@ -101,6 +103,21 @@ static WORKED: [Listing; 25] = [
         Part::Page(Some(4), usize::MAX),
         &[5],
     ),
+    // Counts, a row for each form, and one each of a commit that the source lacks.
+    Listing(Of::Include(5), &CRISS_CROSS, Part::Count, &[1, 2, 3, 5]),
+    Listing(Of::Range(3, 5), &CRISS_CROSS, Part::Count, &[2, 5]),
+    Listing(Of::Merge(4, 5), &CRISS_CROSS, Part::Count, &[4, 5]),
+    Listing(
+        Of::IncludeOnlyParents(5),
+        &CRISS_CROSS,
+        Part::Count,
+        &[1, 2, 3],
+    ),
+    Listing(Of::ExcludeParents(5), &CRISS_CROSS, Part::Count, &[5]),
+    Listing(Of::Exclude(5), &CRISS_CROSS, Part::Count, &[]),
+    Listing(Of::Merge(2, 9), &CRISS_CROSS, Part::Count, &[1, 2]),
+    Listing(Of::IncludeOnlyParents(9), &CRISS_CROSS, Part::Count, &[]),
+    Listing(Of::ExcludeParents(9), &CRISS_CROSS, Part::Count, &[]),
 ];
 
 fn spec_of(of: Of) -> Spec {
@@ -120,21 +137,20 @@ fn spec_of(of: Of) -> Spec {
     }
 }
 
-fn listed<S: Find, A: Allocator + Copy>(
+/// Whether the answer is the one of the call.
+fn is_right<S: Find, A: Allocator + Copy>(
     alloc: A,
     graph: &mut Graph<S, Commit<Flags, A>, A>,
-    of: Of,
-    part: Part,
-) -> Result<Vec<ObjectId, A>, ListError> {
-    match part {
-        Part::Whole => commits(alloc, &spec_of(of), graph),
-        Part::Page(after, limit) => page(
-            alloc,
-            &spec_of(of),
-            graph,
-            after.map(|digit| id(digit)),
-            limit,
-        ),
+    call: &Listing,
+) -> Result<bool, ListError> {
+    let spec = spec_of(call.0);
+    match call.2 {
+        Part::Whole => Ok(are(&commits(alloc, &spec, graph)?, call.3)),
+        Part::Page(after, limit) => {
+            let after = after.map(|digit| id(digit));
+            Ok(are(&page(alloc, &spec, graph, after, limit)?, call.3))
+        }
+        Part::Count => Ok(count_commits(alloc, &spec, graph)? == call.3.len()),
     }
 }
 
@@ -149,9 +165,9 @@ impl Asks for Listing {
         alloc: A,
         graph: &mut Graph<S, Commit<Flags, A>, A>,
     ) -> Result<Answered, AllocError> {
-        Ok(match listed(alloc, graph, self.0, self.2) {
-            Ok(ids) if are(&ids, self.3) => Answered::AsWanted,
-            Ok(_) => Answered::Otherwise,
+        Ok(match is_right(alloc, graph, self) {
+            Ok(true) => Answered::AsWanted,
+            Ok(false) => Answered::Otherwise,
             Err(ListError::Source) => Answered::SourceFailed,
             Err(ListError::OutOfMemory) => Answered::OutOfMemory,
         })

@@ -1,9 +1,11 @@
 //! The members of the set that a spec means, in no order.
 
-ghost use Rattle.std.specs.Prelude.{◌≡◌, IfOk, IsOkAnd, IsTrue, []};
+ghost use Rattle.std.specs.Prelude.{◌≡◌, IfOk, IsOkAnd, IsTrue, [], ◌∷◌};
 ghost use Rattle.gix_revwalk.specs.Faults.{is_source_fault};
 ghost use Rattle.gix_revwalk.specs.GraphAfter.{GraphAfter};
+ghost use Rattle.gix_revwalk.specs.History.{entry_at, parents_in};
 ghost use Rattle.gix_revwalk.specs.Sizes.{Lists};
+ghost use Rattle.gix_revwalk.specs.Walks.{HoldsMore};
 ghost use Rattle.gix_spec.specs.declared.spec.Spec.TheVariants.{Merge};
 ghost use Rattle.gix_spec.specs.declared.spec.Spec.TheVariants.{IncludeOnlyParents, ExcludeParents};
 ghost use Rattle.gix_resolve.specs.ListMeaning.{IsMeant};
@@ -37,6 +39,23 @@ fn ancestors_of_just_one<S: Find, A: Allocator + Copy>(
     Ok(ids)
 }
 
+/// The parents of a commit, also those that the source lacks; none where it lacks the commit.
+pub(crate) fn parents_of<S: Find, A: Allocator + Copy>(
+    alloc: A,
+    id: ObjectId,
+    graph: &mut Graph<S, Commit<Flags, A>, A>,
+) -> Result<Vec<ObjectId, A>, graph::Error>
+    ensures parents { IfOk result (λ parents. parents.items
+        ≡ parents_in (entry_at (S.history graph.old.source) id)) }
+    ensures taken { HoldsMore (S.history graph.old.source) (id ∷ []) graph.old graph.new }
+    ensures after { GraphAfter S.history S.fault_count is_source_fault graph.old graph.new result }
+{
+    let Some(number) = numbers::take(graph, alloc, id, Flags::default())? else {
+        return Ok(Vec::new(alloc));
+    };
+    Ok(numbers::value(graph, number).parents().to_vec(alloc)?)
+}
+
 /// The ancestors of the parents of a commit, each once.
 fn ancestors_of_parents<S: Find, A: Allocator + Copy>(
     alloc: A,
@@ -49,12 +68,8 @@ fn ancestors_of_parents<S: Find, A: Allocator + Copy>(
         graph.old graph.new }
     ensures after { GraphAfter S.history S.fault_count is_source_fault graph.old graph.new result }
 {
-    let marks = Flags::default();
-    let Some(number) = numbers::take(graph, alloc, id, marks)? else {
-        return Ok(Vec::new(alloc));
-    };
-    let parents = numbers::value(graph, number).parents().to_vec(alloc)?;
-    ancestors_beyond(alloc, &[], &parents, marks, graph)
+    let parents = parents_of(alloc, id, graph)?;
+    ancestors_beyond(alloc, &[], &parents, Flags::default(), graph)
 }
 
 /// The commit alone, where the source has it.

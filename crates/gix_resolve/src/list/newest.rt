@@ -1,26 +1,23 @@
 //! Commits in the order in which git shows a history: what is new comes first.
 
-ghost use Rattle.std.specs.Prelude.{◌≡◌, ◌<◌, ◌↔◌, [], Some, IfOk, OnOk, IsTrue, map};
+ghost use Rattle.std.specs.Prelude.{◌≡◌, ◌↔◌, [], ◌∷◌, IfOk, OnOk, IsTrue, map};
 ghost use Rattle.std.specs.List.{filter_map};
 ghost use Rattle.gix_base.specs.declared.hash.ObjectId.{ObjectId};
 ghost use Rattle.gix_revwalk.specs.Faults.{count_after, is_source_fault};
-ghost use Rattle.gix_revwalk.specs.Graph.{KeepsHeld, held_len};
+ghost use Rattle.gix_revwalk.specs.Graph.{KeepsHeld};
 ghost use Rattle.gix_revwalk.specs.GraphAfter.{GraphAfter};
 ghost use Rattle.gix_revwalk.specs.History.{Has, is_one_of};
-ghost use Rattle.gix_revwalk.specs.Number.{place_in};
-ghost use Rattle.gix_revwalk.specs.Walks.{all_visited, HoldsMore};
+ghost use Rattle.gix_revwalk.specs.Walks.{HoldsMore};
 ghost use Rattle.gix_merge_base.specs.Candidates.{turned_at, id_in};
+ghost use Rattle.gix_merge_base.specs.GenThenTime.{key_of};
 ghost use Rattle.gix_merge_base.specs.Keys.{IsInOrder};
-ghost use Rattle.gix_merge_base.specs.PaintQueue.{id_at, ids_at, AreIn};
 ghost use Rattle.gix_resolve.specs.ListErrors.{is_list_source_fault};
-ghost use Rattle.gix_resolve.specs.ListWalk.{AreMarked};
 
 use crate::list::ListError;
-use crate::list::walk::list_id;
 use gix_revision::graph::{self, Commit, Find, Graph};
 use gix_revision::hash::ObjectId;
 use gix_revision::merge_base::{Flags, GenThenTime};
-use gix_revwalk::numbers::{self, Number};
+use gix_revwalk::numbers;
 use std::alloc::{AllocError, Allocator};
 use std::cmp::Reverse;
 
@@ -28,53 +25,52 @@ use std::cmp::Reverse;
 /// smaller id. It is turned round, so that the least comes first.
 type Turned = Reverse<(GenThenTime, Reverse<ObjectId>)>;
 
-/// The numbers of those of `ids` that the source has, each once; they are taken in unless they are
-/// held.
-fn numbers_of<S: Find, A: Allocator + Copy>(
+/// What decides where a commit stands.
+#[inline(always)]
+fn turned_by<A: Allocator>(commit: &Commit<Flags, A>, id: ObjectId) -> Turned
+    ensures { result ≡ record { 0 = (key_of commit.now, record { 0 = id }) } }
+{
+    Reverse((GenThenTime::from(commit), Reverse(id)))
+}
+
+/// What decides where a commit stands, which is taken in unless it is held; `None` where the source lacks it.
+///
+/// A held one is found by one look-up.
+fn turned<S: Find, A: Allocator + Copy>(
+    alloc: A,
+    id: ObjectId,
+    graph: &mut Graph<S, Commit<Flags, A>, A>,
+) -> Result<Option<Turned>, graph::Error>
+    ensures turned { IfOk result (λ t. t ≡ turned_at (S.history graph.old.source) id) }
+    ensures taken { HoldsMore (S.history graph.old.source) (id ∷ []) graph.old graph.new }
+    ensures after { GraphAfter S.history S.fault_count is_source_fault graph.old graph.new result }
+{
+    if let Some(commit) = graph.get(&id) {
+        return Ok(Some(turned_by(commit, id)));
+    }
+    let Some(number) = numbers::take(graph, alloc, id, Flags::default())? else {
+        return Ok(None);
+    };
+    Ok(Some(turned_by(numbers::value(graph, number), id)))
+}
+
+/// What decides where each of those of `ids` stands that the source has; they are taken in unless they are held.
+fn turned_all<S: Find, A: Allocator + Copy>(
     alloc: A,
     ids: &[ObjectId],
     graph: &mut Graph<S, Commit<Flags, A>, A>,
-) -> Result<Vec<Number, A>, graph::Error>
-    ensures inside { IfOk result (λ numbers. AreIn graph.new numbers.items) }
-    ensures visited { IfOk result (λ numbers. ids_at graph.new numbers.items
-        ≡ all_visited (S.history graph.old.source) [] ids.now) }
+) -> Result<Vec<Turned, A>, graph::Error>
+    ensures turned { IfOk result (λ all. all.items
+        ≡ filter_map (turned_at (S.history graph.old.source)) ids.now) }
     ensures taken { HoldsMore (S.history graph.old.source) ids.now graph.old graph.new }
     ensures after { GraphAfter S.history S.fault_count is_source_fault graph.old graph.new result }
 {
-    numbers::begin_walk(graph);
-    let mut numbers = Vec::new(alloc);
+    let mut all = Vec::with_capacity(alloc, ids.len())?;
     for id in ids {
-        list_id(alloc, *id, Flags::default(), &mut numbers, graph)?;
-    }
-    Ok(numbers)
-}
-
-/// What decides where a commit stands.
-fn turned<S: Find, A: Allocator + Copy>(
-    number: Number,
-    graph: &Graph<S, Commit<Flags, A>, A>,
-) -> Turned
-    requires { place_in number < held_len graph.now }
-    ensures { turned_at (S.history graph.now.source) (id_at graph.now (place_in number))
-        ≡ Some result }
-{
-    let key = GenThenTime::from(numbers::value(graph, number));
-    Reverse((key, Reverse(numbers::id_of(graph, number))))
-}
-
-/// What decides where each of the commits stands.
-fn turned_all<S: Find, A: Allocator + Copy>(
-    alloc: A,
-    numbers: &[Number],
-    graph: &Graph<S, Commit<Flags, A>, A>,
-) -> Result<Vec<Turned, A>, AllocError>
-    requires { AreIn graph.now numbers.now }
-    ensures { IfOk result (λ all. all.items
-        ≡ filter_map (turned_at (S.history graph.now.source)) (ids_at graph.now numbers.now)) }
-{
-    let mut all = Vec::with_capacity(alloc, numbers.len())?;
-    for number in numbers {
-        all.push(turned(*number, graph))?;
+        let Some(place) = turned(alloc, *id, graph)? else {
+            continue;
+        };
+        all.push(place)?;
     }
     Ok(all)
 }
@@ -103,10 +99,12 @@ fn in_order<S: Find, A: Allocator + Copy>(
     ensures taken { HoldsMore (S.history graph.old.source) ids.now graph.old graph.new }
     ensures after { GraphAfter S.history S.fault_count is_source_fault graph.old graph.new result }
 {
-    let numbers = numbers_of(alloc, ids, graph)?;
-    let mut all = turned_all(alloc, &numbers, graph)?;
+    let mut all = turned_all(alloc, ids, graph)?;
     all.sort_unstable();
-    Ok(ids_of(alloc, &all)?)
+    let mut found = ids_of(alloc, &all)?;
+    // An id that was handed in twice stands beside itself.
+    found.dedup();
+    Ok(found)
 }
 
 /// Those of `ids` that the source has, each once, by falling generation, then falling time, then rising id: so

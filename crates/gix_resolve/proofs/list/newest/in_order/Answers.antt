@@ -1,37 +1,30 @@
-use Rattle.std.proofs.Common.{◌≡◌, ap, subst, ◌∙◌, map, []}
-use Rattle.std.specs.List.{filter_map}
+use Rattle.std.proofs.Common.{◌≡◌, ap, subst, sym, ◌∙◌, map}
+use Rattle.std.specs.List.{dedup}
 use Rattle.std.specs.List.Sorted.{IsPermutation}
-use Rattle.gix_revwalk.specs.Walks.{all_visited}
-use Rattle.gix_merge_base.specs.Candidates.{id_in, turned_at}
-use Rattle.gix_merge_base.specs.PaintQueue.{ids_at}
-use Rattle.gix_merge_base.proofs.Sorting.{found_same, found_in_order}
-use Rattle.gix_resolve.proofs.Newest.{visited_once, visited_same}
+use Rattle.std.proofs.lemmas.List.Filters.{dedup_is}
+use Rattle.gix_revwalk.specs.History.{is_one_of, same_id}
+use Rattle.gix_merge_base.specs.Candidates.{id_in}
+use Rattle.gix_merge_base.proofs.Sorting.{found_same}
+use Rattle.gix_resolve.proofs.Newest.{ids_rise, once_in_order, one_of-dedup}
 use Rattle.gix_resolve.proofs.list.newest.in_order.Goals as goal
 
 pub returns-clause-order : goal.returns-clause-order
 returns-clause-order g c =
     let h = g.S.Find.history c.args.graph.now.source in
-    let new = c.numbers_of.new.graph in
     let sorted = c.sort_unstable.new.self.items in
-    let ids = all_visited h [] c.args.ids.now in
-    let made : c.in_ok-all.all.items ≡ filter_map (turned_at h) ids =
-    rw (c.in_ok-numbers.ensures.after.same_history) at c.in_ok-all.ensures
-    ∙ ap (λ l. filter_map (turned_at h) (ids_at new l)) c.deref.ensures.value ∙ ap (filter_map (turned_at h)) c.in_ok-numbers.ensures.visited in
-    let perm = subst (λ l. IsPermutation l sorted) made c.sort_unstable.ensures.permutation in
-    let is : c.in_ok-ids_of.field-0.items ≡ map id_in sorted = c.in_ok-ids_of.ensures ∙ ap (map id_in) c.deref-2.ensures.value in
-    rw is (found_in_order h ids sorted perm c.sort_unstable.ensures.sorted (visited_once h c.args.ids.now))
+    let perm = subst (λ l. IsPermutation l sorted) c.in_ok-all.ensures.turned c.sort_unstable.ensures.permutation in
+    let is : c.in_ok-found.found.items ≡ map id_in sorted = c.in_ok-found.ensures ∙ ap (map id_in) c.deref.ensures.value in
+    let kept : c.dedup.new.self.items ≡ dedup same_id c.in_ok-found.found.items = dedup_is same_id _ _ c.dedup.ensures.filtered in
+    rw (kept, is) (once_in_order h (map id_in sorted) (ids_rise h c.args.ids.now sorted perm c.sort_unstable.ensures.sorted))
 
 pub returns-clause-same : goal.returns-clause-same
 returns-clause-same g c d =
     let h = g.S.Find.history c.args.graph.now.source in
-    let new = c.numbers_of.new.graph in
     let sorted = c.sort_unstable.new.self.items in
-    let ids = all_visited h [] c.args.ids.now in
-    let made : c.in_ok-all.all.items ≡ filter_map (turned_at h) ids =
-    rw (c.in_ok-numbers.ensures.after.same_history) at c.in_ok-all.ensures
-    ∙ ap (λ l. filter_map (turned_at h) (ids_at new l)) c.deref.ensures.value ∙ ap (filter_map (turned_at h)) c.in_ok-numbers.ensures.visited in
-    let perm = subst (λ l. IsPermutation l sorted) made c.sort_unstable.ensures.permutation in
-    let is : c.in_ok-ids_of.field-0.items ≡ map id_in sorted = c.in_ok-ids_of.ensures ∙ ap (map id_in) c.deref-2.ensures.value in
-    let found = found_same h ids sorted perm d in
-    let there = visited_same h c.args.ids.now d in
-    rw is ((λ k. there.0 (found.0 k)), (λ k. found.1 (there.1 k)))
+    let perm = subst (λ l. IsPermutation l sorted) c.in_ok-all.ensures.turned c.sort_unstable.ensures.permutation in
+    let is : c.in_ok-found.found.items ≡ map id_in sorted = c.in_ok-found.ensures ∙ ap (map id_in) c.deref.ensures.value in
+    let kept : c.dedup.new.self.items ≡ dedup same_id c.in_ok-found.found.items = dedup_is same_id _ _ c.dedup.ensures.filtered in
+    let same : is_one_of c.dedup.new.self.items d ≡ is_one_of (map id_in sorted) d =
+    ap (λ l. is_one_of l d) kept ∙ one_of-dedup c.in_ok-found.found.items d ∙ ap (λ l. is_one_of l d) is in
+    let there = found_same h c.args.ids.now sorted perm d in
+    ((λ k. there.0 (sym same ∙ k)), (λ k. same ∙ there.1 k))

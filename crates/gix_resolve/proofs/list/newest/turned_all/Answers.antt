@@ -1,7 +1,26 @@
-use Rattle.gix_resolve.proofs.Newest.{turned_next}
+use Rattle.std.proofs.Common.{◌∙◌, sym, Ok}
+use Rattle.gix_resolve.proofs.ListAfter.{after_then, after_ok}
+use Rattle.gix_resolve.proofs.Newest.{turned_skip, turned_next}
+use Rattle.gix_resolve.proofs.ReachTaken.{more_starts}
 use Rattle.gix_resolve.proofs.list.newest.turned_all.Goals as goal
 
-pub loop-number-preserved : goal.loop-number-preserved
-loop-number-preserved g c =
-    turned_next (g.S.Find.history c.args.graph.now.source) c.args.graph.now c.args.numbers.now c.loop-number.number-index _ c.turned.result c.loop-number.all.items c.push.new.self.items c.loop-number-test.true
-    c.loop-number.invariant c.turned.ensures c.in_ok-push.ensures.items
+pub loop-id-preserved-in_default : goal.loop-id-preserved-in_default
+loop-id-preserved-in_default g c =
+    let h = g.S.Find.history c.args.graph.now.source in
+    let same = c.loop-id.invariant.after.same_history in
+    record {
+      turned = turned_skip h c.args.ids.now c.loop-id.id-index _ c.loop-id.all.items c.loop-id-test.true c.loop-id.invariant.turned (sym c.in_default.is ∙ rw same at c.in_ok-place.ensures.turned);
+      taken = more_starts h c.args.ids.now c.loop-id.id-index _ c.args.graph.now c.loop-id.graph c.turned.new.graph c.loop-id-test.true c.loop-id.invariant.taken (rw same at c.turned.ensures.taken);
+      after = after_then c.args.graph.now c.loop-id.graph c.turned.new.graph (Ok tt) c.loop-id.invariant.after (after_ok c.loop-id.graph c.turned.new.graph _ c.in_ok-place.ensures.after);
+    }
+
+pub loop-id-preserved : goal.loop-id-preserved
+loop-id-preserved g c =
+    let h = g.S.Find.history c.args.graph.now.source in
+    let same = c.loop-id.invariant.after.same_history in
+    record {
+      turned = turned_next h c.args.ids.now c.loop-id.id-index _ c.in-Some.place c.loop-id.all.items c.push.new.self.items c.loop-id-test.true c.loop-id.invariant.turned
+          (sym c.in-Some.is ∙ rw same at c.in_ok-place.ensures.turned) c.in_ok-push.ensures.items;
+      taken = more_starts h c.args.ids.now c.loop-id.id-index _ c.args.graph.now c.loop-id.graph c.turned.new.graph c.loop-id-test.true c.loop-id.invariant.taken (rw same at c.turned.ensures.taken);
+      after = after_then c.args.graph.now c.loop-id.graph c.turned.new.graph (Ok tt) c.loop-id.invariant.after (after_ok c.loop-id.graph c.turned.new.graph _ c.in_ok-place.ensures.after);
+    }

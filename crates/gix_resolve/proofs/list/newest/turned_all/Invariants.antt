@@ -1,8 +1,13 @@
 use Rattle.std.proofs.Common.{◌≡◌, take}
 use Rattle.std.specs.List.{filter_map}
+use Rattle.gix_revwalk.specs.Walks.{HoldsMore}
 use Rattle.gix_merge_base.specs.Candidates.{turned_at}
-use Rattle.gix_merge_base.specs.PaintQueue.{ids_at}
+use Rattle.gix_resolve.proofs.ListAfter.{AfterWalks}
 use Rattle.gix_resolve.proofs.list.newest.turned_all.Given as goal
 
-abbrev pub invariant-loop-number : goal.invariant-loop-number
-invariant-loop-number g l = l.all.items ≡ filter_map (turned_at (g.S.Find.history l.graph.source)) (take l.number-index (ids_at l.graph l.numbers))
+abbrev pub invariant-loop-id : goal.invariant-loop-id
+invariant-loop-id g l = record {
+  turned : l.all.items ≡ filter_map (turned_at (g.S.Find.history l.fn.graph.source)) (take l.id-index l.ids);
+  taken : HoldsMore (g.S.Find.history l.fn.graph.source) l.ids l.fn.graph l.graph;
+  after : AfterWalks g.S.Find.history g.S.Find.fault_count l.fn.graph l.graph;
+}

@@ -1,0 +1,9 @@
+use Rattle.std.proofs.Common.{◌≡◌, ◌-◌, length, arith}
+use Rattle.gix_resolve.specs.Reachable.{IsBeyond}
+use Rattle.gix_resolve.proofs.ListCounts.{size-behind}
+use Rattle.gix_resolve.proofs.list.walk.count_beyond.Goals as goal
+
+pub returns-clause-size : goal.returns-clause-size
+returns-clause-size g c =
+    let listed = c.in_ok-listed.listed in
+    size-behind (IsBeyond (g.S.Find.history c.args.graph.now.source) c.args.hidden.now c.args.shown.now) c.list_beyond.new.graph listed.numbers.items listed.hidden _ (omega (arith, c.len.ensures)) c.in_ok-listed.ensures.beyond
