@@ -1,0 +1,97 @@
+/* Times the library for C over the `commit` lines of standard input: library ID ID
+ *
+ * Prints in seconds of the processor: the putting in of all commits, parted by their number; the merge bases of the two commits, asked for the
+ * first time; and the same question again, on the average of so many as take a fifth of a second. */
+#define _POSIX_C_SOURCE 199309L
+#include "gix_revision.h"
+
+#include <stdio.h>
+#include <stdlib.h>
+#include <string.h>
+#include <time.h>
+
+enum { PARENTS = 16 };
+
+typedef struct {
+    gix_id id, parents[PARENTS];
+    size_t parents_len;
+    int64_t time;
+} commit;
+
+static double now(void) {
+    struct timespec at;
+    clock_gettime(CLOCK_PROCESS_CPUTIME_ID, &at);
+    return (double)at.tv_sec + (double)at.tv_nsec * 1e-9;
+}
+
+static void expect(int is_so, const char *what) {
+    if (!is_so) {
+        fprintf(stderr, "library: %s\n", what);
+        exit(1);
+    }
+}
+
+static gix_id id_of(const char *digits) {
+    gix_id id;
+    expect(digits && strlen(digits) >= 40, "an id has 40 digits");
+    for (size_t i = 0; i < 20; i++) {
+        char byte[3] = {digits[2 * i], digits[2 * i + 1], 0};
+        id.bytes[i] = (uint8_t)strtoul(byte, NULL, 16);
+    }
+    return id;
+}
+
+/* Reads a line `commit ID TIME - PARENT..`. */
+static commit commit_of(char *line) {
+    commit read = {0};
+    strtok(line, " \n");
+    read.id = id_of(strtok(NULL, " \n"));
+    read.time = strtoll(strtok(NULL, " \n"), NULL, 10);
+    strtok(NULL, " \n");
+    for (char *word = strtok(NULL, " \n"); word; word = strtok(NULL, " \n")) {
+        expect(read.parents_len < PARENTS, "too many parents");
+        read.parents[read.parents_len++] = id_of(word);
+    }
+    return read;
+}
+
+static void ask(gix_history *history, const gix_id *first, const gix_id *other) {
+    gix_id out[64];
+    size_t count;
+    expect(gix_history_merge_bases(history, first, other, 1, out, 64, &count) >= GIX_OK, "the question is refused");
+}
+
+int main(int argc, char **argv) {
+    commit *commits = NULL;
+    size_t count = 0;
+    char line[1024];
+    gix_history *history;
+    expect(argc == 3, "wants two ids");
+    gix_id first = id_of(argv[1]), other = id_of(argv[2]);
+    while (fgets(line, sizeof line, stdin)) {
+        if (strncmp(line, "commit ", 7) != 0)
+            continue;
+        if ((count & (count - 1)) == 0)
+            commits = realloc(commits, (count ? 2 * count : 1) * sizeof *commits);
+        expect(commits != NULL, "no memory");
+        commits[count++] = commit_of(line);
+    }
+    expect(count > 0, "there are no commits");
+    expect(gix_history_new(&history) == GIX_OK, "no memory");
+    double start = now();
+    for (size_t i = 0; i < count; i++)
+        expect(gix_history_insert(history, &commits[i].id, commits[i].parents, commits[i].parents_len, commits[i].time, false, 0) == GIX_OK,
+               "a commit is refused");
+    double filled = now();
+    ask(history, &first, &other);
+    double asked = now();
+    size_t again = 0;
+    while (now() - asked < 0.2) {
+        ask(history, &first, &other);
+        again++;
+    }
+    printf("%.9f %.9f %.9f\n", (filled - start) / (double)count, asked - filled, (now() - asked) / (double)again);
+    gix_history_free(history);
+    free(commits);
+    return 0;
+}
