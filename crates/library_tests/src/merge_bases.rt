@@ -39,6 +39,28 @@ const LISTED_TWICE: [Row<'static>; 5] = [
     Row(5, 3, None, &[3, 3, 2]),
 ];
 
+/// A chain of eight commits with generations, and 9 beside it, on 5.
+const LEVELLED: [Row<'static>; 9] = [
+    Row(1, 1, Some(1), &[]),
+    Row(2, 2, Some(2), &[1]),
+    Row(3, 3, Some(3), &[2]),
+    Row(4, 4, Some(4), &[3]),
+    Row(5, 5, Some(5), &[4]),
+    Row(6, 6, Some(6), &[5]),
+    Row(7, 7, Some(7), &[6]),
+    Row(8, 8, Some(8), &[7]),
+    Row(9, 9, Some(6), &[5]),
+];
+
+/// Generations of 1, 2 and 5 alone, as where a commit-graph file lacks the newest commits.
+const PARTLY_LEVELLED: [Row<'static>; 5] = [
+    Row(1, 1, Some(1), &[]),
+    Row(2, 2, Some(2), &[1]),
+    Row(3, 3, None, &[2]),
+    Row(4, 4, None, &[3]),
+    Row(5, 5, Some(2), &[1]),
+];
+
 /// 1 and 2 are each other's parents.
 const CYCLE: [Row<'static>; 4] = [
     Row(1, 1, None, &[2]),
@@ -81,6 +103,28 @@ static WORKED: [Question; 19] = [
     Question(Ancestor, &CRISS_CROSS, 4, &[4], &[4]),
 ];
 
+/// Whether the other commit reaches the first, which is among its ancestors by the lists of parents. Nothing is
+/// looked up far below the first one.
+static NEAR: [Question; 6] = [
+    Question(Ancestor, &LEVELLED, 6, &[8], &[6]),
+    Question(Ancestor, &LEVELLED, 9, &[8], &[]),
+    Question(Ancestor, &LEVELLED, 6, &[9], &[]),
+    Question(Ancestor, &LEVELLED, 5, &[9], &[5]),
+    // The first is above the other, with and without a generation.
+    Question(Ancestor, &LEVELLED, 8, &[1], &[]),
+    Question(Ancestor, &PARTLY_LEVELLED, 4, &[5], &[]),
+];
+
+/// The same, where the walk is long, or goes round.
+static FAR: [Question; 6] = [
+    Question(Ancestor, &LEVELLED, 1, &[8], &[1]),
+    Question(Ancestor, &PARTLY_LEVELLED, 1, &[4], &[1]),
+    Question(Ancestor, &PARTLY_LEVELLED, 5, &[4], &[]),
+    Question(Ancestor, &CYCLE, 2, &[3], &[2]),
+    Question(Ancestor, &CYCLE, 1, &[2], &[1]),
+    Question(Ancestor, &CYCLE, 3, &[4], &[]),
+];
+
 /// One of the others is not in the source, or the first is not.
 static LACKED: [Question; 6] = [
     Question(Bases, &CRISS_CROSS, 4, &[5, 5, 9, 5], &[2, 3]),
@@ -97,6 +141,13 @@ fn bases_of_worked_histories(rt: HostRuntime) -> Result<(), Fail> {
     // What is held is not asked for again.
     assert_eq!(rt; first_wrong(rt.alloc(), &WORKED, 7)?, None);
     assert_eq!(rt; first_wrong(rt.alloc(), &LACKED, 20)?, None);
+    Ok(())
+}
+
+#[test]
+fn commits_reach_their_ancestors(rt: HostRuntime) -> Result<(), Fail> {
+    assert_eq!(rt; first_wrong(rt.alloc(), &NEAR, 5)?, None);
+    assert_eq!(rt; first_wrong(rt.alloc(), &FAR, 8)?, None);
     Ok(())
 }
 
