@@ -6,16 +6,16 @@ ghost use Rattle.gix_revision.specs.Bases.{AreBases, ids_of};
 ghost use Rattle.gix_revision.specs.Outcomes.{Describes};
 ghost use Rattle.gix_revision.specs.FileCommits.{history_in};
 ghost use Rattle.gix_revision.specs.History.{IsAcyclic};
-ghost use Rattle.gix_revision.specs.NewerCommits.{HasNoGenerations};
+ghost use Rattle.gix_revision.specs.NewerCommits.{HasNoGenerations, in_file};
 ghost use Rattle.gix_revision.specs.Octopus.{IsOctopusBase};
 ghost use Rattle.gix_revision.specs.Premises.{KeysFallFrom};
 ghost use Rattle.gix_base.specs.declared.hash.ObjectId.{ObjectId};
 
 use fixtures::graph_files::levelled;
-use gix_revision::commit_graph::{Joined, LevelledGraph};
+use gix_revision::commit_graph::{Commits, Joined, LevelledGraph};
 use gix_revision::describe::{self, Options, Outcome, describe};
 use gix_revision::error::NonEmpty;
-use gix_revision::graph::{Commit, Find, Graph, MemorySource, SourceCommit};
+use gix_revision::graph::{Commit, Find, Graph, InsertError, MemorySource, SourceCommit};
 use gix_revision::hash::ObjectId;
 use gix_revision::laws::merge_base::whole_histories_meet;
 use gix_revision::merge_base::{Error, Flags, merge_base, octopus};
@@ -81,7 +81,7 @@ fn bases_of_all<S: Find>(
     ensures { IsAcyclic (S.history graph.old.source.newer)
         → HasNoGenerations (S.history graph.old.source.newer)
         → IfOk result (λ found.
-        AreBases (history_in graph.old.source.file ++ S.history graph.old.source.newer)
+        AreBases (in_file graph.old.source.file ++ S.history graph.old.source.newer)
         first others.now (ids_of found)) }
 {
     graph.source().premises();
@@ -174,15 +174,19 @@ fn description(alloc: Global) -> Option<String> {
 /// A commit that the file lacks.
 const NEWER: ObjectId = ObjectId([1; 20]);
 
-/// A source that has it, without a generation, as a child of another commit.
-fn newer_than(alloc: Global, parent: ObjectId) -> Option<MemorySource> {
-    let child = SourceCommit {
+/// A commit without a generation on another one.
+fn child_of(alloc: Global, parent: ObjectId) -> Option<SourceCommit> {
+    Some(SourceCommit {
         parents: [parent].to_vec(alloc).ok()?,
         time: 0,
         generation: None,
-    };
+    })
+}
+
+/// A source that has it as a child of another commit.
+fn newer_than(alloc: Global, parent: ObjectId) -> Option<MemorySource> {
     let mut newer = MemorySource::new(alloc);
-    newer.insert(NEWER, child).ok()?;
+    newer.insert(NEWER, child_of(alloc, parent)?).ok()?;
     Some(newer)
 }
 
@@ -197,11 +201,76 @@ fn is_joined(alloc: Global) -> bool {
     let Some(newer) = newer_than(alloc, merge) else {
         return false;
     };
-    let mut graph = Graph::new(alloc, Joined { file, newer });
+    let mut graph = Graph::new(
+        alloc,
+        Joined {
+            file: Some(file),
+            newer,
+        },
+    );
     match bases_of_all(alloc, NEWER, &[merge], &mut graph) {
         Ok(bases) => are(&bases, &[merge]),
         Err(_) => false,
     }
+}
+
+/// A parent that comes after its child.
+const LATE: ObjectId = ObjectId([2; 20]);
+
+type GrowingGraph = Graph<Commits<Global>, Commit<Flags>>;
+
+/// Whether a commit is refused, since there is one under its id, and comes back.
+fn comes_back(alloc: Global, id: ObjectId, graph: &mut GrowingGraph) -> bool {
+    let (Some(commit), Some(same)) = (child_of(alloc, id), child_of(alloc, id)) else {
+        return false;
+    };
+    match graph.insert(id, commit) {
+        Err(InsertError::AlreadyThere(back)) => back == same,
+        _ => false,
+    }
+}
+
+/// Whether two commits have these bases.
+fn meet_at(
+    alloc: Global,
+    first: ObjectId,
+    other: ObjectId,
+    graph: &mut GrowingGraph,
+    want: &[ObjectId],
+) -> bool {
+    match bases_of_all(alloc, first, &[other], graph) {
+        Ok(bases) => are(&bases, want),
+        Err(_) => false,
+    }
+}
+
+/// Whether a file keeps its commits, a new one on one of them is met, and so is a parent that comes after two walks
+/// met its child.
+fn grows(alloc: Global) -> Option<bool> {
+    let file = levelled(alloc)?;
+    let merge = file.graph().id(4)?;
+    let mut graph: GrowingGraph = Graph::new(alloc, Commits::new(alloc, Some(file)));
+    graph.insert(NEWER, child_of(alloc, LATE)?).ok()?;
+    let apart = meet_at(alloc, NEWER, merge, &mut graph, &[])
+        && meet_at(alloc, NEWER, merge, &mut graph, &[]);
+    graph.insert(LATE, child_of(alloc, merge)?).ok()?;
+    Some(
+        apart
+            && meet_at(alloc, NEWER, merge, &mut graph, &[merge])
+            && comes_back(alloc, merge, &mut graph)
+            && comes_back(alloc, LATE, &mut graph)
+            && meet_at(alloc, NEWER, LATE, &mut graph, &[LATE]),
+    )
+}
+
+/// Whether a history without a file takes commits.
+fn grows_from_nothing(alloc: Global) -> Option<bool> {
+    let mut graph: GrowingGraph = Graph::new(alloc, Commits::new(alloc, None));
+    graph.insert(LATE, child_of(alloc, NEWER)?).ok()?;
+    graph
+        .insert(NEWER, child_of(alloc, ObjectId([3; 20]))?)
+        .ok()?;
+    Some(meet_at(alloc, LATE, NEWER, &mut graph, &[NEWER]))
 }
 
 #[test]
@@ -209,4 +278,6 @@ fn a_file_is_asked(rt: HostRuntime) {
     assert!(rt; are_answered(rt.alloc()));
     assert!(rt; description(rt.alloc()).as_deref() == Some("v1-4-gc5f95b3"));
     assert!(rt; is_joined(rt.alloc()));
+    assert!(rt; grows(rt.alloc()) == Some(true));
+    assert!(rt; grows_from_nothing(rt.alloc()) == Some(true));
 }

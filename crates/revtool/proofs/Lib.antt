@@ -1,4 +1,3 @@
 pub mod Reading
 pub mod Splitting
 pub mod PlainNumbers
-mod InBoth

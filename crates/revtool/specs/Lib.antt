@@ -3,4 +3,3 @@ pub mod Fields
 pub mod Left
 pub mod Numbers
 pub mod Recorder
-pub mod Commits

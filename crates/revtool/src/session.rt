@@ -1,13 +1,14 @@
 //! All lines of a text, read: the source that its commits make, their names, the table of its
 //! references, and the commands in order.
 
-use crate::commits::Commits;
+use crate::commits::{Commits, add_ids_of_file};
 use crate::fields::LineFault;
 use crate::lines::{Command, Line, commit_id, read_line};
 use crate::stop::Stop;
 use gix_resolve::Table;
 use gix_revision::commit_graph::LevelledGraph;
 use gix_revision::describe::Options;
+use gix_revision::graph::Insert;
 use gix_revision::hash::ObjectId;
 use std::alloc::{AllocError, Allocator};
 use std::borrow::CowSlice;
@@ -41,7 +42,7 @@ impl<'t, A: Allocator + Copy> Session<'t, A> {
 
     // The ids of all commits: those of the file, and those of a text each line of which was read before.
     fn add_all_ids(&mut self, text: &[u8]) -> Result<(), AllocError> {
-        self.source.add_ids_of_file(&mut self.table.ids)?;
+        add_ids_of_file(&self.source, &mut self.table.ids)?;
         add_ids(text, &mut self.table)
     }
 }
@@ -101,7 +102,7 @@ fn add_line<'t, A: Allocator + Copy>(
     session: &mut Session<'t, A>,
 ) -> Result<(), LineFault> {
     match read_line(alloc, line)? {
-        Line::Commit(id, commit) => session.source.insert(alloc, id, commit)?,
+        Line::Commit(id, commit) => session.source.insert(id, commit)?,
         Line::Name(id, name) => add_name(id, name, &mut session.options)?,
         Line::Ref(id, name) => add_ref(alloc, id, name, &mut session.table)?,
         Line::Command(command) => session.commands.push(command)?,
