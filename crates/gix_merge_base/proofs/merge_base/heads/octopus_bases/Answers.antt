@@ -6,3 +6,9 @@ pub returns-then-all_are-clause-order : goal.returns-then-all_are-clause-order
 returns-then-all_are-clause-order g c =
     let items : c.in_ok-alone.alone.items ≡ c.args.first ∷ [] = c.in_ok-alone.ensures.items_if_clones_equal (λ x y same. same) in
     rw items (few_in_order (g.S.Find.history c.args.graph.now.source) (c.args.first ∷ []) (omega arith))
+
+pub returns-clause-bases : goal.returns-clause-bases
+returns-clause-bases g c acyclic differ = c.bases_of_heads.ensures.bases acyclic
+
+pub returns-clause-order : goal.returns-clause-order
+returns-clause-order g c = c.bases_of_heads.ensures.order
