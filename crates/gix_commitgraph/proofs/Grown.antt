@@ -1,8 +1,9 @@
 -- A file's history with newer commits behind it, to which one is put that both lack.
-use Rattle.std.proofs.Common.{◌≡◌, ◌++◌, Option, Some, None, is_some, cond, Bool, true, false, IsTrue, refl, sym, ap, ◌∙◌}
+use Rattle.std.proofs.Common.{◌≡◌, [], ◌∷◌, ◌++◌, Option, Some, None, is_some, cond, Bool, true, false, IsTrue, refl, sym, ap, ◌∙◌}
 use Rattle.std.specs.Prelude.{Result, Ok, Err, OnOk, OnErr, IfErr}
 use Rattle.gix_base.specs.declared.hash.ObjectId.{ObjectId}
-use Rattle.gix_revwalk.proofs.Ids.{same_id-true}
+use Rattle.std.proofs.lemmas.List.{append-nil}
+use Rattle.gix_revwalk.proofs.Ids.{same_id-true, same_id-itself}
 use Rattle.gix_revwalk.specs.History.{History, Entry, Has, entry_at, same_id}
 use Rattle.gix_revwalk.specs.Memory.{SaysWhy}
 use Rattle.gix_revwalk.specs.declared.graph.find.SourceCommit.{SourceCommit}
@@ -61,3 +62,13 @@ says-of-both h k id commit lacks (OutOfMemory back) why = (why.0, first-lacks h 
 pub why-of-both : {A X : Type 0} (h k : History) (id : ObjectId) (commit : SourceCommit A) → entry_at h id ≡ None → (r : Result X (InsertError A)) → IfErr r (SaysWhy k id commit) → IfErr r (SaysWhy (h ++ k) id commit)
 why-of-both h k id commit lacks (Ok x) why = tt
 why-of-both h k id commit lacks (Err e) why = says-of-both h k id commit lacks e why
+
+nothing-in : (k : History) → ((id : ObjectId) → entry_at k id ≡ None) → k ≡ []
+nothing-in [] none = refl
+nothing-in (x ∷ k) none =
+    let wrong : Some x.1 ≡ None = sym (ap (λ b. cond b (Some x.1) (entry_at k x.0)) (same_id-itself x.0)) ∙ none x.0 in
+    cc
+
+-- a file with nothing newer
+pub nothing-newer : (h k : History) → ((id : ObjectId) → entry_at k id ≡ None) → h ++ k ≡ h
+nothing-newer h k none = ap (λ n. h ++ n) (nothing-in k none) ∙ append-nil h

@@ -71,6 +71,7 @@ impl<A: Allocator + Copy> Joined<MemorySource<A>> {
     pub fn new(alloc: A, file: Option<LevelledGraph>) -> Self
         ensures file { result.file ≡ file }
         ensures empty { (id : ObjectId) → entry_at result.newer id ≡ None }
+        ensures commits { in_file result.file ++ result.newer ≡ in_file file }
     {
         Joined {
             file,
