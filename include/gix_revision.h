@@ -89,6 +89,29 @@ int32_t gix_history_is_ancestor(gix_history *history, const gix_id *ancestor, co
 int32_t gix_history_independent(gix_history *history, const gix_id *ids, size_t ids_len, gix_id *out, size_t out_len,
                                 size_t *count);
 
+/* How many commits `ours` reaches and `theirs` does not, into *ahead, and how many the other way round, into *behind, as
+ * `git rev-list --left-right --count`. Among the ancestors of both there may be no parent with a greater generation than
+ * its child, an absent one counting as the greatest; with one either count may be greater, and not less. A cycle may be.
+ * GIX_OK, GIX_OUT_OF_MEMORY. */
+int32_t gix_history_ahead_behind(gix_history *history, const gix_id *ours, const gix_id *theirs, size_t *ahead,
+                                 size_t *behind);
+
+/* Those of `ids` that the history has, each once, by falling generation, then falling time, then rising id, an absent
+ * generation counting as the greatest: children before their parents wherever generations rise from parent to child. *count
+ * is how many there are, and the first of them, as many as there is room for, go to out.
+ * GIX_OK, GIX_OUT_OF_MEMORY. */
+int32_t gix_history_newest_first(gix_history *history, const gix_id *ids, size_t ids_len, gix_id *out, size_t out_len,
+                                 size_t *count);
+
+/* A page of the ids that commits of the history have as parents, and under which it has no commit, each once, by rising
+ * id: at most out_len of them, past the last id of the page before, where after_len is 1; from the first on where it is 0.
+ * A page that is not full is the last. So a history can be put in by rounds: the tips, then what is missing, until nothing
+ * is. A first page looks through the parents that came with commits since the one before, a further one through what is
+ * missing.
+ * GIX_OK, GIX_OUT_OF_MEMORY. */
+int32_t gix_history_missing(gix_history *history, const gix_id *after, size_t after_len, gix_id *out, size_t out_len,
+                            size_t *count);
+
 /* The name of a commit. The bytes may be any. */
 typedef struct {
     gix_id id;
@@ -150,6 +173,10 @@ int32_t gix_history_rev_parse(gix_history *history, const uint8_t *text, size_t 
  * GIX_OK, GIX_NO_KIND, GIX_OUT_OF_MEMORY. */
 int32_t gix_history_list(gix_history *history, const gix_span *span, const gix_id *after, size_t after_len, gix_id *out,
                          size_t out_len, size_t *count);
+
+/* How many commits a set has, as `git rev-list --count`. None of them is written.
+ * GIX_OK, GIX_NO_KIND, GIX_OUT_OF_MEMORY. */
+int32_t gix_history_count(gix_history *history, const gix_span *span, size_t *count);
 
 #ifdef __cplusplus
 }

@@ -118,6 +118,9 @@ _declare("merge_bases", _HANDLE, _ID, _ID, _SIZE, _ID, _SIZE, _COUNT)
 _declare("octopus", _HANDLE, _ID, _ID, _SIZE, _ID)
 _declare("is_ancestor", _HANDLE, _ID, _ID)
 _declare("independent", _HANDLE, _ID, _SIZE, _ID, _SIZE, _COUNT)
+_declare("ahead_behind", _HANDLE, _ID, _ID, _COUNT, _COUNT)
+_declare("newest_first", _HANDLE, _ID, _SIZE, _ID, _SIZE, _COUNT)
+_declare("missing", _HANDLE, _ID, _SIZE, _ID, _SIZE, _COUNT)
 _declare(
     "describe",
     *(_HANDLE, _ID, ctypes.POINTER(_Name), _SIZE, ctypes.POINTER(_How), _BYTES, _SIZE, _COUNT),
@@ -127,6 +130,7 @@ _declare("name", _HANDLE, _BYTES, _SIZE, _ID)
 _declare("resolve", _HANDLE, _BYTES, _SIZE, ctypes.c_int64, ctypes.c_int32, ctypes.POINTER(_Span))
 _declare("rev_parse", _HANDLE, _BYTES, _SIZE, ctypes.c_int64, ctypes.c_int32, ctypes.POINTER(_Span))
 _declare("list", _HANDLE, ctypes.POINTER(_Span), _ID, _SIZE, _ID, _SIZE, _COUNT)
+_declare("count", _HANDLE, ctypes.POINTER(_Span), _COUNT)
 
 
 def _one(id: Id) -> _Id:
@@ -211,6 +215,22 @@ class History:
         self._call("independent", _many(ids), len(ids), out, len(ids), count)
         return [_hex(id) for id in out[: count.value]]
 
+    def ahead_behind(self, ours: Id, theirs: Id) -> tuple[int, int]:
+        """How many commits `ours` alone reaches and how many `theirs` alone, as `git rev-list --left-right --count`."""
+        ahead, behind = _SIZE(), _SIZE()
+        self._call("ahead_behind", _one(ours), _one(theirs), ahead, behind)
+        return ahead.value, behind.value
+
+    def newest_first(self, ids: Sequence[Id]) -> list[str]:
+        """Those that the history has, each once, by falling generation, then falling time, then rising id."""
+        out, count = _many(ids), _SIZE()
+        self._call("newest_first", _many(ids), len(ids), out, len(ids), count)
+        return [_hex(id) for id in out[: count.value]]
+
+    def missing(self, page: int = 1000) -> Iterator[str]:
+        """The ids that commits have as parents and that the history lacks, by rising id."""
+        return self._pages("missing", (), page)
+
     def describe(
         self,
         commit: Id,
@@ -254,11 +274,24 @@ class History:
 
     def list(self, span: Span, page: int = 1000) -> Iterator[str]:
         """The commits of a set, by rising id."""
-        given = _Span(span.kind, _one(span.first), _one(span.second))
+        return self._pages("list", (self._raw(span),), page)
+
+    def count(self, span: Span) -> int:
+        """How many commits a set has, as `git rev-list --count`."""
+        count = _SIZE()
+        self._call("count", self._raw(span), count)
+        return count.value
+
+    @staticmethod
+    def _raw(span: Span) -> _Span:
+        return _Span(span.kind, _one(span.first), _one(span.second))
+
+    def _pages(self, call: str, given: tuple[object, ...], page: int) -> Iterator[str]:
+        """The ids of a call that answers pages."""
         after, out, count = _many([]), (_Id * page)(), _SIZE(page)
         passed = 0
         while count.value == page:
-            self._call("list", given, after, passed, out, page, count)
+            self._call(call, *given, after, passed, out, page, count)
             yield from [_hex(id) for id in out[: count.value]]
             if count.value:
                 after, passed = (_Id * 1)(out[count.value - 1]), 1

@@ -2,7 +2,7 @@
 
 import unittest
 
-from gix_revision import AlreadyThere, Description, Fault, History, Kind, NoCommit
+from gix_revision import AlreadyThere, Description, Fault, History, Kind, NoCommit, Span
 
 
 def id_of(byte: int) -> str:
@@ -27,6 +27,22 @@ class Calls(unittest.TestCase):
         self.assertEqual(self.history.independent([id_of(0x22), id_of(0x44)]), [id_of(0x44)])
         self.assertTrue(self.history.is_ancestor(id_of(0x11), id_of(0x55)))
         self.assertFalse(self.history.is_ancestor(id_of(0x55), id_of(0x11)))
+
+    def test_counts(self) -> None:
+        self.assertEqual(self.history.ahead_behind(id_of(0x44), id_of(0x55)), (1, 1))
+        self.assertEqual(self.history.ahead_behind(id_of(0x55), id_of(0x22)), (2, 0))
+        self.assertEqual(self.history.count(Span(Kind.MERGE, id_of(0x44), id_of(0x55))), 2)
+
+    def test_order(self) -> None:
+        given = [id_of(0x33), id_of(0x99), id_of(0x55), id_of(0x22), id_of(0x33)]
+        self.assertEqual(self.history.newest_first(given), [id_of(0x55), id_of(0x22), id_of(0x33)])
+
+    def test_missing(self) -> None:
+        self.assertEqual(list(self.history.missing()), [])
+        self.history.insert(id_of(0x66), [id_of(0x99), id_of(0x77), id_of(0x55)], 6)
+        self.assertEqual(list(self.history.missing(page=1)), [id_of(0x77), id_of(0x99)])
+        self.history.insert(id_of(0x77), [id_of(0x99)], 7)
+        self.assertEqual(list(self.history.missing()), [id_of(0x99)])
 
     def test_descriptions(self) -> None:
         names = [(id_of(0x11), b"v1")]

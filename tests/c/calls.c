@@ -56,6 +56,72 @@ static void independent(gix_history *history) {
     EXPECT(gix_history_independent(history, ids, 0, out, 3, &count) == GIX_OK && count == 0);
 }
 
+static void counts(gix_history *history) {
+    gix_id two = id_of(0x22), four = id_of(0x44), five = id_of(0x55), six = id_of(0x66), lost = id_of(0x99);
+    size_t ahead = 99, behind = 99, count = 99;
+    EXPECT(gix_history_ahead_behind(history, &four, &five, &ahead, &behind) == GIX_OK && ahead == 1 && behind == 1);
+    EXPECT(gix_history_ahead_behind(history, &five, &two, &ahead, &behind) == GIX_OK && ahead == 2 && behind == 0);
+    EXPECT(gix_history_ahead_behind(history, &two, &five, &ahead, &behind) == GIX_OK && ahead == 0 && behind == 2);
+    EXPECT(gix_history_ahead_behind(history, &four, &six, &ahead, &behind) == GIX_OK && ahead == 4 && behind == 1);
+    EXPECT(gix_history_ahead_behind(history, &lost, &six, &ahead, &behind) == GIX_OK && ahead == 0 && behind == 1);
+
+    gix_span span;
+    span.kind = GIX_MERGE;
+    span.first = four;
+    span.second = five;
+    EXPECT(gix_history_count(history, &span, &count) == GIX_OK && count == 2);
+    span.kind = GIX_INCLUDE;
+    EXPECT(gix_history_count(history, &span, &count) == GIX_OK && count == 4);
+    span.kind = GIX_EXCLUDE;
+    EXPECT(gix_history_count(history, &span, &count) == GIX_OK && count == 0);
+    span.kind = 6;
+    count = 99;
+    EXPECT(gix_history_count(history, &span, &count) == GIX_NO_KIND && count == 99);
+}
+
+static void newest(gix_history *history) {
+    gix_id ids[5], out[4];
+    size_t count = 99;
+    ids[0] = ids[4] = id_of(0x33);
+    ids[1] = id_of(0x99);
+    ids[2] = id_of(0x22);
+    ids[3] = id_of(0x66);
+    out[1] = out[3] = id_of(0xEE);
+    EXPECT(gix_history_newest_first(history, ids, 5, out, 4, &count) == GIX_OK && count == 3);
+    EXPECT(is_id(&out[0], 0x66) && is_id(&out[1], 0x22) && is_id(&out[2], 0x33) && is_id(&out[3], 0xEE));
+    out[1] = id_of(0xEE);
+    EXPECT(gix_history_newest_first(history, ids, 5, out, 1, &count) == GIX_OK && count == 3);
+    EXPECT(is_id(&out[0], 0x66) && is_id(&out[1], 0xEE));
+    EXPECT(gix_history_newest_first(history, ids, 0, out, 4, &count) == GIX_OK && count == 0);
+}
+
+/* A history by rounds: what is missing is put in until nothing is. */
+static void rounds(void) {
+    gix_history *history = NULL;
+    gix_id after = id_of(0), out[3];
+    size_t count = 99;
+    EXPECT(gix_history_new(&history) == GIX_OK);
+    EXPECT(gix_history_missing(history, &after, 0, out, 3, &count) == GIX_OK && count == 0);
+    EXPECT(put(history, 0x44, 0x33, 0x22, 4) == GIX_OK);
+    EXPECT(put(history, 0x55, 0x22, 0x33, 5) == GIX_OK);
+    EXPECT(put(history, 0x55, 0x77, 0, 5) == GIX_ALREADY_THERE);
+    out[2] = id_of(0xEE);
+    EXPECT(gix_history_missing(history, &after, 0, out, 3, &count) == GIX_OK && count == 2);
+    EXPECT(is_id(&out[0], 0x22) && is_id(&out[1], 0x33) && is_id(&out[2], 0xEE));
+    EXPECT(gix_history_missing(history, &after, 0, out, 1, &count) == GIX_OK && count == 1 && is_id(&out[0], 0x22));
+    after = out[0];
+    EXPECT(gix_history_missing(history, &after, 1, out, 1, &count) == GIX_OK && count == 1 && is_id(&out[0], 0x33));
+    after = out[0];
+    EXPECT(gix_history_missing(history, &after, 1, out, 1, &count) == GIX_OK && count == 0);
+    EXPECT(put(history, 0x22, 0x11, 0, 2) == GIX_OK);
+    EXPECT(gix_history_missing(history, &after, 0, out, 3, &count) == GIX_OK && count == 2);
+    EXPECT(is_id(&out[0], 0x11) && is_id(&out[1], 0x33));
+    EXPECT(put(history, 0x33, 0x11, 0, 2) == GIX_OK);
+    EXPECT(put(history, 0x11, 0, 0, 1) == GIX_OK);
+    EXPECT(gix_history_missing(history, &after, 0, out, 3, &count) == GIX_OK && count == 0);
+    gix_history_free(history);
+}
+
 /* A parent that comes after two walks have met its child. */
 static void late_parent(gix_history *history) {
     gix_id child = id_of(0x78), one = id_of(0x11), out[1];
@@ -133,6 +199,9 @@ int main(void) {
     bases(history);
     ancestors(history);
     independent(history);
+    counts(history);
+    newest(history);
+    rounds();
     late_parent(history);
     descriptions(history);
     texts(history);

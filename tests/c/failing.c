@@ -76,6 +76,13 @@ static void calls(gix_history *history, long turn) {
     UNTIL(GIX_OK, gix_history_is_ancestor(history, &one, &five));
     UNTIL(GIX_OK, gix_history_independent(history, &one, 1, out, 4, &count));
     EXPECT(count == 1 && is_id(out, 0x11));
+    UNTIL(GIX_OK, gix_history_ahead_behind(history, &five, &one, &count, &len));
+    EXPECT(count == 3 && len == 0);
+    UNTIL(GIX_OK, gix_history_newest_first(history, &four, 1, out, 4, &count));
+    EXPECT(count == 1 && is_id(out, 0x44));
+    UNTIL(GIX_OK, put(history, 0x66, 0x99, 0x77, 6));
+    UNTIL(GIX_OK, gix_history_missing(history, &one, 0, out, 4, &count));
+    EXPECT(count == 2 && is_id(&out[0], 0x77) && is_id(&out[1], 0x99));
     UNTIL(GIX_OK, gix_history_describe(history, &four, &name, 1, &how, text, sizeof text, &len, &depth));
     EXPECT(len == 13 && memcmp(text, "v1-3-g4444444", 13) == 0);
     UNTIL(GIX_OK, gix_history_name(history, text_of("main"), 4, &four));
@@ -83,6 +90,8 @@ static void calls(gix_history *history, long turn) {
     UNTIL(GIX_OK, gix_history_rev_parse(history, text_of("5555^..main^{}"), 14, 0, 0, &span));
     UNTIL(GIX_OK, gix_history_list(history, &span, &one, 0, out, 4, &count));
     EXPECT(count == 2 && is_id(&out[0], 0x33) && is_id(&out[1], 0x44));
+    UNTIL(GIX_OK, gix_history_count(history, &span, &count));
+    EXPECT(count == 2);
 }
 
 int main(void) {

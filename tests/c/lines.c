@@ -1,4 +1,4 @@
-/* Answers the lines `commit`, `base` and `octopus` of revtool through the library, as revtool does. */
+/* Answers the lines `commit`, `base`, `octopus` and `ahead-behind` of revtool through the library, as revtool does. */
 #include "case.h"
 
 #include <stdlib.h>
@@ -55,6 +55,12 @@ int main(void) {
             continue;
         }
         size_t given = read_ids(ids, 16);
+        if (strcmp(word, "ahead-behind") == 0) {
+            size_t behind = 0;
+            EXPECT(gix_history_ahead_behind(history, ids, ids + 1, &count, &behind) == GIX_OK);
+            printf("%s %zu %zu\n", word, count, behind);
+            continue;
+        }
         if (strcmp(word, "base") == 0) {
             EXPECT(gix_history_merge_bases(history, ids, ids + 1, given - 1, out, 64, &count) >= GIX_OK);
         } else {

@@ -48,8 +48,10 @@ int main(void) {
         if (i >= 16 && i < COMMITS - 64 && i % 8 < 2)
             parents[len++] = numbered((i ^ 1) - 8);
         EXPECT(gix_history_insert(history, &id, parents, len, (int64_t)i, false, 0) == GIX_OK);
+        if (i == 99999)
+            lap("100,000 commits put in");
     }
-    lap("1,000,000 commits put in");
+    lap("900,000 more");
     /* The last merges are those of COMMITS - 72 and COMMITS - 71; each side reaches both commits eight below. */
     uint32_t one = COMMITS - 1, two = COMMITS - 2;
     gix_id a = numbered(one), b = numbered(two), out[4];
@@ -74,6 +76,13 @@ int main(void) {
     lap("describe, a name 4 commits away");
     EXPECT(gix_history_merge_bases(history, &a, &b, 1, out, 4, &count) == GIX_OK && count == 2);
     lap("merge bases, after that");
+    size_t ahead = 0, behind = 0;
+    EXPECT(gix_history_ahead_behind(history, &next, &b, &ahead, &behind) == GIX_OK && ahead > behind && behind == 0);
+    lap("ahead and behind");
+    EXPECT(gix_history_missing(history, &a, 0, out, 4, &count) == GIX_OK && count == 0);
+    lap("what is missing, first");
+    EXPECT(gix_history_missing(history, &a, 0, out, 4, &count) == GIX_OK && count == 0);
+    lap("what is missing, again");
     gix_history_free(history);
     lap("free");
     puts(failed ? "failed" : "passed");

@@ -1,5 +1,7 @@
 pub mod AsBox
+pub mod Counted
 pub mod Values
+pub mod Lacking
 pub mod Named
 pub mod Printed
 pub mod Undescribed

@@ -3,7 +3,7 @@ use Prim.Native.Nat.{zero, suc}
 use Rattle.std.specs.Prelude.{◌≡◌, ◌↔◌, ℕ, ℤ, pos, negsuc, List, ◌++◌, Bool, IsTrue, Some, None, if◌then◌else◌, map, take, drop, length, min}
 use Rattle.gix_base.specs.declared.hash.ObjectId.{ObjectId}
 use Rattle.std.specs.List.{IsDistinct}
-use Rattle.gix_revwalk.specs.History.{History, Entry, is_one_of, same_id}
+use Rattle.gix_revwalk.specs.History.{History, Entry, Has, is_one_of, same_id}
 use Rattle.gix_merge_base.specs.Bases.{AreBases}
 use Rattle.gix_merge_base.specs.Keys.{IsInOrder}
 use Rattle.gix_merge_base.specs.Octopus.{IsOctopusBase}
@@ -54,3 +54,11 @@ pub record HasIndependent (h : History) (ids : List ObjectId) (old new : List (L
   pub independent : (c : ObjectId) → IsTrue (is_one_of left c) ↔ IsIndependent h ids c
   pub order : SomeOf ids left
   pub written : IsWritten (map bytes_in left) old new count
+
+-- exactly those of ids that the history has, each once, by falling generation, then falling time, then rising id, are counted
+-- and written (git-rev-list, "--topo-order")
+pub record HasNewestFirst (h : History) (ids : List ObjectId) (old new : List (List ℕ)) (count : ℕ) : Type 0 where
+  pub found : List ObjectId
+  pub order : IsInOrder h found
+  pub same : (c : ObjectId) → IsTrue (is_one_of found c) ↔ (IsTrue (is_one_of ids c) × Has h c)
+  pub written : IsWritten (map bytes_in found) old new count

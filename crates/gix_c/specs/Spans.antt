@@ -7,7 +7,8 @@ use Rattle.gix_revision.specs.Types.Spec.TheVariants.{Include, Exclude, Range, M
 use Rattle.gix_revision.specs.FaultTexts.{number_of}
 use Rattle.gix_revision.specs.Types.Error.{Error}
 use Rattle.gix_revision.specs.Types.Error.TheVariants.{OutOfMemory, Refused}
-use Rattle.gix_resolve.specs.ListMeaning.{IsPage}
+use Rattle.gix_revwalk.specs.Sizes.{HasSize, AtMost}
+use Rattle.gix_resolve.specs.ListMeaning.{IsMeant, IsPage}
 use Rattle.gix_c.specs.Answers.{id_of, bytes_in, IsWritten}
 use Rattle.gix_c.specs.declared.revisions.Span.{Span}
 
@@ -45,3 +46,20 @@ pub record HasPage (h : History) (span : Span) (bound : Option ObjectId) (old ne
   pub ids : List ObjectId
   pub page : IsPage h spec bound (length old) ids
   pub written : IsWritten (map bytes_in ids) old new count
+
+-- that many commits are in the set
+pub record HasCount (h : History) (span : Span) (count : ℕ) : Type 0 where
+  pub spec : Spec
+  pub stands : spec_at span ≡ Some spec
+  pub size : HasSize (IsMeant h spec) count
+
+-- ours reaches that many commits which theirs does not, and theirs that many which ours does not
+-- (git-rev-list, "--left-right" with "--count")
+abbrev pub HasSides : History → (ours theirs : ObjectId) → (ahead behind : ℕ) → Type 0
+HasSides h ours theirs ahead behind =
+    HasSize (IsMeant h (Range theirs ours)) ahead × HasSize (IsMeant h (Range ours theirs)) behind
+
+-- or no more than that many
+abbrev pub HasSidesAtMost : History → (ours theirs : ObjectId) → (ahead behind : ℕ) → Type 0
+HasSidesAtMost h ours theirs ahead behind =
+    AtMost ahead (IsMeant h (Range theirs ours)) × AtMost behind (IsMeant h (Range ours theirs))

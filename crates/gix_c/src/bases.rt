@@ -35,6 +35,7 @@ pub extern "C" fn gix_history_merge_bases(
     ensures refused { ByCode result ⊤ ⊤
         ((result ≡ OUT_OF_MEMORY) × (out.new ≡ out.old) × (count.new ≡ count.old)) }
     ensures commits { commits_of history.new ≡ commits_of history.old }
+    ensures named { history.new.value.named ≡ history.old.value.named }
 {
     let Ok(others) = ids_of(alloc, others) else {
         return OUT_OF_MEMORY;
@@ -74,6 +75,7 @@ pub extern "C" fn gix_history_octopus(
     ensures kept { ByCode result ⊤ (out.new ≡ out.old) (out.new ≡ out.old) }
     ensures refused { ByCode result ⊤ ⊤ (result ≡ OUT_OF_MEMORY) }
     ensures commits { commits_of history.new ≡ commits_of history.old }
+    ensures named { history.new.value.named ≡ history.old.value.named }
 {
     let Ok(others) = ids_of(alloc, others) else {
         return OUT_OF_MEMORY;
@@ -120,6 +122,7 @@ pub extern "C" fn gix_history_is_ancestor(
 
     ensures refused { ByCode result ⊤ ⊤ (result ≡ OUT_OF_MEMORY) }
     ensures commits { commits_of history.new ≡ commits_of history.old }
+    ensures named { history.new.value.named ≡ history.old.value.named }
 {
     let ancestor = ObjectId(*ancestor);
     let of = ObjectId(*of);
@@ -149,6 +152,7 @@ pub extern "C" fn gix_history_independent(
     ensures refused { ByCode result ⊤ ⊥
         ((result ≡ OUT_OF_MEMORY) × (out.new ≡ out.old) × (count.new ≡ count.old)) }
     ensures commits { commits_of history.new ≡ commits_of history.old }
+    ensures named { history.new.value.named ≡ history.old.value.named }
 {
     let Ok(ids) = ids_of(alloc, ids) else {
         return OUT_OF_MEMORY;

@@ -3,12 +3,15 @@
 #![tactic(auto)]
 
 mod bases;
+mod counts;
 mod describe;
 mod handle;
 mod history;
 mod ids;
 mod life;
 mod loose;
+mod missing;
+mod newest;
 mod place;
 mod revisions;
 mod status;

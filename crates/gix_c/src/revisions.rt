@@ -59,7 +59,8 @@ fn span_of(spec: Spec) -> Span
     }
 }
 
-fn spec_of(span: &Span) -> Option<Spec>
+/// The set that a span stands for, where it has a kind.
+pub(crate) fn spec_of(span: &Span) -> Option<Spec>
     ensures { result ≡ spec_at span.now }
 {
     let first = ObjectId(span.first);
@@ -89,7 +90,11 @@ pub extern "C" fn gix_history_name(
     name: &[u8],
     id: &[u8; 20],
 ) -> i32
-    ensures { commits_of history.new ≡ commits_of history.old }
+    ensures refused { ByCode result ⊤ ⊥ ((result ≡ OUT_OF_MEMORY)
+        × (history.new.value.table.names.entries ≡ history.old.value.table.names.entries)) }
+    ensures ids { history.new.value.table.ids ≡ history.old.value.table.ids }
+    ensures graph { history.new.value.graph ≡ history.old.value.graph }
+    ensures named { history.new.value.named ≡ history.old.value.named }
 {
     let Ok(name) = name.to_vec(alloc) else {
         return OUT_OF_MEMORY;
@@ -118,6 +123,7 @@ pub extern "C" fn gix_history_resolve(
         (result ≡ OUT_OF_MEMORY) }
     ensures kept { ByCode result ⊤ (out.new ≡ out.old) (out.new ≡ out.old) }
     ensures commits { commits_of history.new ≡ commits_of history.old }
+    ensures named { history.new.value.named ≡ history.old.value.named }
 {
     let history = history.get_mut();
     let now = Time { seconds, offset };
@@ -150,6 +156,7 @@ pub extern "C" fn gix_history_rev_parse(
         (result ≡ OUT_OF_MEMORY) }
     ensures kept { ByCode result ⊤ (out.new ≡ out.old) (out.new ≡ out.old) }
     ensures commits { commits_of history.new ≡ commits_of history.old }
+    ensures named { history.new.value.named ≡ history.old.value.named }
 {
     let history = history.get_mut();
     let now = Time { seconds, offset };
@@ -178,6 +185,7 @@ pub extern "C" fn gix_history_list(
     ensures refused { ByCode result ⊤ ⊤ ((out.new ≡ out.old) × (count.new ≡ count.old)) }
     ensures kind { result ≡ NO_KIND → spec_at span.now ≡ None }
     ensures commits { commits_of history.new ≡ commits_of history.old }
+    ensures named { history.new.value.named ≡ history.old.value.named }
 {
     let Some(spec) = spec_of(span) else {
         return NO_KIND;

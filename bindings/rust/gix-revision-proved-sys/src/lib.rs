@@ -99,6 +99,29 @@ extern "C" {
         out_len: usize,
         count: *mut usize,
     ) -> i32;
+    pub fn gix_history_ahead_behind(
+        history: *mut gix_history,
+        ours: *const gix_id,
+        theirs: *const gix_id,
+        ahead: *mut usize,
+        behind: *mut usize,
+    ) -> i32;
+    pub fn gix_history_newest_first(
+        history: *mut gix_history,
+        ids: *const gix_id,
+        ids_len: usize,
+        out: *mut gix_id,
+        out_len: usize,
+        count: *mut usize,
+    ) -> i32;
+    pub fn gix_history_missing(
+        history: *mut gix_history,
+        after: *const gix_id,
+        after_len: usize,
+        out: *mut gix_id,
+        out_len: usize,
+        count: *mut usize,
+    ) -> i32;
     pub fn gix_history_describe(
         history: *mut gix_history,
         commit: *const gix_id,
@@ -139,6 +162,11 @@ extern "C" {
         after_len: usize,
         out: *mut gix_id,
         out_len: usize,
+        count: *mut usize,
+    ) -> i32;
+    pub fn gix_history_count(
+        history: *mut gix_history,
+        span: *const gix_span,
         count: *mut usize,
     ) -> i32;
 }

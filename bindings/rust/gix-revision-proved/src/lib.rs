@@ -257,6 +257,71 @@ impl History {
         Ok(out)
     }
 
+    /// How many commits `ours` alone reaches and how many `theirs` alone: `git rev-list --left-right --count`.
+    pub fn ahead_behind(&mut self, ours: Id, theirs: Id) -> Result<(usize, usize), Error> {
+        let (mut ahead, mut behind) = (0, 0);
+        answered(unsafe {
+            sys::gix_history_ahead_behind(
+                self.at(),
+                ours.raw(),
+                theirs.raw(),
+                &mut ahead,
+                &mut behind,
+            )
+        })?;
+        Ok((ahead, behind))
+    }
+
+    /// Those of `ids` that the history has, each once, by falling generation, then falling time, then rising id.
+    pub fn newest_first(&mut self, ids: &[Id]) -> Result<Vec<Id>, Error> {
+        let mut out = ids.to_vec();
+        let mut count = 0;
+        let room = out.as_mut_ptr().cast();
+        answered(unsafe {
+            sys::gix_history_newest_first(
+                self.at(),
+                ids.as_ptr().cast(),
+                ids.len(),
+                room,
+                ids.len(),
+                &mut count,
+            )
+        })?;
+        out.truncate(count);
+        Ok(out)
+    }
+
+    /// The ids past `after` that commits have as parents and that the history lacks, by rising id, at most `page` of them.
+    ///
+    /// ```
+    /// use gix_revision_proved::{History, Id};
+    ///
+    /// let id = |byte| Id([byte; 20]);
+    /// let mut history = History::new()?;
+    /// history.insert(id(3), &[id(1), id(2)], 3, None)?;
+    /// assert_eq!(history.missing(None, 10)?, [id(1), id(2)]);
+    /// assert_eq!(history.missing(Some(id(1)), 10)?, [id(2)]);
+    /// # Ok::<(), gix_revision_proved::Error>(())
+    /// ```
+    pub fn missing(&mut self, after: Option<Id>, page: usize) -> Result<Vec<Id>, Error> {
+        let mut out = vec![Id([0; 20]); page];
+        let mut count = 0;
+        let room = out.as_mut_ptr().cast();
+        let after = after.as_slice();
+        answered(unsafe {
+            sys::gix_history_missing(
+                self.at(),
+                after.as_ptr().cast(),
+                after.len(),
+                room,
+                page,
+                &mut count,
+            )
+        })?;
+        out.truncate(count);
+        Ok(out)
+    }
+
     /// The commit by its own name or that of an ancestor, as git-describe prints it, and how many commits lie between.
     pub fn describe(
         &mut self,
@@ -373,6 +438,14 @@ impl History {
             fetched: Vec::new().into_iter(),
             is_last: false,
         }
+    }
+
+    /// How many commits a set has: `git rev-list --count`.
+    pub fn count(&mut self, span: Span) -> Result<usize, Error> {
+        let mut count = 0;
+        let raw = span.to_raw();
+        answered(unsafe { sys::gix_history_count(self.at(), &raw, &mut count) })?;
+        Ok(count)
     }
 
     fn page(&mut self, span: Span, page: usize, after: Option<Id>) -> Result<Vec<Id>, Error> {

@@ -36,6 +36,42 @@ fn bases_are_found() -> Result<(), Error> {
 }
 
 #[test]
+fn commits_are_counted() -> Result<(), Error> {
+    let mut history = criss_cross()?;
+    assert_eq!(history.ahead_behind(id(0x44), id(0x55))?, (1, 1));
+    assert_eq!(history.ahead_behind(id(0x55), id(0x22))?, (2, 0));
+    let both = Span::Merge {
+        theirs: id(0x44),
+        ours: id(0x55),
+    };
+    assert_eq!(history.count(both)?, 2);
+    Ok(())
+}
+
+#[test]
+fn commits_are_put_in_order() -> Result<(), Error> {
+    let mut history = criss_cross()?;
+    let given = [id(0x33), id(0x99), id(0x55), id(0x22), id(0x33)];
+    assert_eq!(
+        history.newest_first(&given)?,
+        [id(0x55), id(0x22), id(0x33)]
+    );
+    Ok(())
+}
+
+#[test]
+fn missing_parents_are_told() -> Result<(), Error> {
+    let mut history = criss_cross()?;
+    assert_eq!(history.missing(None, 10)?, []);
+    history.insert(id(0x66), &[id(0x99), id(0x77), id(0x55)], 6, None)?;
+    assert_eq!(history.missing(None, 1)?, [id(0x77)]);
+    assert_eq!(history.missing(Some(id(0x77)), 1)?, [id(0x99)]);
+    history.insert(id(0x77), &[id(0x99)], 7, None)?;
+    assert_eq!(history.missing(None, 10)?, [id(0x99)]);
+    Ok(())
+}
+
+#[test]
 fn commits_are_described() -> Result<(), Error> {
     let mut history = criss_cross()?;
     let found = history.describe(id(0x44), &[(id(0x11), b"v1")], How::default())?;

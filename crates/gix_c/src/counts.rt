@@ -1,0 +1,96 @@
+//! What C calls to have commits counted.
+
+ghost use Rattle.std.specs.Prelude.{◌≡◌, ◌∷◌, [], ⊤, None, IfOk, IsErrOf};
+ghost use Rattle.gix_revwalk.specs.Sizes.{HasSize};
+ghost use Rattle.gix_merge_base.specs.Premises.{GenerationsNeverRiseFrom};
+ghost use Rattle.gix_resolve.specs.ListMeaning.{IsMeant};
+ghost use Rattle.gix_c.specs.Answers.{ByCode, id_of};
+ghost use Rattle.gix_c.specs.Behind.{commits_of};
+ghost use Rattle.gix_c.specs.Spans.{spec_at, HasCount, HasSides, HasSidesAtMost};
+
+use crate::handle::Handle;
+use crate::revisions::{Span, spec_of};
+use crate::status::{NO_KIND, OK, OUT_OF_MEMORY};
+use gix_resolve::{ListError, ahead_behind, commits};
+use gix_revision::graph::{Commit, Graph, MemorySource};
+use gix_revision::hash::ObjectId;
+use gix_revision::merge_base::Flags;
+use gix_revision::spec::Spec;
+use std::alloc::Global;
+
+/// How many commits `ours` reaches and `theirs` does not, and how many the other way round.
+#[unsafe(no_mangle)]
+pub extern "C" fn gix_history_ahead_behind(
+    alloc: Global,
+    history: &mut Handle,
+    ours: &[u8; 20],
+    theirs: &[u8; 20],
+    ahead: &mut usize,
+    behind: &mut usize,
+) -> i32
+    ensures sides { GenerationsNeverRiseFrom (commits_of history.old) (id_of ours.now ∷ id_of theirs.now ∷ [])
+        → ByCode result
+        (HasSides (commits_of history.old) (id_of ours.now) (id_of theirs.now) ahead.new behind.new) ⊥ ⊤ }
+
+    // Whatever generations are.
+    ensures most { ByCode result
+        (HasSidesAtMost (commits_of history.old) (id_of ours.now) (id_of theirs.now) ahead.new behind.new) ⊥ ⊤ }
+
+    ensures refused { ByCode result ⊤ ⊥
+        ((result ≡ OUT_OF_MEMORY) × (ahead.new ≡ ahead.old) × (behind.new ≡ behind.old)) }
+    ensures commits { commits_of history.new ≡ commits_of history.old }
+    ensures named { history.new.value.named ≡ history.old.value.named }
+{
+    let ours = ObjectId(*ours);
+    let theirs = ObjectId(*theirs);
+    let counts = match ahead_behind(alloc, ours, theirs, &mut history.get_mut().graph) {
+        Ok(counts) => counts,
+        // A source in memory does not fail.
+        Err(ListError::Source) => unreachable!(),
+        Err(ListError::OutOfMemory) => return OUT_OF_MEMORY,
+    };
+    *ahead = counts.0;
+    *behind = counts.1;
+    OK
+}
+
+/// How many commits a spec means.
+fn counted(
+    alloc: Global,
+    spec: &Spec,
+    graph: &mut Graph<MemorySource, Commit<Flags>>,
+) -> Result<usize, ListError>
+    ensures size { IfOk result (λ n. HasSize (IsMeant graph.old.source spec.now) n) }
+    ensures history { graph.new.source ≡ graph.old.source }
+    ensures cause { IsErrOf result ListError.Source → ⊥ }
+{
+    let ids = commits(alloc, spec, graph)?;
+    Ok(ids.len())
+}
+
+/// How many commits a set has.
+#[unsafe(no_mangle)]
+pub extern "C" fn gix_history_count(
+    alloc: Global,
+    history: &mut Handle,
+    span: &Span,
+    count: &mut usize,
+) -> i32
+    ensures size { ByCode result (HasCount (commits_of history.old) span.now count.new) ⊥
+        (count.new ≡ count.old) }
+    ensures kind { result ≡ NO_KIND → spec_at span.now ≡ None }
+    ensures commits { commits_of history.new ≡ commits_of history.old }
+    ensures named { history.new.value.named ≡ history.old.value.named }
+{
+    let Some(spec) = spec_of(span) else {
+        return NO_KIND;
+    };
+    let found = match counted(alloc, &spec, &mut history.get_mut().graph) {
+        Ok(found) => found,
+        // A source in memory does not fail.
+        Err(ListError::Source) => unreachable!(),
+        Err(ListError::OutOfMemory) => return OUT_OF_MEMORY,
+    };
+    *count = found;
+    OK
+}

@@ -1,0 +1,140 @@
+//! What C calls to hear which parents a history lacks.
+
+ghost use Rattle.std.specs.Prelude.{◌≡◌, ◌++◌, [], ◌∷◌, ⊤, IfOk, OnErr, OnOk, map, take, slice_get};
+ghost use Rattle.std.specs.List.{filter};
+ghost use Rattle.std.specs.List.Sorted.{IsStrictlySortedBy};
+ghost use Rattle.std.specs.Option.{option_map};
+ghost use Rattle.gix_base.specs.Hash.{id_order};
+ghost use Rattle.gix_base.specs.declared.hash.ObjectId.{ObjectId};
+ghost use Rattle.gix_revwalk.specs.History.{is_one_of};
+ghost use Rattle.gix_resolve.specs.ListMeaning.{past};
+ghost use Rattle.gix_c.specs.Answers.{ByCode, bytes_in, id_of};
+ghost use Rattle.gix_c.specs.Behind.{commits_of};
+ghost use Rattle.gix_c.specs.Missing.{AreLacked, HasMissing, IsNoted, is_lacked};
+
+use crate::handle::Handle;
+use crate::history::History;
+use crate::ids::{bytes_of_each, write};
+use crate::status::{OK, OUT_OF_MEMORY};
+use gix_revision::graph::MemorySource;
+use gix_revision::hash::ObjectId;
+use std::alloc::{AllocError, Global};
+use std::collections::BTreeSet;
+
+/// Adds an id, where the source has no commit under it.
+fn add_lacked(
+    alloc: Global,
+    id: ObjectId,
+    source: &MemorySource,
+    found: &mut Vec<ObjectId>,
+) -> Result<(), AllocError>
+    ensures { OnOk result
+        (found.new.items ≡ found.old.items ++ filter (is_lacked source.now) (id ∷ [])) }
+{
+    if source.get(alloc, id)?.is_none() {
+        found.push(id)?;
+    }
+    Ok(())
+}
+
+/// Those of `ids` under which the source has no commit.
+fn lacked(
+    alloc: Global,
+    ids: &[ObjectId],
+    source: &MemorySource,
+) -> Result<Vec<ObjectId>, AllocError>
+    ensures { IfOk result (λ found. found.items ≡ filter (is_lacked source.now) ids.now) }
+{
+    let mut found = Vec::new(alloc);
+    for id in ids {
+        add_lacked(alloc, *id, source, &mut found)?;
+    }
+    Ok(found)
+}
+
+/// The set of some ids.
+fn set_of(alloc: Global, ids: Vec<ObjectId>) -> Result<BTreeSet<ObjectId>, AllocError>
+    ensures { IfOk result (λ set. (q : ObjectId) → is_one_of set.keys q ≡ is_one_of ids.items q) }
+{
+    let set: BTreeSet<ObjectId> = ids.into_iter().collect(alloc)?;
+    Ok(set)
+}
+
+/// The ids of a set, by rising id.
+fn rising(alloc: Global, set: BTreeSet<ObjectId>) -> Result<Vec<ObjectId>, AllocError>
+    ensures same { IfOk result (λ ids. ids.items ≡ set.keys) }
+    ensures rising { IfOk result (λ ids. IsStrictlySortedBy id_order ids.items) }
+{
+    let ids = set.into_iter().collect(alloc)?;
+    Ok(ids)
+}
+
+/// Looks the noted parents through: those stay that the history lacks, each once, by rising id.
+fn sift(alloc: Global, history: &mut History) -> Result<(), AllocError>
+    ensures sifted { OnOk result
+        (AreLacked history.old.graph.source history.old.named.items history.new.named.items) }
+    ensures refused { OnErr result (history.new.named ≡ history.old.named) }
+    ensures graph { history.new.graph ≡ history.old.graph }
+    ensures table { history.new.table ≡ history.old.table }
+{
+    let found = lacked(alloc, &history.named, history.graph.source())?;
+    let set = set_of(alloc, found)?;
+    history.named = rising(alloc, set)?;
+    Ok(())
+}
+
+/// The ids that are greater than the bound; all of them where there is none.
+fn keep_past(ids: &mut Vec<ObjectId>, bound: Option<ObjectId>)
+    ensures { ids.new.items ≡ past bound ids.old.items }
+{
+    if let Some(bound) = bound {
+        ids.retain(|id| id.cmp(&bound).is_gt());
+    }
+}
+
+/// The bytes of the first `limit` ids past the bound.
+fn page_of(
+    alloc: Global,
+    ids: &[ObjectId],
+    bound: Option<ObjectId>,
+    limit: usize,
+) -> Result<Vec<[u8; 20]>, AllocError>
+    ensures { IfOk result
+        (λ bytes. bytes.items ≡ map bytes_in (take limit (past bound ids.now))) }
+{
+    let mut page = ids.to_vec(alloc)?;
+    keep_past(&mut page, bound);
+    page.truncate(limit);
+    bytes_of_each(alloc, &page)
+}
+
+/// The ids that commits of the history have as parents and under which it has no commit, by rising
+/// id: the first ones past `after`, as many as there is room for.
+#[unsafe(no_mangle)]
+pub extern "C" fn gix_history_missing(
+    alloc: Global,
+    history: &mut Handle,
+    after: &[[u8; 20]],
+    out: &mut [[u8; 20]],
+    count: &mut usize,
+) -> i32
+    ensures page { IsNoted history.old → ByCode result
+        (HasMissing (commits_of history.old) (option_map id_of (slice_get after.now 0))
+        out.old out.new count.new) ⊥ ⊤ }
+    ensures refused { ByCode result ⊤ ⊥
+        ((result ≡ OUT_OF_MEMORY) × (out.new ≡ out.old) × (count.new ≡ count.old)) }
+    ensures commits { commits_of history.new ≡ commits_of history.old }
+    ensures noted { IsNoted history.old → IsNoted history.new }
+{
+    let after = after.first().map(|id| ObjectId(*id));
+    let history = history.get_mut();
+    match sift(alloc, history) {
+        Ok(()) => {}
+        Err(_) => return OUT_OF_MEMORY,
+    }
+    let Ok(bytes) = page_of(alloc, &history.named, after, out.len()) else {
+        return OUT_OF_MEMORY;
+    };
+    write(&bytes, out, count);
+    OK
+}
