@@ -1,5 +1,5 @@
 -- The parents that a history lacks.
-use Rattle.std.proofs.Common.{◌≡◌, ℕ, true, false, cond, refl, ap, sym, subst, ◌∙◌, List, [], ◌∷◌, ◌++◌, ◌↔◌, ◌⊎◌, inl, inr, Option, Some, None, Bool, is_some, IsTrue, true≢false}
+use Rattle.std.proofs.Common.{◌≡◌, true, false, cond, refl, ap, sym, subst, ◌∙◌, List, [], ◌∷◌, ◌++◌, ◌⊎◌, inl, inr, Option, Some, None, is_some, IsTrue, true≢false}
 use Rattle.std.specs.List.{filter, list_any}
 use Rattle.std.specs.List.Sorted.{IsStrictlySortedBy}
 use Rattle.std.specs.Prelude.{not, ◌||◌}
@@ -10,11 +10,11 @@ use Rattle.std.specs.Cmp.Lexicographic.{texts_ties}
 use Rattle.gix_base.specs.Hash.{id_order}
 use Rattle.gix_base.specs.declared.hash.ObjectId.{ObjectId}
 use Rattle.gix_revwalk.specs.History.{History, Entry, Has, entry_at, same_id, is_one_of, parents_in}
-use Rattle.gix_revwalk.proofs.Ids.{same_id-true, same_id-itself}
+use Rattle.gix_revwalk.proofs.Ids.{same_id-itself}
 use Rattle.gix_revwalk.proofs.Inserted.{entry-stays}
 use Rattle.gix_revwalk.proofs.Members.{one_of-left, one_of-right, one_of-cases, one_of-filter, one_of-filtered}
 use Rattle.gix_c.specs.Missing.{ListsMissing, AreLacked, is_lacked}
-use Rattle.gix_c.specs.Noted.{IsParent, IsMissing, Remembers}
+use Rattle.gix_c.specs.Noted.{IsParent, Remembers}
 
 -- membership by the order of ids
 pub by-order : (xs : List ObjectId) (q : ObjectId) → is_one_of xs q ≡ list_any (λ k. is_eq (id_order q k)) xs

@@ -1,6 +1,5 @@
 pub mod AsBox
-pub mod Counted
-pub mod Values
+pub pub mod Values
 pub mod Lacking
 pub mod Named
 pub mod Printed

@@ -1,9 +1,7 @@
 //! What C calls to have commits counted.
 
-ghost use Rattle.std.specs.Prelude.{◌≡◌, ◌∷◌, [], ⊤, None, IfOk, IsErrOf};
-ghost use Rattle.gix_revwalk.specs.Sizes.{HasSize};
+ghost use Rattle.std.specs.Prelude.{◌≡◌, ◌∷◌, [], ⊤, None};
 ghost use Rattle.gix_merge_base.specs.Premises.{GenerationsNeverRiseFrom};
-ghost use Rattle.gix_resolve.specs.ListMeaning.{IsMeant};
 ghost use Rattle.gix_c.specs.Answers.{ByCode, id_of};
 ghost use Rattle.gix_c.specs.Behind.{commits_of};
 ghost use Rattle.gix_c.specs.Spans.{spec_at, HasCount, HasSides, HasSidesAtMost};
@@ -11,11 +9,8 @@ ghost use Rattle.gix_c.specs.Spans.{spec_at, HasCount, HasSides, HasSidesAtMost}
 use crate::handle::Handle;
 use crate::revisions::{Span, spec_of};
 use crate::status::{NO_KIND, OK, OUT_OF_MEMORY};
-use gix_resolve::{ListError, ahead_behind, commits};
-use gix_revision::graph::{Commit, Graph, MemorySource};
+use gix_resolve::{ListError, ahead_behind, count_commits};
 use gix_revision::hash::ObjectId;
-use gix_revision::merge_base::Flags;
-use gix_revision::spec::Spec;
 use std::alloc::Global;
 
 /// How many commits `ours` reaches and `theirs` does not, and how many the other way round.
@@ -54,20 +49,6 @@ pub extern "C" fn gix_history_ahead_behind(
     OK
 }
 
-/// How many commits a spec means.
-fn counted(
-    alloc: Global,
-    spec: &Spec,
-    graph: &mut Graph<MemorySource, Commit<Flags>>,
-) -> Result<usize, ListError>
-    ensures size { IfOk result (λ n. HasSize (IsMeant graph.old.source spec.now) n) }
-    ensures history { graph.new.source ≡ graph.old.source }
-    ensures cause { IsErrOf result ListError.Source → ⊥ }
-{
-    let ids = commits(alloc, spec, graph)?;
-    Ok(ids.len())
-}
-
 /// How many commits a set has.
 #[unsafe(no_mangle)]
 pub extern "C" fn gix_history_count(
@@ -85,7 +66,7 @@ pub extern "C" fn gix_history_count(
     let Some(spec) = spec_of(span) else {
         return NO_KIND;
     };
-    let found = match counted(alloc, &spec, &mut history.get_mut().graph) {
+    let found = match count_commits(alloc, &spec, &mut history.get_mut().graph) {
         Ok(found) => found,
         // A source in memory does not fail.
         Err(ListError::Source) => unreachable!(),
