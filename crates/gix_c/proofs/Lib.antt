@@ -1,5 +1,5 @@
 pub mod AsBox
-pub pub mod Values
+pub mod Values
 pub mod Lacking
 pub mod Named
 pub mod Printed
