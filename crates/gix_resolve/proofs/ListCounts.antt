@@ -1,5 +1,5 @@
 -- How many commits specs mean.
-use Rattle.std.proofs.Common.{◌≡◌, ℕ, ◌+◌, ◌-◌, ◌≤◌, refl, sym, ap, ◌∙◌, List, [], ◌∷◌, ◌++◌, drop, length, is_some, true, false, cond, Bool, arith}
+use Rattle.std.proofs.Common.{◌≡◌, ℕ, ◌+◌, ◌-◌, refl, List, [], ◌∷◌, ◌++◌, drop, length, is_some, true, false, arith}
 use Rattle.std.proofs.lemmas.List.{length-map, length-drop, length-append}
 use Rattle.gix_base.specs.declared.hash.ObjectId.{ObjectId}
 use Rattle.gix_revwalk.specs.History.{History, entry_at, parents_in}

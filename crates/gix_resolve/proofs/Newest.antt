@@ -1,5 +1,5 @@
 -- Ids that are put in order.
-use Rattle.std.proofs.Common.{◌≡◌, ℕ, Bool, true, false, cond, refl, ap, sym, subst, ◌∙◌, List, [], ◌∷◌, ◌++◌, ◌||◌, ◌<◌, ◌+◌, take, length, get_or, map, Option, Some, None, is_some, IsTrue, arith}
+use Rattle.std.proofs.Common.{◌≡◌, ℕ, Bool, true, false, cond, refl, ap, sym, subst, ◌∙◌, List, [], ◌∷◌, ◌++◌, ◌||◌, ◌<◌, ◌+◌, take, length, get_or, map, Option, Some, None, is_some}
 use Rattle.std.specs.List.{filter_map, dedup, dedup_from, AllByRecursion}
 use Rattle.std.specs.List.Sorted.{IsPermutation, IsSorted}
 use Rattle.std.specs.Ordering.{is_lt, is_eq, eq_by_cmp}

@@ -1,4 +1,4 @@
-use Rattle.std.proofs.Common.{◌≡◌, ◌+◌, [], ◌∷◌, sym, subst, Ok, ℕ}
+use Rattle.std.proofs.Common.{◌≡◌, ◌+◌, sym, subst}
 use Rattle.gix_revwalk.specs.Sizes.{HasSize}
 use Rattle.gix_revwalk.proofs.GraphAfters.{graph_as}
 use Rattle.gix_spec.specs.declared.spec.Spec.TheVariants.{Merge}
