@@ -3,8 +3,8 @@ use Rattle.std.specs.Prelude.{◌≡◌}
 use Rattle.gix_base.specs.declared.hash.ObjectId.{ObjectId}
 use Rattle.gix_revwalk.specs.History.{History, Has}
 use Rattle.gix_revwalk.specs.declared.graph.find.SourceCommit.{SourceCommit}
-use Rattle.gix_revwalk.specs.declared.graph.memory.InsertError.{InsertError}
-use Rattle.gix_revwalk.specs.declared.graph.memory.InsertError.TheVariants.{AlreadyThere, OutOfMemory}
+use Rattle.gix_revwalk.specs.declared.graph.insert.InsertError.{InsertError}
+use Rattle.gix_revwalk.specs.declared.graph.insert.InsertError.TheVariants.{AlreadyThere, OutOfMemory}
 
 -- the commit comes back; it is said to be there only where the history has one under its id
 abbrev pub TellsWhy : {A : Type 0} → History → ObjectId → SourceCommit A → InsertError A → Type 0
