@@ -24,6 +24,8 @@ pub mod QueueKeys
 pub mod KeyCmp
 pub mod PaintWalk
 pub mod PaintBegins
+pub mod Fronts
+pub mod PaintPops
 pub mod Unheld
 pub mod ParentsOf
 pub mod Reduction

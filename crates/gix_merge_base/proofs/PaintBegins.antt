@@ -16,7 +16,7 @@ use Rattle.gix_revwalk.proofs.Ids.{same_id-true, same_id-itself, same_id-equal}
 use Rattle.gix_revwalk.proofs.Members.{one_of-cons_cases, one_of-left, one_of-right}
 use Rattle.gix_merge_base.proofs.Handing.{one_of-taken}
 use Rattle.gix_merge_base.proofs.Painting.{Handed, or_either, and_both, and_pair}
-use Rattle.gix_merge_base.proofs.PaintWalk.{Walk}
+use Rattle.gix_merge_base.proofs.PaintWalk.{IsWalk}
 use Rattle.gix_merge_base.specs.Counting.{Counts}
 use Rattle.std.proofs.Math.Path.{fun_ext}
 
@@ -123,7 +123,7 @@ or_none true y k = cc
 or_none false y k = (refl, k)
 
 pub walk_begins : (h : History) (f : ObjectId) (os : List ObjectId) (began held : ObjectId → Type 0) (m : ObjectId → MarkSet) (q : List ObjectId) → Begun h f os m q
-    → ((p : ObjectId) → held p → began p ⊎ IsHandedIn f os p) → Walk h f os began held m q [] 0
+    → ((p : ObjectId) → held p → began p ⊎ IsHandedIn f os p) → IsWalk h f os began held m q [] 0
 walk_begins h f os began held m q b holds =
     let f_one : (c : ObjectId) → IsTrue (m c).one → (f ≡ c) × Has h f = λ c k. let p = and_both _ _ (sym (b.one c) ∙ k) in (same_id-true f c p.0, p.1) in
     let o_two : (c : ObjectId) → IsTrue (m c).two → IsTrue (is_one_of os c) × Has h c = λ c k. and_both _ _ (sym (b.two c) ∙ k) in

@@ -25,7 +25,7 @@ use Rattle.gix_merge_base.proofs.Painting.{Handed, Painting, popped_keeps, grew,
 use Rattle.gix_merge_base.proofs.PaintingEnds.{Fresh, Ordered, fresh_keeps, results_best, ordered_keeps, parents_may}
 
 -- between two pops; `held` are the ids that are held, and `began` those at the start
-pub record Walk (h : History) (f : ObjectId) (os : List ObjectId) (began held : ObjectId → Type 0) (m : ObjectId → MarkSet) (q results : List ObjectId) (pops : ℕ) : Type 0 where
+pub record IsWalk (h : History) (f : ObjectId) (os : List ObjectId) (began held : ObjectId → Type 0) (m : ObjectId → MarkSet) (q results : List ObjectId) (pops : ℕ) : Type 0 where
   pub popped : List ObjectId
   pub counts : pops ≡ length popped
   pub painting : Painting h f os m q results popped
@@ -54,7 +54,7 @@ painting_permuted h f os m q q' results popped perm at =
     }
 
 pub walk_permuted : (h : History) (f : ObjectId) (os : List ObjectId) (began held : ObjectId → Type 0) (m : ObjectId → MarkSet) (q q' results : List ObjectId) (pops : ℕ)
-    → IsPermutation q q' → Walk h f os began held m q results pops → Walk h f os began held m q' results pops
+    → IsPermutation q q' → IsWalk h f os began held m q results pops → IsWalk h f os began held m q' results pops
 walk_permuted h f os began held m q q' results pops perm w =
     let inside : (c : ObjectId) → is_one_of q c ≡ is_one_of q' c = λ c. list_any-IsPermutation (same_id c) q q' perm in
     let l : length q' ≡ length q = length_permutation q q' perm in
@@ -72,7 +72,7 @@ walk_permuted h f os began held m q q' results pops perm w =
 
 -- what is taken in with the parents of a queued commit
 pub met_next : (h : History) (f : ObjectId) (os : List ObjectId) (began held held' : ObjectId → Type 0) (m : ObjectId → MarkSet) (id : ObjectId) (q results : List ObjectId) (pops : ℕ)
-    → Walk h f os began held m q results pops → IsTrue (is_one_of q id)
+    → IsWalk h f os began held m q results pops → IsTrue (is_one_of q id)
     → ((p : ObjectId) → held' p → held p ⊎ (IsTrue (is_one_of (parents_in (entry_at h id)) p) × Has h p))
     → (p : ObjectId) → held' p → began p ⊎ MayBeMet h f os p
 met_next h f os began held held' m id q results pops w queued takes p k = elim (takes p k) as (λ _. began p ⊎ MayBeMet h f os p) [
@@ -82,11 +82,11 @@ met_next h f os began held held' m id q results pops w queued takes p k = elim (
 
 -- a pop of c
 module _ (h : History) (f : ObjectId) (os : List ObjectId) (began held held' : ObjectId → Type 0) (m m1 m2 : ObjectId → MarkSet) (c : ObjectId) (q q2 results : List ObjectId) (pops : ℕ)
-    (w : Walk h f os began held m (c ∷ q) results pops) (note : Notes m c m1) (did : Hands h (handed_on (m c)) (parents_in (entry_at h c)) m1 q m2 q2)
+    (w : IsWalk h f os began held m (c ∷ q) results pops) (note : Notes m c m1) (did : Hands h (handed_on (m c)) (parents_in (entry_at h c)) m1 q m2 q2)
     (top : (z : ObjectId) → IsTrue (is_one_of (c ∷ q) z) → KeyAtMost h z c)
     (takes : (p : ObjectId) → held' p → held p ⊎ (IsTrue (is_one_of (parents_in (entry_at h c)) p) × Has h p))
     (z : ObjectId) (z_in : IsTrue (is_one_of (c ∷ q) z)) (z_open : (m z).stale ≡ false) where
-  pub walk_goes : Walk h f os began held' m2 q2 (results_after m c results) (pops + 1)
+  pub walk_goes : IsWalk h f os began held' m2 q2 (results_after m c results) (pops + 1)
   walk_goes = record {
     popped = c ∷ w.popped;
     counts = let e = w.counts in omega arith;
@@ -127,7 +127,7 @@ total_bound (x ∷ xs) m = let a = level_bound (m x).one in let b = level_bound 
 
 -- what is marked is held, and a graph holds few
 pub pops_fit : {S A : Type 0} (h : History) (f : ObjectId) (os : List ObjectId) (began held : ObjectId → Type 0) (g : Graphed S (Commit Flags A)) (q results : List ObjectId) (pops : ℕ)
-    → Walk h f os began held (marks_at g) q results pops → held_len g < 2 ^ 64 → pops ≤ (1 + length os) + 3 * 2 ^ 64
+    → IsWalk h f os began held (marks_at g) q results pops → held_len g < 2 ^ 64 → pops ≤ (1 + length os) + 3 * 2 ^ 64
 pops_fit {S} {A} h f os began held g q results pops w few =
     let ids = map (λ (e : ObjectId × Commit Flags A). e.0) g.held in
     let s = w.spent ids (λ p k. keys_all g.held p (held_marked (unwrap_or (lookup (same_id p) g.marked) None) (held_at g p) k)) in
@@ -152,7 +152,7 @@ pops_fit {S} {A} h f os began held g q results pops w few =
       | false ↦ λ k. keys_all xs p k
     ] has
 
-pub pops_bound : (h : History) (f : ObjectId) (os : List ObjectId) (began held : ObjectId → Type 0) (m : ObjectId → MarkSet) (q results : List ObjectId) (pops : ℕ) → Walk h f os began held m q results pops
+pub pops_bound : (h : History) (f : ObjectId) (os : List ObjectId) (began held : ObjectId → Type 0) (m : ObjectId → MarkSet) (q results : List ObjectId) (pops : ℕ) → IsWalk h f os began held m q results pops
     → (ids : List ObjectId) → ((p : ObjectId) → Has h p → IsTrue (is_one_of ids p)) → pops + length q ≤ (1 + length os) + 3 * length ids
 pops_bound h f os began held m q results pops w ids all =
     let s = w.spent ids (λ p k. all p (marked_has p (marked (m p) k))) in
@@ -208,20 +208,20 @@ all_stale m (x ∷ xs) k c i =
 -- a pop, which moves no mark, and the step after it
 pub walk_pops : (h : History) (f : ObjectId) (os : List ObjectId) (began held held' : ObjectId → Type 0) (m0 m m2 : ObjectId → MarkSet) (id : ObjectId) (q0 q1 q2 results : List ObjectId) (pops : ℕ)
     → ((c : ObjectId) → m c ≡ m0 c)
-    → Walk h f os began held m0 q0 results pops → IsPermutation q0 (id ∷ q1) → ((z : ObjectId) → IsTrue (is_one_of q0 z) → KeyAtMost h z id)
+    → IsWalk h f os began held m0 q0 results pops → IsPermutation q0 (id ∷ q1) → ((z : ObjectId) → IsTrue (is_one_of q0 z) → KeyAtMost h z id)
     → 1 ≤ unstale m0 q0 → Steps h id m q1 m2 q2
     → ((p : ObjectId) → held' p → held p ⊎ (IsTrue (is_one_of (parents_in (entry_at h id)) p) × Has h p))
-    → Walk h f os began held' m2 q2 (results_after m id results) (pops + 1)
+    → IsWalk h f os began held' m2 q2 (results_after m id results) (pops + 1)
 walk_pops h f os began held held' m0 m m2 id q0 q1 q2 results pops same w rest top open_one steps takes =
     let inside : (c : ObjectId) → is_one_of q0 c ≡ is_one_of (id ∷ q1) c = λ c. list_any-IsPermutation (same_id c) q0 (id ∷ q1) rest in
     let z = some_open m0 q0 open_one in
     let eq : m0 ≡ m = fun_ext (λ c. sym (same c)) in
-    walk_goes h f os began held held' m steps.0 m2 id q1 q2 results pops (walk_permuted h f os began held m q0 (id ∷ q1) results pops rest (subst (λ y. Walk h f os began held y q0 results pops) eq w)) steps.1 steps.2
+    walk_goes h f os began held held' m steps.0 m2 id q1 q2 results pops (walk_permuted h f os began held m q0 (id ∷ q1) results pops rest (subst (λ y. IsWalk h f os began held y q0 results pops) eq w)) steps.1 steps.2
     (λ y k. top y (inside y ∙ k)) takes z.0 (sym (inside z.0) ∙ z.1) (ap (λ (x : MarkSet). x.stale) (same z.0) ∙ z.2)
 
 -- what a step has taken in, also where it was refused
 pub step_takes : (h : History) (f : ObjectId) (os : List ObjectId) (began held held' : ObjectId → Type 0) (m : ObjectId → MarkSet) (id : ObjectId) (q0 q1 results : List ObjectId) (pops : ℕ)
-    → Walk h f os began held m q0 results pops → IsPermutation q0 (id ∷ q1) → ((z : ObjectId) → IsTrue (is_one_of q0 z) → KeyAtMost h z id) → 1 ≤ unstale m q0
+    → IsWalk h f os began held m q0 results pops → IsPermutation q0 (id ∷ q1) → ((z : ObjectId) → IsTrue (is_one_of q0 z) → KeyAtMost h z id) → 1 ≤ unstale m q0
     → ((p : ObjectId) → held' p → held p ⊎ (IsTrue (is_one_of (parents_in (entry_at h id)) p) × Has h p))
     → KeysFallFrom h (f ∷ os) → (p : ObjectId) → held' p → began p ⊎ MayBeTaken h f os p
 step_takes h f os began held held' m id q0 q1 results pops w rest top open_one takes falls p k =
@@ -237,7 +237,7 @@ step_takes h f os began held held' m id q0 q1 results pops w rest top open_one t
 
 -- what a step has met, also where it was refused
 pub step_meets : (h : History) (f : ObjectId) (os : List ObjectId) (began held held' : ObjectId → Type 0) (m : ObjectId → MarkSet) (id : ObjectId) (q0 q1 results : List ObjectId) (pops : ℕ)
-    → Walk h f os began held m q0 results pops → IsPermutation q0 (id ∷ q1)
+    → IsWalk h f os began held m q0 results pops → IsPermutation q0 (id ∷ q1)
     → ((p : ObjectId) → held' p → held p ⊎ (IsTrue (is_one_of (parents_in (entry_at h id)) p) × Has h p))
     → (p : ObjectId) → held' p → began p ⊎ MayBeMet h f os p
 step_meets h f os began held held' m id q0 q1 results pops w rest takes p k =
@@ -245,7 +245,7 @@ step_meets h f os began held held' m id q0 q1 results pops w rest takes p k =
 
 -- pops are left while something is queued
 pub pops_left : (h : History) (f : ObjectId) (os : List ObjectId) (began held : ObjectId → Type 0) (m : ObjectId → MarkSet) (id : ObjectId) (q0 q1 results : List ObjectId) (pops : ℕ)
-    → Walk h f os began held m q0 results pops → IsPermutation q0 (id ∷ q1) → pops + 1 ≤ (1 + length os) + 3 * length h
+    → IsWalk h f os began held m q0 results pops → IsPermutation q0 (id ∷ q1) → pops + 1 ≤ (1 + length os) + 3 * length h
 pops_left h f os began held m id q0 q1 results pops w rest =
     let b = pops_bound h f os began held m q0 results pops w (map (λ e. e.0) h) (keys_all h) in
     let l : length (id ∷ q1) ≡ length q0 = length_permutation q0 (id ∷ q1) rest in

@@ -16,5 +16,6 @@ pub mod Painting
 pub mod PaintSteps
 pub mod Counting
 pub mod PaintQueue
+pub mod Front
 pub mod Reducing
 pub mod ReduceSteps

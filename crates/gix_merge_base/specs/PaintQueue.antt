@@ -3,7 +3,7 @@ use Rattle.std.specs.Prelude.{◌≡◌, ℕ, ◌<◌, List, [], map, IsTrue, is
 use Rattle.std.specs.Option.{unwrap_or}
 use Rattle.std.specs.List.{AllByRecursion}
 use Rattle.gix_base.specs.declared.hash.ObjectId.{ObjectId}
-use Rattle.gix_revwalk.specs.History.{History, Entry, entry_at, generation_in, time_in}
+use Rattle.gix_revwalk.specs.History.{History, Entry, entry_at, parents_in, generation_in, time_in}
 use Rattle.gix_revwalk.specs.Graph.{Graphed, held_at, held_len}
 use Rattle.gix_revwalk.specs.Data.{mark_at}
 use Rattle.gix_revwalk.specs.Number.{place_in}
@@ -22,6 +22,10 @@ key_in e = record { generation = generation_in e; time = time_in e }
 -- the key of the commit under an id
 abbrev pub key_at : History → ObjectId → GenThenTime
 key_at h id = key_in (entry_at h id)
+
+-- the parents of the commit under an id
+abbrev pub parents_at : History → ObjectId → List ObjectId
+parents_at h id = parents_in (entry_at h id)
 
 -- no marks, and not queued
 abbrev pub no_mark : Mark Flags
@@ -43,6 +47,10 @@ queued_at g q = (mark_or g q).queued
 abbrev pub id_at : {S T : Type 0} → Graphed S T → ℕ → ObjectId
 id_at g k = unwrap_or (named g k) (record { 0 = [] })
 
+-- the id of a number
+abbrev pub id_of : {S T : Type 0} → Graphed S T → Number → ObjectId
+id_of g n = id_at g (place_in n)
+
 -- the ids that are queued
 abbrev pub queued_ids : {S T K : Type 0} → Graphed S T → List (K × Number) → List ObjectId
 queued_ids g ps = map (λ p. id_at g (place_in p.1)) ps
@@ -58,6 +66,10 @@ Keyed h g ps = AllByRecursion (λ p. p.0 ≡ key_at h (id_at g (place_in p.1))) 
 -- the ids of numbers
 abbrev pub ids_at : {S T : Type 0} → Graphed S T → List Number → List ObjectId
 ids_at g ns = map (λ n. id_at g (place_in n)) ns
+
+-- it is a number of the graph
+abbrev pub IsIn : {S T : Type 0} → Graphed S T → Number → Type 0
+IsIn g n = place_in n < held_len g
 
 -- each is a number of the graph
 abbrev pub AreIn : {S T : Type 0} → Graphed S T → List Number → Type 0

@@ -19,12 +19,11 @@ ghost use Rattle.gix_merge_base.specs.Refusals.{HasInsertText, is_source_fault};
 use crate::merge_base::error::{Error, commit_refused, parent_refused};
 use crate::merge_base::flags::Flags;
 use crate::merge_base::gen_then_time::GenThenTime;
-use crate::merge_base::hand::{hand, hand_parents, mark_of};
+use crate::merge_base::hand::{Walk, mark_of};
 use bitflags::Flags as BitFlags;
 use gix_base::hash::ObjectId;
 use gix_revwalk::graph::{Commit, Find, Graph};
 use gix_revwalk::numbers::{self, Number};
-use gix_revwalk::queue::PriorityQueue;
 use std::alloc::Allocator;
 
 /// The mark of what the walk has met.
@@ -86,27 +85,17 @@ fn meets<S: Find, A: Allocator + Copy>(
     ensures after { AfterCall S.history S.fault_count graph.old graph.new result }
 {
     let least = GenThenTime::from(numbers::value(graph, target)).generation;
-    let mut queue = PriorityQueue::new(alloc);
-    let mut into = Vec::new(alloc);
     // What is met is stale, so no entry counts as open.
-    let mut open_entries = 0usize;
-    hand(from, MET, &mut queue, &mut open_entries, graph)?;
+    let mut walk = Walk::new(alloc, 0);
+    walk.front.hand(from, MET, graph)?;
     while !mark_of(graph, target).marks.is_stale() {
-        let Some((key, number)) = queue.pop() else {
+        let Some((key, number)) = walk.front.queue.pop() else {
             return Ok(false);
         };
         if key.generation < least {
             return Ok(false);
         }
-        if let Err(error) = hand_parents(
-            alloc,
-            number,
-            MET,
-            &mut into,
-            &mut queue,
-            &mut open_entries,
-            graph,
-        ) {
+        if let Err(error) = walk.hand_parents(alloc, number, MET, graph) {
             return Err(parent_refused(error));
         }
     }

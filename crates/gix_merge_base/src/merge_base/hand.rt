@@ -2,20 +2,16 @@
 //! reduction, which hands on that mark alone, has it count the ids that are not stale: each of them
 //! counts as queued once, without an entry.
 
-ghost use Rattle.std.specs.Prelude.{◌≡◌, ◌<◌, ◌≤◌, ◌-◌, ◌^◌, ◌∷◌, [], List, Some, IsTrue, OnOk, IfOk, IfSome, IsNone, IsSome, cond, Ok, Err, not};
-ghost use Rattle.std.specs.List.Sorted.{IsPermutation};
+ghost use Rattle.std.specs.Prelude.{◌≡◌, ◌<◌, ◌-◌, ◌^◌, ◌∷◌, [], OnOk, IfOk, IfSome, IsNone, IsTrue, cond, not};
 ghost use Rattle.gix_base.specs.declared.hash.ObjectId.{ObjectId};
-ghost use Rattle.gix_revwalk.specs.declared.numbers.Number.{Number};
-ghost use Rattle.gix_revwalk.specs.Graph.{held_len, held_ids, KeepsHeld};
-ghost use Rattle.gix_revwalk.specs.Number.{place_in};
-ghost use Rattle.gix_revwalk.specs.History.{Has, same_id, is_one_of, entry_at, parents_in};
-ghost use Rattle.gix_merge_base.specs.PaintSteps.{Hands, Notes, Steps, results_after};
-ghost use Rattle.gix_merge_base.specs.Marks.{marks_of, joined, handed_on};
-ghost use Rattle.gix_revwalk.specs.Faults.{count_after, is_source_fault};
-ghost use Rattle.gix_revwalk.specs.Walks.{HoldsMore};
-ghost use Rattle.gix_merge_base.specs.Keys.{KeyAtMost};
-ghost use Rattle.gix_merge_base.specs.Counting.{Counts, CountsUnmet, open_then, unstale};
-ghost use Rattle.gix_merge_base.specs.PaintQueue.{marks_at, queued_at, queued_ids, id_at, ids_at, AreIn, AreHeld, Keyed, mark_or};
+ghost use Rattle.gix_revwalk.specs.Graph.{held_len};
+ghost use Rattle.gix_revwalk.specs.History.{Has, is_one_of};
+ghost use Rattle.gix_revwalk.specs.Faults.{is_source_fault};
+ghost use Rattle.gix_merge_base.specs.PaintSteps.{Notes, results_after};
+ghost use Rattle.gix_merge_base.specs.Marks.{marks_of, handed_on};
+ghost use Rattle.gix_merge_base.specs.Counting.{open_then, unstale};
+ghost use Rattle.gix_merge_base.specs.PaintQueue.{marks_at, queued_at, queued_ids, id_of, ids_at, parents_at, mark_or, IsIn, AreIn};
+ghost use Rattle.gix_merge_base.specs.Front.{IsQueued, IsRight, Enters, HandsOn, StepsOn, Keeps, Pops, HoldsSame, Meets};
 
 use crate::merge_base::flags::Flags;
 use crate::merge_base::gen_then_time::GenThenTime;
@@ -31,8 +27,8 @@ pub(crate) fn mark_of<S: Find, A: Allocator + Copy>(
     graph: &Graph<S, Commit<Flags, A>, A>,
     number: Number,
 ) -> Mark<Flags>
-    requires { place_in number < held_len graph.now }
-    ensures { result ≡ mark_or graph.now (id_at graph.now (place_in number)) }
+    requires { IsIn graph.now number }
+    ensures { result ≡ mark_or graph.now (id_of graph.now number) }
 {
     match numbers::mark_of(graph, number) {
         Some(mark) => mark,
@@ -58,141 +54,6 @@ fn open_after(open_entries: usize, old: Mark<Flags>, new: Flags) -> usize
     }
 }
 
-/// Queues a commit once more, and puts marks beside those that it has.
-pub(crate) fn enter<S: Find, A: Allocator + Copy>(
-    number: Number,
-    old: Mark<Flags>,
-    marks: Flags,
-    queue: &mut PriorityQueue<GenThenTime, Number, A>,
-    open_entries: &mut usize,
-    graph: &mut Graph<S, Commit<Flags, A>, A>,
-) -> Result<(), AllocError>
-    requires number { place_in number < held_len graph.old }
-    requires had { old ≡ mark_or graph.old (id_at graph.old (place_in number)) }
-    ensures counts { OnOk result (Counts (marks_at graph.old) (queued_at graph.old) (queued_ids graph.old queue.old) open_entries.old
-        → Counts (marks_at graph.new) (queued_at graph.new) (queued_ids graph.new queue.new) open_entries.new) }
-    ensures unmet { OnOk result (IsTrue (marks_of marks).stale → (ids : List ObjectId)
-        → CountsUnmet (marks_at graph.old) (queued_at graph.old) ids open_entries.old
-        → CountsUnmet (marks_at graph.new) (queued_at graph.new) ids open_entries.new) }
-    ensures gives { OnOk result ((c : ObjectId) → marks_at graph.new c ≡ cond (same_id (id_at graph.old (place_in number)) c) (joined (marks_of marks) (marks_at graph.old c)) (marks_at graph.old c)) }
-    ensures queued { OnOk result (IsPermutation (id_at graph.old (place_in number) ∷ queued_ids graph.old queue.old) (queued_ids graph.new queue.new)) }
-    ensures valid { OnOk result (AreHeld graph.old queue.old → AreHeld graph.new queue.new) }
-    ensures keyed { OnOk result (Keyed (S.history graph.old.source) graph.old queue.old → Keyed (S.history graph.old.source) graph.new queue.new) }
-    ensures ids { held_ids graph.new ≡ held_ids graph.old }
-    ensures source { graph.new.source ≡ graph.old.source }
-{
-    // Neither count can be full before memory is.
-    let Some(queued) = old.queued.checked_add(1) else {
-        return Err(AllocError);
-    };
-    if *open_entries == usize::MAX {
-        return Err(AllocError);
-    }
-    let key = GenThenTime::from(numbers::value(graph, number));
-    match queue.insert(key, number) {
-        Ok(()) => {}
-        Err(_) => return Err(AllocError),
-    }
-    let new = marks.joined(old.marks);
-    *open_entries = open_after(*open_entries, old, new);
-    numbers::set_mark(graph, number, Mark { marks: new, queued });
-    Ok(())
-}
-
-/// Hands marks to a commit, which is queued where it lacked one of them.
-pub(crate) fn hand<S: Find, A: Allocator + Copy>(
-    number: Number,
-    marks: Flags,
-    queue: &mut PriorityQueue<GenThenTime, Number, A>,
-    open_entries: &mut usize,
-    graph: &mut Graph<S, Commit<Flags, A>, A>,
-) -> Result<(), AllocError>
-    requires { place_in number < held_len graph.old }
-    ensures counts { OnOk result (Counts (marks_at graph.old) (queued_at graph.old) (queued_ids graph.old queue.old) open_entries.old
-        → Counts (marks_at graph.new) (queued_at graph.new) (queued_ids graph.new queue.new) open_entries.new) }
-    ensures unmet { OnOk result (IsTrue (marks_of marks).stale → (ids : List ObjectId)
-        → CountsUnmet (marks_at graph.old) (queued_at graph.old) ids open_entries.old
-        → CountsUnmet (marks_at graph.new) (queued_at graph.new) ids open_entries.new) }
-    ensures handed { OnOk result (Has (S.history graph.old.source) (id_at graph.old (place_in number))
-        → Hands (S.history graph.old.source) (marks_of marks) (id_at graph.old (place_in number) ∷ []) (marks_at graph.old) (queued_ids graph.old queue.old) (marks_at graph.new) (queued_ids graph.new queue.new)) }
-    ensures valid { OnOk result (AreHeld graph.old queue.old → AreHeld graph.new queue.new) }
-    ensures keyed { OnOk result (Keyed (S.history graph.old.source) graph.old queue.old → Keyed (S.history graph.old.source) graph.new queue.new) }
-    ensures ids { held_ids graph.new ≡ held_ids graph.old }
-    ensures source { graph.new.source ≡ graph.old.source }
-{
-    let old = mark_of(graph, number);
-    if old.marks.has(marks) {
-        return Ok(());
-    }
-    enter(number, old, marks, queue, open_entries, graph)?;
-    Ok(())
-}
-
-/// Hands marks to each of the commits.
-pub(crate) fn hand_all<S: Find, A: Allocator + Copy>(
-    numbers: &[Number],
-    marks: Flags,
-    queue: &mut PriorityQueue<GenThenTime, Number, A>,
-    open_entries: &mut usize,
-    graph: &mut Graph<S, Commit<Flags, A>, A>,
-) -> Result<(), AllocError>
-    requires { AreIn graph.old numbers.now }
-    ensures counts { OnOk result (Counts (marks_at graph.old) (queued_at graph.old) (queued_ids graph.old queue.old) open_entries.old
-        → Counts (marks_at graph.new) (queued_at graph.new) (queued_ids graph.new queue.new) open_entries.new) }
-    ensures unmet { OnOk result (IsTrue (marks_of marks).stale → (ids : List ObjectId)
-        → CountsUnmet (marks_at graph.old) (queued_at graph.old) ids open_entries.old
-        → CountsUnmet (marks_at graph.new) (queued_at graph.new) ids open_entries.new) }
-    ensures handed { OnOk result (((c : ObjectId) → IsTrue (is_one_of (ids_at graph.old numbers.now) c) → Has (S.history graph.old.source) c)
-        → Hands (S.history graph.old.source) (marks_of marks) (ids_at graph.old numbers.now) (marks_at graph.old) (queued_ids graph.old queue.old) (marks_at graph.new) (queued_ids graph.new queue.new)) }
-    ensures valid { OnOk result (AreHeld graph.old queue.old → AreHeld graph.new queue.new) }
-    ensures keyed { OnOk result (Keyed (S.history graph.old.source) graph.old queue.old → Keyed (S.history graph.old.source) graph.new queue.new) }
-    ensures ids { held_ids graph.new ≡ held_ids graph.old }
-    ensures source { graph.new.source ≡ graph.old.source }
-{
-    for number in numbers {
-        hand(*number, marks, queue, open_entries, graph)?;
-    }
-    Ok(())
-}
-
-/// Takes a commit with a greatest key out of the queue, unless each queued one is stale.
-pub(crate) fn pop_open<S: Find, A: Allocator + Copy>(
-    queue: &mut PriorityQueue<GenThenTime, Number, A>,
-    open_entries: &mut usize,
-    graph: &mut Graph<S, Commit<Flags, A>, A>,
-) -> Option<Number>
-    requires held { AreHeld graph.old queue.old }
-    requires counts { Counts (marks_at graph.old) (queued_at graph.old) (queued_ids graph.old queue.old) open_entries.old }
-    ensures none { IsNone result → unstale (marks_at graph.old) (queued_ids graph.old queue.old) ≡ 0 }
-    ensures some { IsSome result → 1 ≤ unstale (marks_at graph.old) (queued_ids graph.old queue.old) }
-    ensures held { IfSome result (λ n. place_in n < held_len graph.new) }
-    ensures queue { IfSome result (λ n. IsPermutation (queued_ids graph.old queue.old) (id_at graph.old (place_in n) ∷ queued_ids graph.new queue.new)) }
-    ensures top { IfSome result (λ n. Keyed (S.history graph.old.source) graph.old queue.old
-        → (z : ObjectId) → IsTrue (is_one_of (queued_ids graph.old queue.old) z) → KeyAtMost (S.history graph.old.source) z (id_at graph.old (place_in n))) }
-    ensures keyed { IsSome result → Keyed (S.history graph.old.source) graph.old queue.old → Keyed (S.history graph.old.source) graph.new queue.new }
-    ensures valid { IsSome result → AreHeld graph.new queue.new }
-    ensures marks { (c : ObjectId) → marks_at graph.new c ≡ marks_at graph.old c }
-    ensures counts { IsSome result → Counts (marks_at graph.new) (queued_at graph.new) (queued_ids graph.new queue.new) open_entries.new }
-    ensures ids { held_ids graph.new ≡ held_ids graph.old }
-    ensures source { graph.new.source ≡ graph.old.source }
-{
-    if *open_entries == 0 {
-        return None;
-    }
-    let (_, number) = queue.pop()?;
-    let old = mark_of(graph, number);
-    *open_entries = open_without(*open_entries, old);
-    numbers::set_mark(
-        graph,
-        number,
-        Mark {
-            marks: old.marks,
-            queued: old.queued.saturating_sub(1),
-        },
-    );
-    Some(number)
-}
-
 /// The count of entries that are not stale, once one has left that had `old`.
 fn open_without(open_entries: usize, old: Mark<Flags>) -> usize
     ensures { result ≡ cond (marks_of old.marks).stale open_entries (open_entries - 1) }
@@ -204,56 +65,138 @@ fn open_without(open_entries: usize, old: Mark<Flags>) -> usize
     }
 }
 
-/// Hands marks to the parents of a commit that the source has. `into` is room for their numbers.
-pub(crate) fn hand_parents<S: Find, A: Allocator + Copy>(
-    alloc: A,
-    number: Number,
-    marks: Flags,
-    into: &mut Vec<Number, A>,
-    queue: &mut PriorityQueue<GenThenTime, Number, A>,
-    open_entries: &mut usize,
-    graph: &mut Graph<S, Commit<Flags, A>, A>,
-) -> Result<(), graph::Error>
-    requires number { place_in number < held_len graph.old }
-    requires valid { AreHeld graph.old queue.old }
-    ensures counts { OnOk result (Counts (marks_at graph.old) (queued_at graph.old) (queued_ids graph.old queue.old) open_entries.old
-        → Counts (marks_at graph.new) (queued_at graph.new) (queued_ids graph.new queue.new) open_entries.new) }
-    ensures unmet { OnOk result (IsTrue (marks_of marks).stale → (ids : List ObjectId)
-        → CountsUnmet (marks_at graph.old) (queued_at graph.old) ids open_entries.old
-        → CountsUnmet (marks_at graph.new) (queued_at graph.new) ids open_entries.new) }
-    ensures handed { OnOk result (Hands (S.history graph.old.source) (marks_of marks)
-        (parents_in (entry_at (S.history graph.old.source) (id_at graph.old (place_in number))))
-        (marks_at graph.old) (queued_ids graph.old queue.old) (marks_at graph.new) (queued_ids graph.new queue.new)) }
-    ensures valid { OnOk result (AreHeld graph.new queue.new) }
-    ensures keyed { OnOk result (Keyed (S.history graph.old.source) graph.old queue.old → Keyed (S.history graph.old.source) graph.new queue.new) }
-    ensures holds { HoldsMore (S.history graph.old.source) (parents_in (entry_at (S.history graph.old.source) (id_at graph.old (place_in number)))) graph.old graph.new }
-    ensures listed { OnOk result ((ns : List Number) → AreIn graph.old ns
-        → AreIn graph.new ns × (ids_at graph.new ns ≡ ids_at graph.old ns)) }
-    ensures history { S.history graph.new.source ≡ S.history graph.old.source }
-    ensures count { S.fault_count graph.new.source
-        ≡ count_after (is_source_fault result) (S.fault_count graph.old.source) }
-    ensures kept { KeepsHeld graph.old graph.new }
-{
-    numbers::known_parents(graph, alloc, number, Flags::empty(), into)?;
-    match hand_all(into, marks, queue, open_entries, graph) {
-        Ok(()) => Ok(()),
-        Err(AllocError) => Err(graph::Error::OutOfMemory),
+/// The queued commits of a walk.
+#[derive(Drop)]
+pub(crate) struct Front<A: Allocator> {
+    /// Their numbers, each as often as it is queued, by generation, then time.
+    pub(crate) queue: PriorityQueue<GenThenTime, Number, A>,
+    /// How many of the entries are of a commit that is not stale.
+    pub(crate) open_entries: usize,
+}
+
+impl<A: Allocator + Copy> Front<A> {
+    /// Queues a commit once more, and puts marks beside those that it has.
+    pub(crate) fn enter<S: Find>(
+        &mut self,
+        number: Number,
+        old: Mark<Flags>,
+        marks: Flags,
+        graph: &mut Graph<S, Commit<Flags, A>, A>,
+    ) -> Result<(), AllocError>
+        requires number { IsIn graph.old number }
+        requires had { old ≡ mark_or graph.old (id_of graph.old number) }
+        ensures enters { OnOk result (Enters (marks_of marks) (id_of graph.old number)
+            graph.old self.old graph.new self.new) }
+        ensures keeps { OnOk result (Keeps (S.history graph.old.source) (marks_of marks)
+            graph.old self.old graph.new self.new) }
+        ensures same { HoldsSame graph.old graph.new }
+    {
+        // Neither count can be full before memory is.
+        let Some(queued) = old.queued.checked_add(1) else {
+            return Err(AllocError);
+        };
+        if self.open_entries == usize::MAX {
+            return Err(AllocError);
+        }
+        let key = GenThenTime::from(numbers::value(graph, number));
+        match self.queue.insert(key, number) {
+            Ok(()) => {}
+            Err(_) => return Err(AllocError),
+        }
+        let new = marks.joined(old.marks);
+        self.open_entries = open_after(self.open_entries, old, new);
+        numbers::set_mark(graph, number, Mark { marks: new, queued });
+        Ok(())
+    }
+
+    /// Hands marks to a commit, which is queued where it lacked one of them.
+    pub(crate) fn hand<S: Find>(
+        &mut self,
+        number: Number,
+        marks: Flags,
+        graph: &mut Graph<S, Commit<Flags, A>, A>,
+    ) -> Result<(), AllocError>
+        requires { IsIn graph.old number }
+        ensures hands { OnOk result (Has (S.history graph.old.source) (id_of graph.old number)
+            → HandsOn (S.history graph.old.source) (marks_of marks) (id_of graph.old number ∷ [])
+            graph.old self.old graph.new self.new) }
+        ensures keeps { OnOk result (Keeps (S.history graph.old.source) (marks_of marks)
+            graph.old self.old graph.new self.new) }
+        ensures same { HoldsSame graph.old graph.new }
+    {
+        let old = mark_of(graph, number);
+        if old.marks.has(marks) {
+            return Ok(());
+        }
+        self.enter(number, old, marks, graph)?;
+        Ok(())
+    }
+
+    /// Hands marks to each of the commits.
+    fn hand_all<S: Find>(
+        &mut self,
+        numbers: &[Number],
+        marks: Flags,
+        graph: &mut Graph<S, Commit<Flags, A>, A>,
+    ) -> Result<(), AllocError>
+        requires { AreIn graph.old numbers.now }
+        ensures hands { OnOk result (((c : ObjectId)
+            → IsTrue (is_one_of (ids_at graph.old numbers.now) c) → Has (S.history graph.old.source) c)
+            → HandsOn (S.history graph.old.source) (marks_of marks) (ids_at graph.old numbers.now)
+            graph.old self.old graph.new self.new) }
+        ensures keeps { OnOk result (Keeps (S.history graph.old.source) (marks_of marks)
+            graph.old self.old graph.new self.new) }
+        ensures same { HoldsSame graph.old graph.new }
+    {
+        for number in numbers {
+            self.hand(*number, marks, graph)?;
+        }
+        Ok(())
+    }
+
+    /// Takes a commit with a greatest key out, unless each queued one is stale.
+    pub(crate) fn pop_open<S: Find>(
+        &mut self,
+        graph: &mut Graph<S, Commit<Flags, A>, A>,
+    ) -> Option<Number>
+        requires { IsRight (S.history graph.old.source) graph.old self.old }
+        ensures none { IsNone result
+            → unstale (marks_at graph.old) (queued_ids graph.old self.old.queue) ≡ 0 }
+        ensures pops { IfSome result (λ n. Pops (S.history graph.old.source) n
+            graph.old self.old graph.new self.new) }
+        ensures same { HoldsSame graph.old graph.new }
+    {
+        if self.open_entries == 0 {
+            return None;
+        }
+        let (_, number) = self.queue.pop()?;
+        let old = mark_of(graph, number);
+        self.open_entries = open_without(self.open_entries, old);
+        numbers::set_mark(
+            graph,
+            number,
+            Mark {
+                marks: old.marks,
+                queued: old.queued.saturating_sub(1),
+            },
+        );
+        Some(number)
     }
 }
 
 /// Makes a commit a result where its marks say so. What it hands on.
-pub(crate) fn note<S: Find, A: Allocator + Copy>(
+fn note<S: Find, A: Allocator + Copy>(
     number: Number,
     results: &mut Vec<ObjectId, A>,
     graph: &mut Graph<S, Commit<Flags, A>, A>,
 ) -> Result<Flags, AllocError>
-    requires { place_in number < held_len graph.old }
-    ensures hands_on { IfOk result (λ w. marks_of w ≡ handed_on (marks_at graph.old (id_at graph.old (place_in number)))) }
-    ensures results { OnOk result (results.new.items ≡ results_after (marks_at graph.old) (id_at graph.old (place_in number)) results.old.items) }
-    ensures notes { OnOk result (Notes (marks_at graph.old) (id_at graph.old (place_in number)) (marks_at graph.new)) }
+    requires { IsIn graph.old number }
+    ensures hands_on { IfOk result (λ w. marks_of w ≡ handed_on (marks_at graph.old (id_of graph.old number))) }
+    ensures results { OnOk result (results.new.items
+        ≡ results_after (marks_at graph.old) (id_of graph.old number) results.old.items) }
+    ensures notes { OnOk result (Notes (marks_at graph.old) (id_of graph.old number) (marks_at graph.new)) }
     ensures queued { (c : ObjectId) → queued_at graph.new c ≡ queued_at graph.old c }
-    ensures ids { held_ids graph.new ≡ held_ids graph.old }
-    ensures source { graph.new.source ≡ graph.old.source }
+    ensures same { HoldsSame graph.old graph.new }
 {
     let old = mark_of(graph, number);
     if !old.marks.becomes_result() {
@@ -274,37 +217,78 @@ pub(crate) fn note<S: Find, A: Allocator + Copy>(
     Ok(old.marks.handed_on())
 }
 
-/// What a pop of a commit does.
-pub(crate) fn step<S: Find, A: Allocator + Copy>(
-    alloc: A,
-    number: Number,
-    into: &mut Vec<Number, A>,
-    queue: &mut PriorityQueue<GenThenTime, Number, A>,
-    open_entries: &mut usize,
-    results: &mut Vec<ObjectId, A>,
-    graph: &mut Graph<S, Commit<Flags, A>, A>,
-) -> Result<(), graph::Error>
-    requires number { place_in number < held_len graph.old }
-    requires valid { AreHeld graph.old queue.old }
-    ensures steps { OnOk result (Steps (S.history graph.old.source) (id_at graph.old (place_in number)) (marks_at graph.old) (queued_ids graph.old queue.old) (marks_at graph.new) (queued_ids graph.new queue.new)) }
-    ensures results { OnOk result (results.new.items ≡ results_after (marks_at graph.old) (id_at graph.old (place_in number)) results.old.items) }
-    ensures counts { OnOk result (Counts (marks_at graph.old) (queued_at graph.old) (queued_ids graph.old queue.old) open_entries.old
-        → Counts (marks_at graph.new) (queued_at graph.new) (queued_ids graph.new queue.new) open_entries.new) }
-    ensures valid { OnOk result (AreHeld graph.new queue.new) }
-    ensures keyed { OnOk result (Keyed (S.history graph.old.source) graph.old queue.old → Keyed (S.history graph.old.source) graph.new queue.new) }
-    ensures holds { HoldsMore (S.history graph.old.source) (parents_in (entry_at (S.history graph.old.source) (id_at graph.old (place_in number)))) graph.old graph.new }
-    ensures room { OnOk result (held_len graph.new < 2 ^ 64) }
-    ensures history { S.history graph.new.source ≡ S.history graph.old.source }
-    ensures count { S.fault_count graph.new.source
-        ≡ count_after (is_source_fault result) (S.fault_count graph.old.source) }
-    ensures kept { KeepsHeld graph.old graph.new }
-{
-    let marks = match note(number, results, graph) {
-        Ok(marks) => marks,
-        Err(AllocError) => return Err(graph::Error::OutOfMemory),
-    };
-    hand_parents(alloc, number, marks, into, queue, open_entries, graph)?;
-    // No graph holds more ids than a usize counts, so the pops are fewer than a u128 counts.
-    let _held = graph.len();
-    Ok(())
+/// What a walk keeps beside the marks of its graph.
+#[derive(Drop)]
+pub(crate) struct Walk<A: Allocator> {
+    pub(crate) front: Front<A>,
+    /// Room for the numbers of the parents of one commit.
+    parents: Vec<Number, A>,
+}
+
+impl<A: Allocator + Copy> Walk<A> {
+    /// Nothing is queued. It takes no memory.
+    pub(crate) fn new(alloc: A, open_entries: usize) -> Walk<A>
+        ensures queue { result.front.queue ≡ [] }
+        ensures count { result.front.open_entries ≡ open_entries }
+    {
+        Walk {
+            front: Front {
+                queue: PriorityQueue::new(alloc),
+                open_entries,
+            },
+            parents: Vec::new(alloc),
+        }
+    }
+
+    /// Hands marks to the parents of a commit that the source has.
+    pub(crate) fn hand_parents<S: Find>(
+        &mut self,
+        alloc: A,
+        number: Number,
+        marks: Flags,
+        graph: &mut Graph<S, Commit<Flags, A>, A>,
+    ) -> Result<(), graph::Error>
+        requires number { IsIn graph.old number }
+        requires queued { IsQueued (S.history graph.old.source) graph.old self.old.front }
+        ensures hands { OnOk result (HandsOn (S.history graph.old.source) (marks_of marks)
+            (parents_at (S.history graph.old.source) (id_of graph.old number))
+            graph.old self.old.front graph.new self.new.front) }
+        ensures keeps { OnOk result (Keeps (S.history graph.old.source) (marks_of marks)
+            graph.old self.old.front graph.new self.new.front) }
+        ensures meets { Meets S.history S.fault_count is_source_fault
+            (parents_at (S.history graph.old.source) (id_of graph.old number)) graph.old graph.new result }
+    {
+        numbers::known_parents(graph, alloc, number, Flags::empty(), &mut self.parents)?;
+        match self.front.hand_all(&self.parents, marks, graph) {
+            Ok(()) => Ok(()),
+            Err(AllocError) => Err(graph::Error::OutOfMemory),
+        }
+    }
+
+    /// What a pop of a commit does.
+    pub(crate) fn step<S: Find>(
+        &mut self,
+        alloc: A,
+        number: Number,
+        results: &mut Vec<ObjectId, A>,
+        graph: &mut Graph<S, Commit<Flags, A>, A>,
+    ) -> Result<(), graph::Error>
+        requires number { IsIn graph.old number }
+        requires right { IsRight (S.history graph.old.source) graph.old self.old.front }
+        ensures steps { OnOk result (StepsOn (S.history graph.old.source) (id_of graph.old number)
+            graph.old self.old.front results.old.items graph.new self.new.front results.new.items) }
+        ensures right { OnOk result (IsRight (S.history graph.old.source) graph.new self.new.front) }
+        ensures meets { Meets S.history S.fault_count is_source_fault
+            (parents_at (S.history graph.old.source) (id_of graph.old number)) graph.old graph.new result }
+        ensures room { OnOk result (held_len graph.new < 2 ^ 64) }
+    {
+        let marks = match note(number, results, graph) {
+            Ok(marks) => marks,
+            Err(AllocError) => return Err(graph::Error::OutOfMemory),
+        };
+        self.hand_parents(alloc, number, marks, graph)?;
+        // No graph holds more ids than a usize counts, so the pops are fewer than a u128 counts.
+        let _held = graph.len();
+        Ok(())
+    }
 }

@@ -5,29 +5,25 @@ ghost use Rattle.std.specs.List.{IsDistinct};
 ghost use Rattle.gix_base.specs.declared.hash.ObjectId.{ObjectId};
 ghost use Rattle.gix_revwalk.specs.History.{Has, same_id, is_one_of};
 ghost use Rattle.gix_revwalk.specs.Sizes.{AtMost, HasSize};
-ghost use Rattle.gix_revwalk.specs.Walks.{HoldsMore};
 ghost use Rattle.gix_revwalk.specs.Graph.{KeepsHeld};
+ghost use Rattle.gix_revwalk.specs.GraphAfter.{GraphAfter};
 ghost use Rattle.gix_revwalk.specs.Faults.{count_after, is_source_fault as is_graph_fault};
-ghost use Rattle.gix_merge_base.specs.AfterCall.{AfterCall};
 ghost use Rattle.gix_merge_base.specs.Bases.{IsCommon, IsMaximal};
-ghost use Rattle.gix_merge_base.specs.Counting.{Counts};
+ghost use Rattle.gix_merge_base.specs.Front.{IsRight, BeginsOn, BegunOn, Meets};
 ghost use Rattle.gix_merge_base.specs.Keys.{InFallingOrder};
 ghost use Rattle.gix_merge_base.specs.Premises.{IsAcyclicFrom, KeysFallFrom, NoneRisesFrom};
 ghost use Rattle.gix_merge_base.specs.Marks.{marks_of};
 ghost use Rattle.gix_merge_base.specs.Painting.{IsUnreached, IsHandedIn, MayBeMet, MayBeTaken};
-ghost use Rattle.gix_merge_base.specs.PaintQueue.{marks_at, queued_at, queued_ids, AreHeld, IsHeld, Keyed};
-ghost use Rattle.gix_merge_base.specs.PaintSteps.{Begins, Begun};
+ghost use Rattle.gix_merge_base.specs.PaintQueue.{IsHeld};
 ghost use Rattle.gix_merge_base.specs.Refusals.{HasInsertText, is_source_fault};
 
 use crate::merge_base::error::{Error, commit_refused, parent_refused};
 use crate::merge_base::flags::Flags;
-use crate::merge_base::gen_then_time::GenThenTime;
-use crate::merge_base::hand::{enter, mark_of, pop_open, step};
+use crate::merge_base::hand::{Front, Walk, mark_of};
 use bitflags::Flags as BitFlags;
 use gix_base::hash::ObjectId;
 use gix_revwalk::graph::{self, Commit, Find, Graph};
-use gix_revwalk::numbers::{self, Number};
-use gix_revwalk::queue::PriorityQueue;
+use gix_revwalk::numbers;
 use std::alloc::{AllocError, Allocator};
 
 /// Marks an id that is handed in, and queues it, where the source has it.
@@ -35,32 +31,20 @@ fn begin<S: Find, A: Allocator + Copy>(
     alloc: A,
     id: ObjectId,
     marks: Flags,
-    queue: &mut PriorityQueue<GenThenTime, Number, A>,
-    open_entries: &mut usize,
+    front: &mut Front<A>,
     graph: &mut Graph<S, Commit<Flags, A>, A>,
 ) -> Result<(), graph::Error>
-    requires { AreHeld graph.old queue.old }
-    ensures begins { OnOk result (Begins (S.history graph.old.source) (marks_of marks) id
-        (marks_at graph.old) (queued_ids graph.old queue.old)
-        (marks_at graph.new) (queued_ids graph.new queue.new)) }
-    ensures counts { OnOk result (Counts (marks_at graph.old) (queued_at graph.old)
-        (queued_ids graph.old queue.old) open_entries.old
-        → Counts (marks_at graph.new) (queued_at graph.new)
-        (queued_ids graph.new queue.new) open_entries.new) }
-    ensures valid { OnOk result (AreHeld graph.new queue.new) }
-    ensures keyed { OnOk result (Keyed (S.history graph.old.source) graph.old queue.old
-        → Keyed (S.history graph.old.source) graph.new queue.new) }
-    ensures holds { HoldsMore (S.history graph.old.source) (id ∷ []) graph.old graph.new }
-    ensures history { S.history graph.new.source ≡ S.history graph.old.source }
-    ensures count { S.fault_count graph.new.source
-        ≡ count_after (is_graph_fault result) (S.fault_count graph.old.source) }
-    ensures kept { KeepsHeld graph.old graph.new }
+    requires { IsRight (S.history graph.old.source) graph.old front.old }
+    ensures begins { OnOk result (BeginsOn (S.history graph.old.source) (marks_of marks) id
+        graph.old front.old graph.new front.new) }
+    ensures right { OnOk result (IsRight (S.history graph.old.source) graph.new front.new) }
+    ensures meets { Meets S.history S.fault_count is_graph_fault (id ∷ []) graph.old graph.new result }
 {
     let Some(number) = numbers::take(graph, alloc, id, Flags::empty())? else {
         return Ok(());
     };
     let old = mark_of(graph, number);
-    match enter(number, old, marks, queue, open_entries, graph) {
+    match front.enter(number, old, marks, graph) {
         Ok(()) => Ok(()),
         Err(AllocError) => Err(graph::Error::OutOfMemory),
     }
@@ -71,29 +55,22 @@ fn start<S: Find, A: Allocator + Copy>(
     alloc: A,
     first: ObjectId,
     others: &[ObjectId],
-    queue: &mut PriorityQueue<GenThenTime, Number, A>,
-    open_entries: &mut usize,
+    front: &mut Front<A>,
     graph: &mut Graph<S, Commit<Flags, A>, A>,
 ) -> Result<(), graph::Error>
-    requires empty { queue.old ≡ [] }
-    requires none { open_entries.old ≡ 0 }
-    ensures begun { OnOk result (Begun (S.history graph.old.source) first others.now
-        (marks_at graph.new) (queued_ids graph.new queue.new)) }
-    ensures counts { OnOk result (Counts (marks_at graph.new) (queued_at graph.new)
-        (queued_ids graph.new queue.new) open_entries.new) }
-    ensures valid { OnOk result (AreHeld graph.new queue.new) }
-    ensures keyed { OnOk result (Keyed (S.history graph.old.source) graph.new queue.new) }
+    requires empty { front.old.queue ≡ [] }
+    requires none { front.old.open_entries ≡ 0 }
+    ensures begun { OnOk result (BegunOn (S.history graph.old.source) first others.now
+        graph.new front.new) }
+    ensures right { OnOk result (IsRight (S.history graph.old.source) graph.new front.new) }
     ensures holds { (q : ObjectId) → IsHeld graph.new q
         → IsHeld graph.old q ⊎ IsHandedIn first others.now q }
-    ensures history { S.history graph.new.source ≡ S.history graph.old.source }
-    ensures count { S.fault_count graph.new.source
-        ≡ count_after (is_graph_fault result) (S.fault_count graph.old.source) }
-    ensures kept { KeepsHeld graph.old graph.new }
+    ensures after { GraphAfter S.history S.fault_count is_graph_fault graph.old graph.new result }
 {
     numbers::begin_walk(graph);
-    begin(alloc, first, Flags::COMMIT1, queue, open_entries, graph)?;
+    begin(alloc, first, Flags::COMMIT1, front, graph)?;
     for other in others {
-        begin(alloc, *other, Flags::COMMIT2, queue, open_entries, graph)?;
+        begin(alloc, *other, Flags::COMMIT2, front, graph)?;
     }
     Ok(())
 }
@@ -153,24 +130,14 @@ pub fn paint<S: Find, A: Allocator + Copy>(
         ≡ count_after (is_source_fault result) (S.fault_count graph.old.source) }
     ensures held { KeepsHeld graph.old graph.new }
 {
-    let mut queue = PriorityQueue::new(alloc);
-    let mut open_entries = 0usize;
-    if let Err(error) = start(alloc, first, others, &mut queue, &mut open_entries, graph) {
+    let mut walk = Walk::new(alloc, 0);
+    if let Err(error) = start(alloc, first, others, &mut walk.front, graph) {
         return Err(commit_refused(error));
     }
-    let mut into = Vec::new(alloc);
     let mut results = Vec::new(alloc);
     let mut pops = 0u128;
-    while let Some(number) = pop_open(&mut queue, &mut open_entries, graph) {
-        if let Err(error) = step(
-            alloc,
-            number,
-            &mut into,
-            &mut queue,
-            &mut open_entries,
-            &mut results,
-            graph,
-        ) {
+    while let Some(number) = walk.front.pop_open(graph) {
+        if let Err(error) = walk.step(alloc, number, &mut results, graph) {
             return Err(parent_refused(error));
         }
         pops += 1;

@@ -10,8 +10,9 @@ ghost use Rattle.gix_merge_base.specs.Premises.{IsAcyclicFrom, GenerationsNeverR
 ghost use Rattle.gix_revwalk.specs.Walks.{parents_of_all};
 ghost use Rattle.gix_revwalk.specs.Faults.{count_after};
 ghost use Rattle.gix_merge_base.specs.AfterCall.{AfterCall};
+ghost use Rattle.gix_merge_base.specs.Front.{IsQueued, CountsLeft};
 ghost use Rattle.gix_merge_base.specs.Marks.{met};
-ghost use Rattle.gix_merge_base.specs.PaintQueue.{marks_at, queued_at, queued_ids, ids_at, AreIn, AreHeld, Keyed};
+ghost use Rattle.gix_merge_base.specs.PaintQueue.{marks_at, queued_at, queued_ids, ids_at, AreIn};
 ghost use Rattle.gix_merge_base.specs.Counting.{times, CountsUnmet};
 ghost use Rattle.gix_merge_base.specs.PaintSteps.{Hands};
 ghost use Rattle.gix_merge_base.specs.Reducing.{firsts, IsIndependent, SomeOf};
@@ -21,12 +22,11 @@ ghost use Rattle.gix_merge_base.specs.Refusals.{HasInsertText, is_source_fault};
 use crate::merge_base::error::{Error, commit_refused, parent_refused};
 use crate::merge_base::flags::Flags;
 use crate::merge_base::gen_then_time::GenThenTime;
-use crate::merge_base::hand::{hand_parents, mark_of};
+use crate::merge_base::hand::{Walk, mark_of};
 use bitflags::Flags as BitFlags;
 use gix_base::hash::ObjectId;
 use gix_revwalk::graph::{Commit, Find, Graph};
 use gix_revwalk::numbers::{self, Mark, Number};
-use gix_revwalk::queue::PriorityQueue;
 use gix_revwalk::seen::Seen;
 use std::alloc::{AllocError, Allocator};
 
@@ -104,28 +104,23 @@ fn list<S: Find, A: Allocator + Copy>(
 fn meet_parents<S: Find, A: Allocator + Copy>(
     alloc: A,
     numbers: &[Number],
-    queue: &mut PriorityQueue<GenThenTime, Number, A>,
-    unmet: &mut usize,
+    walk: &mut Walk<A>,
     graph: &mut Graph<S, Commit<Flags, A>, A>,
 ) -> Result<(), Error>
     requires inside { AreIn graph.old numbers.now }
-    requires empty { queue.old ≡ [] }
-    requires unmet { CountsUnmet (marks_at graph.old) (queued_at graph.old)
-        (ids_at graph.old numbers.now) unmet.old }
+    requires empty { walk.old.front.queue ≡ [] }
+    requires left { CountsLeft (ids_at graph.old numbers.now) graph.old walk.old.front }
     ensures handed { OnOk result (Hands (S.history graph.old.source) met
         (parents_of_all (S.history graph.old.source) (ids_at graph.old numbers.now))
-        (marks_at graph.old) [] (marks_at graph.new) (queued_ids graph.new queue.new)) }
+        (marks_at graph.old) [] (marks_at graph.new) (queued_ids graph.new walk.new.front.queue)) }
     ensures same { OnOk result (AreIn graph.new numbers.now
         × (ids_at graph.new numbers.now ≡ ids_at graph.old numbers.now)) }
-    ensures unmet { OnOk result (CountsUnmet (marks_at graph.new) (queued_at graph.new)
-        (ids_at graph.old numbers.now) unmet.new) }
-    ensures valid { OnOk result (AreHeld graph.new queue.new) }
-    ensures keyed { OnOk result (Keyed (S.history graph.old.source) graph.new queue.new) }
+    ensures left { OnOk result (CountsLeft (ids_at graph.old numbers.now) graph.new walk.new.front) }
+    ensures queued { OnOk result (IsQueued (S.history graph.old.source) graph.new walk.new.front) }
     ensures after { AfterCall S.history S.fault_count graph.old graph.new result }
 {
-    let mut into = Vec::new(alloc);
     for number in numbers {
-        if let Err(error) = hand_parents(alloc, *number, MET, &mut into, queue, unmet, graph) {
+        if let Err(error) = walk.hand_parents(alloc, *number, MET, graph) {
             return Err(parent_refused(error));
         }
     }
@@ -193,26 +188,22 @@ fn left_from<S: Find, A: Allocator + Copy>(
 fn meet<S: Find, A: Allocator + Copy>(
     alloc: A,
     numbers: &[Number],
-    queue: &mut PriorityQueue<GenThenTime, Number, A>,
-    unmet: &mut usize,
+    walk: &mut Walk<A>,
     graph: &mut Graph<S, Commit<Flags, A>, A>,
 ) -> Result<(), Error>
     requires inside { AreIn graph.old numbers.now }
     requires begun { Reducing (S.history graph.old.source) (ids_at graph.old numbers.now)
-        (marks_at graph.old) (queued_ids graph.old queue.old) }
-    requires unmet { CountsUnmet (marks_at graph.old) (queued_at graph.old)
-        (ids_at graph.old numbers.now) unmet.old }
-    requires valid { AreHeld graph.old queue.old }
-    requires keyed { Keyed (S.history graph.old.source) graph.old queue.old }
+        (marks_at graph.old) (queued_ids graph.old walk.old.front.queue) }
+    requires left { CountsLeft (ids_at graph.old numbers.now) graph.old walk.old.front }
+    requires queued { IsQueued (S.history graph.old.source) graph.old walk.old.front }
     ensures met { OnOk result (Reduced (S.history graph.old.source) (ids_at graph.old numbers.now)
         (marks_at graph.new)) }
     ensures after { AfterCall S.history S.fault_count graph.old graph.new result }
 {
     let order = by_generation(alloc, numbers, graph)?;
     let mut place = 0usize;
-    let mut into = Vec::new(alloc);
-    while let Some((key, number)) = queue.pop() {
-        if *unmet <= 1 {
+    while let Some((key, number)) = walk.front.queue.pop() {
+        if walk.front.open_entries <= 1 {
             return Ok(());
         }
         let left = left_from(place, &order, graph);
@@ -220,7 +211,7 @@ fn meet<S: Find, A: Allocator + Copy>(
         if key.generation < left.least {
             continue;
         }
-        if let Err(error) = hand_parents(alloc, number, MET, &mut into, queue, unmet, graph) {
+        if let Err(error) = walk.hand_parents(alloc, number, MET, graph) {
             return Err(parent_refused(error));
         }
     }
@@ -273,10 +264,9 @@ pub fn reduce<S: Find, A: Allocator + Copy>(
 {
     let mut left = gather(alloc, ids)?;
     let numbers = list(alloc, &left, graph)?;
-    let mut unmet = numbers.len();
-    let mut queue = PriorityQueue::new(alloc);
-    meet_parents(alloc, &numbers, &mut queue, &mut unmet, graph)?;
-    meet(alloc, &numbers, &mut queue, &mut unmet, graph)?;
+    let mut walk = Walk::new(alloc, numbers.len());
+    meet_parents(alloc, &numbers, &mut walk, graph)?;
+    meet(alloc, &numbers, &mut walk, graph)?;
     left.retain(|id| !is_met(id, graph));
     Ok(left)
 }

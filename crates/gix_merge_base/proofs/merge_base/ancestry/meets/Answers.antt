@@ -1,5 +1,4 @@
-use Rattle.std.proofs.Common.{◌≡◌, ◌<◌, ◌≤◌, ◌+◌, ℕ, Bool, refl, sym, ap, subst, ◌∙◌, ◌∷◌, [], inl, IsTrue, true, false, Ok, rules, arith}
-use Rattle.gix_revwalk.specs.Faults.{count_after}
+use Rattle.std.proofs.Common.{◌≡◌, ◌<◌, ◌≤◌, ◌+◌, ℕ, refl, sym, ap, subst, ◌∙◌, ◌∷◌, [], inl, IsTrue, true, false, Ok, rules, arith}
 use Rattle.gix_revwalk.specs.Graph.{Graphed, held_len}
 use Rattle.gix_revwalk.specs.History.{generation_of, is_one_of}
 use Rattle.gix_revwalk.specs.Number.{place_in}
@@ -11,12 +10,13 @@ use Rattle.gix_merge_base.specs.PaintQueue.{marks_at, queued_ids, ids_at, id_at,
 use Rattle.gix_merge_base.specs.PaintSteps.{Hands}
 use Rattle.gix_merge_base.specs.declared.merge_base.flags.Flags.{Flags}
 use Rattle.gix_merge_base.specs.declared.merge_base.gen_then_time.GenThenTime.{GenThenTime}
-use Rattle.gix_merge_base.proofs.AfterCalls.{after_more}
+use Rattle.gix_merge_base.proofs.AfterCalls.{after_more, after_step}
 use Rattle.gix_merge_base.proofs.Ancestry.{climb_begins, climb_permuted, climb_goes, takes_more, climb_ends, all_below}
+use Rattle.gix_merge_base.proofs.Fronts.{queued_popped, queued_popped_over}
 use Rattle.gix_merge_base.proofs.KeyCmp.{takes_top}
 use Rattle.gix_merge_base.proofs.Listed.{listed-same}
 use Rattle.gix_merge_base.proofs.Numbered.{ids-popped, held-permutation, named-id}
-use Rattle.gix_merge_base.proofs.QueueKeys.{keyed-popped, key-popped, held-same, kept-same}
+use Rattle.gix_merge_base.proofs.QueueKeys.{key-popped, held-same, kept-same}
 use Rattle.gix_merge_base.proofs.Reduction.{left_to_meet, fewer_handed}
 use Rattle.gix_merge_base.proofs.merge_base.ancestry.meets.Goals as goal
 
@@ -28,14 +28,14 @@ less : (a b d : ℕ) → a ≡ b → b + 1 ≤ d → a < d
 less a b d e k = omega arith
 
 pub returns-in_err-hand-clause-taken : goal.returns-in_err-hand-clause-taken
-returns-in_err-hand-clause-taken g c q k = inl (sym (held-same c.args.graph.now c.hand.new.graph c.hand.ensures.ids q) ∙ k)
+returns-in_err-hand-clause-taken g c q k = inl (sym (held-same c.args.graph.now c.hand.new.graph c.hand.ensures.same.ids q) ∙ k)
 
 pub returns-in_err-hand-clause-after : goal.returns-in_err-hand-clause-after
 returns-in_err-hand-clause-after g c = record {
   graph = record {
-    same_history = ap g.S.Find.history c.hand.ensures.source;
+    same_history = ap g.S.Find.history c.hand.ensures.same.source;
     count = search rules;
-    held = kept-same c.args.graph.now c.hand.new.graph c.hand.ensures.ids;
+    held = kept-same c.args.graph.now c.hand.new.graph c.hand.ensures.same.ids;
   };
   cause = search rules;
 }
@@ -46,16 +46,16 @@ loop-alloc-init g c =
     let old = c.args.graph.now in
     let new = c.hand.new.graph in
     let start = id_at old (place_in c.args.from) in
-    let empty : queued_ids old c.new-queue.result ≡ [] = ap (queued_ids old) c.new-queue.ensures in
-    let did = c.in_ok-hand.ensures.handed c.requires.has in
+    let first = c.new-walk.result.front in
+    let empty : queued_ids old first.queue ≡ [] = ap (queued_ids old) c.new-walk.ensures.queue in
+    let did = c.in_ok-hand.ensures.hands c.requires.has in
     record {
-      at = climb_begins h start (marks_at old) (marks_at new) (queued_ids new c.hand.new.queue) c.requires.unmarked c.requires.has
-          (subst (λ l. Hands h met (start ∷ []) (marks_at old) l (marks_at new) (queued_ids new c.hand.new.queue)) empty did);
-      target = listed-same old new c.hand.ensures.ids (c.args.target ∷ []) (c.requires.target, tt);
-      valid = c.in_ok-hand.ensures.valid (subst (AreHeld old) (sym c.new-queue.ensures) tt);
-      keyed = c.in_ok-hand.ensures.keyed (subst (Keyed h old) (sym c.new-queue.ensures) tt);
-      taken = λ q k. inl (sym (held-same old new c.hand.ensures.ids q) ∙ k);
-      after = record { graph = graph_same old new (Ok tt) refl c.hand.ensures.source (kept-same old new c.hand.ensures.ids); cause = tt };
+      at = climb_begins h start (marks_at old) (marks_at new) (queued_ids new c.hand.new.self.queue) c.requires.unmarked c.requires.has
+          (subst (λ l. Hands h met (start ∷ []) (marks_at old) l (marks_at new) (queued_ids new c.hand.new.self.queue)) empty did);
+      target = listed-same old new c.hand.ensures.same.ids (c.args.target ∷ []) (c.requires.target, tt);
+      queued = c.in_ok-hand.ensures.keeps.queued record { held = subst (AreHeld old) (sym c.new-walk.ensures.queue) tt; keyed = subst (Keyed h old) (sym c.new-walk.ensures.queue) tt };
+      taken = λ q k. inl (sym (held-same old new c.hand.ensures.same.ids q) ∙ k);
+      after = record { graph = graph_same old new (Ok tt) refl c.hand.ensures.same.source (kept-same old new c.hand.ensures.same.ids); cause = tt };
     }
 
 pub mark_of-requires : goal.mark_of-requires
@@ -66,9 +66,9 @@ returns-in_default-clause-exact g c never =
     let h = g.S.Find.history c.args.graph.now.source in
     let graph = c.loop-alloc.graph in
     let is = target_id c.args.graph.now graph c.args.target c.loop-alloc.invariant.target.1 in
-    let empty : queued_ids graph c.loop-alloc.queue ≡ [] = ap (queued_ids graph) ((c.in_default.ensures.none).0 refl) in
+    let empty : queued_ids graph c.loop-alloc.walk.front.queue ≡ [] = ap (queued_ids graph) ((c.in_default.ensures.none).0 refl) in
     let out = sym (c.is_stale.ensures ∙ ap (λ (z : Mark Flags). (marks_of z.marks).stale) c.mark_of.ensures ∙ ap (λ q. (marks_at graph q).stale) is) ∙ c.loop-alloc-test.true in
-    climb_ends h (id_at c.args.graph.now (place_in c.args.from)) (id_at c.args.graph.now (place_in c.args.target)) (marks_at graph) (queued_ids graph c.loop-alloc.queue) c.loop-alloc.invariant.at
+    climb_ends h (id_at c.args.graph.now (place_in c.args.from)) (id_at c.args.graph.now (place_in c.args.target)) (marks_at graph) (queued_ids graph c.loop-alloc.walk.front.queue) c.loop-alloc.invariant.at
     (λ q k. let none : IsTrue (is_one_of [] q) = subst (λ l. IsTrue (is_one_of l q)) empty k in cc) out never
 
 pub returns-in_default-clause-taken : goal.returns-in_default-clause-taken
@@ -88,13 +88,13 @@ returns-then-key-least-clause-exact g c never =
     let out = sym (c.is_stale.ensures ∙ ap (λ (z : Mark Flags). (marks_of z.marks).stale) c.mark_of.ensures ∙ ap (λ q. (marks_at graph q).stale) is) ∙ c.loop-alloc-test.true in
     let agrees = c.value.ensures.agrees target (named-id c.args.graph.now (place_in c.args.target) c.requires.target) in
     let least : c.from-least.result.generation ≡ generation_of h target = ap (λ (z : GenThenTime). z.generation) (c.from-least.ensures ∙ ap key_in (sym agrees)) in
-    let key = key-popped h graph c.in-Some.key c.in-Some.number c.loop-alloc.queue c.pop.new.self c.in-Some.ensures.taken c.loop-alloc.invariant.keyed in
+    let key = key-popped h graph c.in-Some.key c.in-Some.number c.loop-alloc.walk.front.queue c.pop.new.self c.in-Some.ensures.taken c.loop-alloc.invariant.queued.keyed in
     let generation : c.in-Some.key.generation ≡ generation_of h id = ap (λ (z : GenThenTime). z.generation) key in
     let low = c.if-key-least.true in
     let less : generation_of h id < generation_of h target = omega arith in
-    let top = takes_top h graph c.in-Some.key c.in-Some.number c.loop-alloc.queue c.pop.new.self c.in-Some.ensures.taken c.in-Some.ensures.greatest c.loop-alloc.invariant.keyed in
-    climb_ends h (id_at c.args.graph.now (place_in c.args.from)) target (marks_at graph) (queued_ids graph c.loop-alloc.queue) c.loop-alloc.invariant.at
-    (all_below h id target (queued_ids graph c.loop-alloc.queue) less top) out never
+    let top = takes_top h graph c.in-Some.key c.in-Some.number c.loop-alloc.walk.front.queue c.pop.new.self c.in-Some.ensures.taken c.in-Some.ensures.greatest c.loop-alloc.invariant.queued.keyed in
+    climb_ends h (id_at c.args.graph.now (place_in c.args.from)) target (marks_at graph) (queued_ids graph c.loop-alloc.walk.front.queue) c.loop-alloc.invariant.at
+    (all_below h id target (queued_ids graph c.loop-alloc.walk.front.queue) less top) out never
 
 pub returns-then-key-least-clause-taken : goal.returns-then-key-least-clause-taken
 returns-then-key-least-clause-taken g c = c.loop-alloc.invariant.taken
@@ -103,10 +103,11 @@ pub returns-then-key-least-clause-after : goal.returns-then-key-least-clause-aft
 returns-then-key-least-clause-after g c = record { graph = graph_as _ _ (Ok tt) (Ok false) refl c.loop-alloc.invariant.after.graph; cause = tt }
 
 pub hand_parents-requires-clause-number : goal.hand_parents-requires-clause-number
-hand_parents-requires-clause-number g c = (held-permutation (λ p. place_in p.1 < held_len c.loop-alloc.graph) c.loop-alloc.queue _ c.in-Some.ensures.taken c.loop-alloc.invariant.valid).0
+hand_parents-requires-clause-number g c = (held-permutation (λ p. place_in p.1 < held_len c.loop-alloc.graph) c.loop-alloc.walk.front.queue _ c.in-Some.ensures.taken c.loop-alloc.invariant.queued.held).0
 
-pub hand_parents-requires-clause-valid : goal.hand_parents-requires-clause-valid
-hand_parents-requires-clause-valid g c = (held-permutation (λ p. place_in p.1 < held_len c.loop-alloc.graph) c.loop-alloc.queue _ c.in-Some.ensures.taken c.loop-alloc.invariant.valid).1
+pub hand_parents-requires-clause-queued : goal.hand_parents-requires-clause-queued
+hand_parents-requires-clause-queued g c =
+    queued_popped_over (g.S.Find.history c.args.graph.now.source) _ c.loop-alloc.graph c.loop-alloc.walk.front _ c.in-Some.key c.in-Some.number c.loop-alloc.invariant.after.graph.same_history c.in-Some.ensures.taken c.loop-alloc.invariant.queued
 
 pub returns-in-Err-clause-taken : goal.returns-in-Err-clause-taken
 returns-in-Err-clause-taken g c =
@@ -118,22 +119,14 @@ returns-in-Err-clause-taken g c =
     let id = id_at graph (place_in c.in-Some.number) in
     let rs = c.pop.new.self in
     let new = c.hand_parents.new.graph in
-    let perm = ids-popped graph graph refl c.in-Some.key c.in-Some.number c.loop-alloc.queue rs c.in-Some.ensures.taken in
-    let at = climb_permuted h start m (queued_ids graph c.loop-alloc.queue) (id ∷ queued_ids graph rs) perm c.loop-alloc.invariant.at in
-    let holds = rw same at c.hand_parents.ensures.holds in
+    let perm = ids-popped graph graph refl c.in-Some.key c.in-Some.number c.loop-alloc.walk.front.queue rs c.in-Some.ensures.taken in
+    let at = climb_permuted h start m (queued_ids graph c.loop-alloc.walk.front.queue) (id ∷ queued_ids graph rs) perm c.loop-alloc.invariant.at in
+    let holds = rw same at c.hand_parents.ensures.meets.more in
     takes_more h start id m (queued_ids graph rs) at (IsHeld c.args.graph.now) (IsHeld graph) (IsHeld new) c.loop-alloc.invariant.taken holds
 
 pub returns-in-Err-clause-after : goal.returns-in-Err-clause-after
 returns-in-Err-clause-after g c =
-    let count = λ (fault : Bool). count_after fault (g.S.Find.fault_count c.loop-alloc.graph.source) in
-    after_more _ _ _ _ c.loop-alloc.invariant.after record {
-      graph = record {
-        same_history = c.hand_parents.ensures.history;
-        count = c.in-Err.ensures.count ∙ ap count (sym c.parent_refused.ensures.same);
-        held = c.hand_parents.ensures.kept;
-      };
-      cause = c.parent_refused.ensures.cause;
-    }
+    after_more _ _ _ _ c.loop-alloc.invariant.after record { graph = graph_as _ _ _ _ (sym c.parent_refused.ensures.same) c.in-Err.ensures.meets.graph; cause = c.parent_refused.ensures.cause }
 
 pub loop-alloc-smaller : goal.loop-alloc-smaller
 loop-alloc-smaller g c =
@@ -145,13 +138,13 @@ loop-alloc-smaller g c =
     let id = id_at graph (place_in c.in-Some.number) in
     let rs = c.pop.new.self in
     let new = c.hand_parents.new.graph in
-    let perm = ids-popped graph graph refl c.in-Some.key c.in-Some.number c.loop-alloc.queue rs c.in-Some.ensures.taken in
-    let at = climb_permuted h start m (queued_ids graph c.loop-alloc.queue) (id ∷ queued_ids graph rs) perm c.loop-alloc.invariant.at in
-    let did = rw same at c.in_default-hand_parents.ensures.handed in
-    let at2 = climb_goes h start id m (marks_at new) (queued_ids graph rs) (queued_ids new c.hand_parents.new.queue) at did in
-    let fewer = fewer_handed h m (marks_at new) id (queued_ids graph c.loop-alloc.queue) (queued_ids graph rs) (queued_ids new c.hand_parents.new.queue) perm did at2.has in
-    less _ _ _ (ap (λ z. left_to_meet z (marks_at new) (queued_ids new c.hand_parents.new.queue)) (c.hand_parents.ensures.history ∙ same))
-    (subst (λ z. left_to_meet h (marks_at new) (queued_ids new c.hand_parents.new.queue) + 1 ≤ left_to_meet z m (queued_ids graph c.loop-alloc.queue)) (sym same) fewer)
+    let perm = ids-popped graph graph refl c.in-Some.key c.in-Some.number c.loop-alloc.walk.front.queue rs c.in-Some.ensures.taken in
+    let at = climb_permuted h start m (queued_ids graph c.loop-alloc.walk.front.queue) (id ∷ queued_ids graph rs) perm c.loop-alloc.invariant.at in
+    let did = rw same at c.in_default-hand_parents.ensures.hands in
+    let at2 = climb_goes h start id m (marks_at new) (queued_ids graph rs) (queued_ids new c.hand_parents.new.self.front.queue) at did in
+    let fewer = fewer_handed h m (marks_at new) id (queued_ids graph c.loop-alloc.walk.front.queue) (queued_ids graph rs) (queued_ids new c.hand_parents.new.self.front.queue) perm did at2.has in
+    less _ _ _ (ap (λ z. left_to_meet z (marks_at new) (queued_ids new c.hand_parents.new.self.front.queue)) (c.hand_parents.ensures.meets.graph.same_history ∙ same))
+    (subst (λ z. left_to_meet h (marks_at new) (queued_ids new c.hand_parents.new.self.front.queue) + 1 ≤ left_to_meet z m (queued_ids graph c.loop-alloc.walk.front.queue)) (sym same) fewer)
 
 pub loop-alloc-preserved : goal.loop-alloc-preserved
 loop-alloc-preserved g c =
@@ -163,20 +156,18 @@ loop-alloc-preserved g c =
     let id = id_at graph (place_in c.in-Some.number) in
     let rs = c.pop.new.self in
     let new = c.hand_parents.new.graph in
-    let perm = ids-popped graph graph refl c.in-Some.key c.in-Some.number c.loop-alloc.queue rs c.in-Some.ensures.taken in
-    let at = climb_permuted h start m (queued_ids graph c.loop-alloc.queue) (id ∷ queued_ids graph rs) perm c.loop-alloc.invariant.at in
-    let holds = rw same at c.hand_parents.ensures.holds in
-    let did = rw same at c.in_default-hand_parents.ensures.handed in
-    let keyed = rw same at c.in_default-hand_parents.ensures.keyed in
-    let listed = c.in_default-hand_parents.ensures.listed (c.args.target ∷ []) c.loop-alloc.invariant.target.0 in
+    let perm = ids-popped graph graph refl c.in-Some.key c.in-Some.number c.loop-alloc.walk.front.queue rs c.in-Some.ensures.taken in
+    let at = climb_permuted h start m (queued_ids graph c.loop-alloc.walk.front.queue) (id ∷ queued_ids graph rs) perm c.loop-alloc.invariant.at in
+    let holds = rw same at c.hand_parents.ensures.meets.more in
+    let did = rw same at c.in_default-hand_parents.ensures.hands in
+    let keeps = rw same at c.in_default-hand_parents.ensures.keeps in
+    let listed = c.in_default-hand_parents.ensures.meets.numbers (c.args.target ∷ []) c.loop-alloc.invariant.target.0 in
     record {
-      at = climb_goes h start id m (marks_at new) (queued_ids graph rs) (queued_ids new c.hand_parents.new.queue) at did;
+      at = climb_goes h start id m (marks_at new) (queued_ids graph rs) (queued_ids new c.hand_parents.new.self.front.queue) at did;
       target = (listed.0, listed.1 ∙ c.loop-alloc.invariant.target.1);
-      valid = c.in_default-hand_parents.ensures.valid;
-      keyed = keyed (keyed-popped h graph graph refl c.in-Some.key c.in-Some.number c.loop-alloc.queue rs c.in-Some.ensures.taken c.loop-alloc.invariant.keyed);
+      queued = keeps.queued (queued_popped h graph c.loop-alloc.walk.front _ c.in-Some.key c.in-Some.number c.in-Some.ensures.taken c.loop-alloc.invariant.queued);
       taken = takes_more h start id m (queued_ids graph rs) at (IsHeld c.args.graph.now) (IsHeld graph) (IsHeld new) c.loop-alloc.invariant.taken holds;
-      after = after_more _ _ _ _ c.loop-alloc.invariant.after
-          record { graph = record { same_history = c.in_default-hand_parents.ensures.history; count = c.in_default-hand_parents.ensures.count; held = c.in_default-hand_parents.ensures.kept }; cause = tt };
+      after = after_more _ _ _ _ c.loop-alloc.invariant.after (after_step _ _ c.in_default-hand_parents.ensures.meets.graph);
     }
 
 pub returns-clause-exact : goal.returns-clause-exact

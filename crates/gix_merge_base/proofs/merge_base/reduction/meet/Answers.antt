@@ -1,15 +1,16 @@
-use Rattle.std.proofs.Common.{◌≡◌, ◌<◌, ◌≤◌, ◌+◌, ℕ, Bool, refl, sym, ap, subst, ◌∙◌, ◌∷◌, inr, map, arith}
+use Rattle.std.proofs.Common.{◌≡◌, ◌<◌, ◌≤◌, ◌+◌, ℕ, refl, sym, ap, subst, ◌∙◌, ◌∷◌, inr, map, arith}
 use Rattle.std.proofs.lemmas.List.Sorted.{list_any-IsPermutation}
-use Rattle.gix_revwalk.specs.Faults.{count_after}
 use Rattle.gix_revwalk.specs.History.{generation_of, same_id, is_one_of}
 use Rattle.gix_revwalk.specs.Graph.{held_len}
 use Rattle.gix_revwalk.specs.Number.{place_in}
+use Rattle.gix_revwalk.proofs.GraphAfters.{graph_as}
 use Rattle.gix_merge_base.specs.PaintQueue.{marks_at, queued_ids, ids_at, id_at}
 use Rattle.gix_merge_base.specs.ReduceSteps.{AreMetBefore}
 use Rattle.gix_merge_base.specs.declared.merge_base.gen_then_time.GenThenTime.{GenThenTime}
-use Rattle.gix_merge_base.proofs.AfterCalls.{after_none, after_more}
+use Rattle.gix_merge_base.proofs.AfterCalls.{after_none, after_more, after_step}
+use Rattle.gix_merge_base.proofs.Fronts.{queued_popped, queued_popped_over}
 use Rattle.gix_merge_base.proofs.Numbered.{ids-popped, held-permutation}
-use Rattle.gix_merge_base.proofs.QueueKeys.{keyed-popped, key-popped}
+use Rattle.gix_merge_base.proofs.QueueKeys.{key-popped}
 use Rattle.gix_merge_base.proofs.Reduction.{reduce_goes, reduce_cuts, reduce_permuted, fewer_cut, fewer_left, left_to_meet}
 use Rattle.gix_merge_base.proofs.Unmet.{unstale_alike, met_since, numbers_held, numbers_ids, order_grown}
 use Rattle.gix_merge_base.proofs.merge_base.reduction.meet.Goals as goal
@@ -24,38 +25,38 @@ pub left_from-left-requires-clause-before : goal.left_from-left-requires-clause-
 left_from-left-requires-clause-before g c = rw c.deref.ensures.value c.loop-key.invariant.before
 
 pub hand_parents-requires-clause-number : goal.hand_parents-requires-clause-number
-hand_parents-requires-clause-number g c = (held-permutation (λ p. place_in p.1 < held_len c.loop-key.graph) c.loop-key.queue _ c.in-Some.ensures.taken c.loop-key.invariant.valid).0
+hand_parents-requires-clause-number g c = (held-permutation (λ p. place_in p.1 < held_len c.loop-key.graph) c.loop-key.walk.front.queue _ c.in-Some.ensures.taken c.loop-key.invariant.queued.held).0
 
-pub hand_parents-requires-clause-valid : goal.hand_parents-requires-clause-valid
-hand_parents-requires-clause-valid g c = (held-permutation (λ p. place_in p.1 < held_len c.loop-key.graph) c.loop-key.queue _ c.in-Some.ensures.taken c.loop-key.invariant.valid).1
+pub hand_parents-requires-clause-queued : goal.hand_parents-requires-clause-queued
+hand_parents-requires-clause-queued g c =
+    queued_popped_over (g.S.Find.history c.args.graph.now.source) _ c.loop-key.graph c.loop-key.walk.front _ c.in-Some.key c.in-Some.number c.loop-key.invariant.after.graph.same_history c.in-Some.ensures.taken c.loop-key.invariant.queued
 
 pub loop-key-init : goal.loop-key-init
 loop-key-init g c =
     let order = c.in_ok-order.ensures in
     record {
       at = c.requires.begun;
-      unmet = c.requires.unmet;
+      left = c.requires.left;
       order = order.order;
       ids = λ q. list_any-IsPermutation (same_id q) _ _ order.ids;
       before = λ k d low high. absurd (omega arith);
-      valid = c.requires.valid;
-      keyed = c.requires.keyed;
+      queued = c.requires.queued;
       after = after_none _;
     }
 
-pub returns-then-unmet-le1-clause-met : goal.returns-then-unmet-le1-clause-met
-returns-then-unmet-le1-clause-met g c =
-    let few = c.if-unmet-le1.true in
-    let count = c.loop-key.invariant.unmet.unstale in
-    inr (queued_ids c.loop-key.graph c.loop-key.queue, c.loop-key.invariant.at, unstale_alike (marks_at c.loop-key.graph) (ids_at c.args.graph.now c.args.numbers.now) (omega arith))
+pub returns-then-walk-le1-clause-met : goal.returns-then-walk-le1-clause-met
+returns-then-walk-le1-clause-met g c =
+    let few = c.if-walk-le1.true in
+    let count = c.loop-key.invariant.left.unstale in
+    inr (queued_ids c.loop-key.graph c.loop-key.walk.front.queue, c.loop-key.invariant.at, unstale_alike (marks_at c.loop-key.graph) (ids_at c.args.graph.now c.args.numbers.now) (omega arith))
 
 pub loop-key-smaller-then-key-left : goal.loop-key-smaller-then-key-left
 loop-key-smaller-then-key-left g c =
     let graph = c.loop-key.graph in
     let m = marks_at graph in
     let id = id_at graph (place_in c.in-Some.number) in
-    let perm = ids-popped graph graph refl c.in-Some.key c.in-Some.number c.loop-key.queue c.pop.new.self c.in-Some.ensures.taken in
-    less _ _ _ refl (fewer_cut (g.S.Find.history graph.source) m id (queued_ids graph c.loop-key.queue) (queued_ids graph c.pop.new.self) perm)
+    let perm = ids-popped graph graph refl c.in-Some.key c.in-Some.number c.loop-key.walk.front.queue c.pop.new.self c.in-Some.ensures.taken in
+    less _ _ _ refl (fewer_cut (g.S.Find.history graph.source) m id (queued_ids graph c.loop-key.walk.front.queue) (queued_ids graph c.pop.new.self) perm)
 
 pub loop-key-preserved-then-key-left : goal.loop-key-preserved-then-key-left
 loop-key-preserved-then-key-left g c =
@@ -66,20 +67,19 @@ loop-key-preserved-then-key-left g c =
     let m = marks_at graph in
     let id = id_at graph (place_in c.in-Some.number) in
     let rs = c.pop.new.self in
-    let perm = ids-popped graph graph refl c.in-Some.key c.in-Some.number c.loop-key.queue rs c.in-Some.ensures.taken in
-    let at = reduce_permuted h ids m (queued_ids graph c.loop-key.queue) (id ∷ queued_ids graph rs) perm c.loop-key.invariant.at in
-    let key = key-popped h graph c.in-Some.key c.in-Some.number c.loop-key.queue rs c.in-Some.ensures.taken c.loop-key.invariant.keyed in
+    let perm = ids-popped graph graph refl c.in-Some.key c.in-Some.number c.loop-key.walk.front.queue rs c.in-Some.ensures.taken in
+    let at = reduce_permuted h ids m (queued_ids graph c.loop-key.walk.front.queue) (id ∷ queued_ids graph rs) perm c.loop-key.invariant.at in
+    let key = key-popped h graph c.in-Some.key c.in-Some.number c.loop-key.walk.front.queue rs c.in-Some.ensures.taken c.loop-key.invariant.queued.keyed in
     let generation : c.in-Some.key.generation ≡ generation_of h id = ap (λ (z : GenThenTime). z.generation) key in
     let left = rw (c.deref.ensures.value, same) at c.left_from-left.ensures in
     let low = c.if-key-left.true in
     record {
       at = reduce_cuts h ids id m (queued_ids graph rs) at (λ r k out. let l = left.least r (sym (c.loop-key.invariant.ids r) ∙ k) out in omega arith);
-      unmet = c.loop-key.invariant.unmet;
+      left = c.loop-key.invariant.left;
       order = c.loop-key.invariant.order;
       ids = c.loop-key.invariant.ids;
       before = left.before;
-      valid = (held-permutation (λ p. place_in p.1 < held_len c.loop-key.graph) c.loop-key.queue _ c.in-Some.ensures.taken c.loop-key.invariant.valid).1;
-      keyed = keyed-popped h graph graph refl c.in-Some.key c.in-Some.number c.loop-key.queue rs c.in-Some.ensures.taken c.loop-key.invariant.keyed;
+      queued = queued_popped h graph c.loop-key.walk.front _ c.in-Some.key c.in-Some.number c.in-Some.ensures.taken c.loop-key.invariant.queued;
       after = c.loop-key.invariant.after;
     }
 
@@ -93,24 +93,22 @@ loop-key-preserved g c =
     let id = id_at graph (place_in c.in-Some.number) in
     let rs = c.pop.new.self in
     let new = c.hand_parents.new.graph in
-    let perm = ids-popped graph graph refl c.in-Some.key c.in-Some.number c.loop-key.queue rs c.in-Some.ensures.taken in
-    let at = reduce_permuted h ids m (queued_ids graph c.loop-key.queue) (id ∷ queued_ids graph rs) perm c.loop-key.invariant.at in
-    let did = rw same at c.in_default-hand_parents.ensures.handed in
-    let keyed = rw same at c.in_default-hand_parents.ensures.keyed in
+    let perm = ids-popped graph graph refl c.in-Some.key c.in-Some.number c.loop-key.walk.front.queue rs c.in-Some.ensures.taken in
+    let at = reduce_permuted h ids m (queued_ids graph c.loop-key.walk.front.queue) (id ∷ queued_ids graph rs) perm c.loop-key.invariant.at in
+    let did = rw same at c.in_default-hand_parents.ensures.hands in
+    let keeps = rw same at c.in_default-hand_parents.ensures.keeps in
     let order = c.in_ok-order.order.items in
     let left = rw (c.deref.ensures.value, same) at c.left_from-left.ensures in
-    let listed = c.in_default-hand_parents.ensures.listed (map (λ p. p.1) order) (numbers_held h graph order c.loop-key.invariant.order) in
+    let listed = c.in_default-hand_parents.ensures.meets.numbers (map (λ p. p.1) order) (numbers_held h graph order c.loop-key.invariant.order) in
     let grown : queued_ids new order ≡ queued_ids graph order = sym (numbers_ids new order) ∙ listed.1 ∙ numbers_ids graph order in
     record {
-      at = reduce_goes h ids id m (marks_at new) (queued_ids graph rs) (queued_ids new c.hand_parents.new.queue) at did;
-      unmet = c.in_default-hand_parents.ensures.unmet refl ids c.loop-key.invariant.unmet;
+      at = reduce_goes h ids id m (marks_at new) (queued_ids graph rs) (queued_ids new c.hand_parents.new.self.front.queue) at did;
+      left = keeps.left refl ids c.loop-key.invariant.left;
       order = order_grown h graph new order c.loop-key.invariant.order listed.0 grown;
       ids = λ q. c.loop-key.invariant.ids q ∙ ap (λ l. is_one_of l q) (sym grown);
       before = subst (λ l. AreMetBefore (marks_at new) l c.left_from-left.result.place) (sym grown) (met_since m (marks_at new) (queued_ids graph order) _ did.more left.before);
-      valid = c.in_default-hand_parents.ensures.valid;
-      keyed = keyed (keyed-popped h graph graph refl c.in-Some.key c.in-Some.number c.loop-key.queue rs c.in-Some.ensures.taken c.loop-key.invariant.keyed);
-      after = after_more _ _ _ _ c.loop-key.invariant.after
-          record { graph = record { same_history = c.in_default-hand_parents.ensures.history; count = c.in_default-hand_parents.ensures.count; held = c.in_default-hand_parents.ensures.kept }; cause = tt };
+      queued = keeps.queued (queued_popped h graph c.loop-key.walk.front _ c.in-Some.key c.in-Some.number c.in-Some.ensures.taken c.loop-key.invariant.queued);
+      after = after_more _ _ _ _ c.loop-key.invariant.after (after_step _ _ c.in_default-hand_parents.ensures.meets.graph);
     }
 
 pub loop-key-smaller : goal.loop-key-smaller
@@ -123,22 +121,14 @@ loop-key-smaller g c =
     let id = id_at graph (place_in c.in-Some.number) in
     let rs = c.pop.new.self in
     let new = c.hand_parents.new.graph in
-    let perm = ids-popped graph graph refl c.in-Some.key c.in-Some.number c.loop-key.queue rs c.in-Some.ensures.taken in
-    let at = reduce_permuted h ids m (queued_ids graph c.loop-key.queue) (id ∷ queued_ids graph rs) perm c.loop-key.invariant.at in
-    let did = rw same at c.in_default-hand_parents.ensures.handed in
-    let at2 = reduce_goes h ids id m (marks_at new) (queued_ids graph rs) (queued_ids new c.hand_parents.new.queue) at did in
-    let fewer = fewer_left h ids m (marks_at new) id (queued_ids graph c.loop-key.queue) (queued_ids graph rs) (queued_ids new c.hand_parents.new.queue) perm did at2 in
-    less _ _ _ (ap (λ z. left_to_meet z (marks_at new) (queued_ids new c.hand_parents.new.queue)) (c.hand_parents.ensures.history ∙ same))
-    (subst (λ z. left_to_meet h (marks_at new) (queued_ids new c.hand_parents.new.queue) + 1 ≤ left_to_meet z m (queued_ids graph c.loop-key.queue)) (sym same) fewer)
+    let perm = ids-popped graph graph refl c.in-Some.key c.in-Some.number c.loop-key.walk.front.queue rs c.in-Some.ensures.taken in
+    let at = reduce_permuted h ids m (queued_ids graph c.loop-key.walk.front.queue) (id ∷ queued_ids graph rs) perm c.loop-key.invariant.at in
+    let did = rw same at c.in_default-hand_parents.ensures.hands in
+    let at2 = reduce_goes h ids id m (marks_at new) (queued_ids graph rs) (queued_ids new c.hand_parents.new.self.front.queue) at did in
+    let fewer = fewer_left h ids m (marks_at new) id (queued_ids graph c.loop-key.walk.front.queue) (queued_ids graph rs) (queued_ids new c.hand_parents.new.self.front.queue) perm did at2 in
+    less _ _ _ (ap (λ z. left_to_meet z (marks_at new) (queued_ids new c.hand_parents.new.self.front.queue)) (c.hand_parents.ensures.meets.graph.same_history ∙ same))
+    (subst (λ z. left_to_meet h (marks_at new) (queued_ids new c.hand_parents.new.self.front.queue) + 1 ≤ left_to_meet z m (queued_ids graph c.loop-key.walk.front.queue)) (sym same) fewer)
 
 pub returns-in-Err-clause-after : goal.returns-in-Err-clause-after
 returns-in-Err-clause-after g c =
-    let count = λ (fault : Bool). count_after fault (g.S.Find.fault_count c.loop-key.graph.source) in
-    after_more _ _ _ _ c.loop-key.invariant.after record {
-      graph = record {
-        same_history = c.hand_parents.ensures.history;
-        count = c.in-Err.ensures.count ∙ ap count (sym c.parent_refused.ensures.same);
-        held = c.hand_parents.ensures.kept;
-      };
-      cause = c.parent_refused.ensures.cause;
-    }
+    after_more _ _ _ _ c.loop-key.invariant.after record { graph = graph_as _ _ _ _ (sym c.parent_refused.ensures.same) c.in-Err.ensures.meets.graph; cause = c.parent_refused.ensures.cause }

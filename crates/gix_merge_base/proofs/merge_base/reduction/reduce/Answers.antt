@@ -3,6 +3,7 @@ use Rattle.std.specs.List.{filter}
 use Rattle.std.proofs.lemmas.Fn.{filter_same}
 use Rattle.gix_revwalk.specs.History.{entry_at}
 use Rattle.gix_merge_base.specs.Counting.{CountsUnmet}
+use Rattle.gix_merge_base.specs.Front.{IsQueued, CountsLeft}
 use Rattle.gix_merge_base.specs.PaintQueue.{marks_at, queued_at, queued_ids, ids_at, AreIn}
 use Rattle.gix_merge_base.specs.Reducing.{firsts}
 use Rattle.gix_merge_base.specs.ReduceSteps.{Reducing, Reduced}
@@ -14,18 +15,21 @@ use Rattle.gix_merge_base.proofs.merge_base.reduction.reduce.Goals as goal
 pub meet_parents-requires-clause-inside : goal.meet_parents-requires-clause-inside
 meet_parents-requires-clause-inside g c = subst (AreIn c.list.new.graph) (sym c.deref-2.ensures.value) c.in_ok-numbers.ensures.inside
 
-pub meet_parents-requires-clause-unmet : goal.meet_parents-requires-clause-unmet
-meet_parents-requires-clause-unmet g c =
+pub meet_parents-requires-clause-left : goal.meet_parents-requires-clause-left
+meet_parents-requires-clause-left g c =
     let listed = c.list.new.graph in
-    let all : c.len-unmet.result ≡ length c.in_ok-numbers.numbers.items = omega (arith, c.in_ok-numbers.numbers.ok.0, c.len-unmet.ensures) in
-    subst (λ l. CountsUnmet (marks_at listed) (queued_at listed) (ids_at listed l) c.len-unmet.result) (sym c.deref-2.ensures.value)
+    let all : c.new-walk.result.front.open_entries ≡ length c.in_ok-numbers.numbers.items = omega (arith, c.in_ok-numbers.numbers.ok.0, c.len.ensures, c.new-walk.ensures.count) in
+    subst (λ l. CountsUnmet (marks_at listed) (queued_at listed) (ids_at listed l) c.new-walk.result.front.open_entries) (sym c.deref-2.ensures.value)
     (subst (λ o. CountsUnmet (marks_at listed) (queued_at listed) (ids_at listed c.in_ok-numbers.numbers.items) o) (sym all) c.in_ok-numbers.ensures.unmet)
 
-pub meet-requires-clause-unmet : goal.meet-requires-clause-unmet
-meet-requires-clause-unmet g c =
+pub meet-requires-clause-left : goal.meet-requires-clause-left
+meet-requires-clause-left g c =
     let new = c.meet_parents.new.graph in
     let is : c.deref-3.result.now ≡ c.deref-2.result.now = c.deref-3.ensures.value ∙ sym c.deref-2.ensures.value in
-    subst (λ l. CountsUnmet (marks_at new) (queued_at new) l c.meet_parents.new.unmet) (sym (ap (ids_at new) is ∙ c.in_ok-meet_parents.ensures.same.1)) c.in_ok-meet_parents.ensures.unmet
+    subst (λ l. CountsLeft l new c.meet_parents.new.walk.front) (sym (ap (ids_at new) is ∙ c.in_ok-meet_parents.ensures.same.1)) c.in_ok-meet_parents.ensures.left
+
+pub meet-requires-clause-queued : goal.meet-requires-clause-queued
+meet-requires-clause-queued g c = subst (λ h. IsQueued h c.meet_parents.new.graph c.meet_parents.new.walk.front) (sym c.in_ok-meet_parents.ensures.after.graph.same_history) c.in_ok-meet_parents.ensures.queued
 
 pub meet-requires-clause-begun : goal.meet-requires-clause-begun
 meet-requires-clause-begun g c =
@@ -34,9 +38,9 @@ meet-requires-clause-begun g c =
     let h = g.S.Find.history listed.source in
     let is : c.deref-3.result.now ≡ c.deref-2.result.now = c.deref-3.ensures.value ∙ sym c.deref-2.ensures.value in
     let ids : ids_at new c.deref-3.result.now ≡ ids_at listed c.deref-2.result.now = ap (ids_at new) is ∙ c.in_ok-meet_parents.ensures.same.1 in
-    subst (λ z. Reducing z (ids_at new c.deref-3.result.now) (marks_at new) (queued_ids new c.meet_parents.new.queue)) (sym c.in_ok-meet_parents.ensures.after.graph.same_history)
-    (subst (λ l. Reducing h l (marks_at new) (queued_ids new c.meet_parents.new.queue)) (sym ids)
-    (reduce_begins h (ids_at listed c.deref-2.result.now) (marks_at listed) (marks_at new) (queued_ids new c.meet_parents.new.queue) c.in_ok-numbers.ensures.unmarked c.in_ok-meet_parents.ensures.handed))
+    subst (λ z. Reducing z (ids_at new c.deref-3.result.now) (marks_at new) (queued_ids new c.meet_parents.new.walk.front.queue)) (sym c.in_ok-meet_parents.ensures.after.graph.same_history)
+    (subst (λ l. Reducing h l (marks_at new) (queued_ids new c.meet_parents.new.walk.front.queue)) (sym ids)
+    (reduce_begins h (ids_at listed c.deref-2.result.now) (marks_at listed) (marks_at new) (queued_ids new c.meet_parents.new.walk.front.queue) c.in_ok-numbers.ensures.unmarked c.in_ok-meet_parents.ensures.handed))
 
 pub returns-clause-some : goal.returns-clause-some
 returns-clause-some g c = ((λ x. not (marks_at c.meet.new.graph x).stale), filter_same _ _ _ (λ x b f' s. search rules) _ _ c.retain.ensures.filtered ∙ ap (filter (λ x. not (marks_at c.meet.new.graph x).stale)) c.in_ok-left.ensures)
