@@ -4,7 +4,7 @@ use Rattle.std.specs.Option.{unwrap_or}
 use Rattle.std.specs.List.{AllByRecursion}
 use Rattle.std.specs.List.Sorted.{IsPermutation}
 use Rattle.gix_base.specs.declared.hash.ObjectId.{ObjectId}
-use Rattle.gix_revwalk.specs.History.{History, Has, is_one_of, entry_at, parents_in}
+use Rattle.gix_revwalk.specs.History.{History, Has, is_one_of}
 use Rattle.gix_revwalk.specs.Graph.{Graphed, held_len, held_at, held_ids, KeepsHeld}
 use Rattle.gix_revwalk.specs.Number.{place_in}
 use Rattle.gix_revwalk.specs.Numbers.{item_at, number_at, place_of, Grows}
@@ -74,14 +74,6 @@ kept-grown m n grows q k = lookup-has n.held q ∙ there (number_at m q) refl (s
 
 pub valid-same : {S T K : Type 0} (m n : Graphed S T) → held_ids n ≡ held_ids m → (ps : List (K × Number)) → AreHeld m ps → AreHeld n ps
 valid-same m n e ps k = subst (λ l. AllByRecursion (λ p. place_in p.1 < l) ps) (sym (same-len m n e)) k
-
--- the parents of a commit are taken in
-pub holds-stepped : {S T : Type 0} (m n r : Graphed S T) (k : ℕ) (history : S → History) → n.source ≡ m.source → held_ids n ≡ held_ids m
-    → HoldsMore (history n.source) (parents_in (entry_at (history n.source) (id_at n k))) n r → HoldsMore (history m.source) (parents_in (entry_at (history m.source) (id_at m k))) m r
-holds-stepped m n r k history source e holds =
-    let a = subst (λ s. HoldsMore (history s) (parents_in (entry_at (history s) (id_at n k))) n r) source holds in
-    holds-before (history m.source) (parents_in (entry_at (history m.source) (id_at m k))) m n r e
-    (subst (λ i. HoldsMore (history m.source) (parents_in (entry_at (history m.source) i)) n r) (id-same m n e k) a)
 
 -- what is held is called by its number
 pub number-id : {S T : Type 0} (g : Graphed S T) (id : ObjectId) (k : ℕ) → Some k ≡ place_of (held_ids g) id → (k < held_len g) × (id_at g k ≡ id)

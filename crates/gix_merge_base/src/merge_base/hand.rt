@@ -2,7 +2,7 @@
 //! reduction, which hands on that mark alone, has it count the ids that are not stale: each of them
 //! counts as queued once, without an entry.
 
-ghost use Rattle.std.specs.Prelude.{◌≡◌, ◌<◌, ◌-◌, ◌^◌, ◌∷◌, [], OnOk, IfOk, IfSome, IsNone, IsTrue, cond, not};
+ghost use Rattle.std.specs.Prelude.{◌≡◌, ◌<◌, ◌-◌, ◌^◌, ◌∷◌, [], OnOk, IfOk, IfSome, IsNone, IsTrue, cond};
 ghost use Rattle.gix_base.specs.declared.hash.ObjectId.{ObjectId};
 ghost use Rattle.gix_revwalk.specs.Graph.{held_len};
 ghost use Rattle.gix_revwalk.specs.History.{Has, is_one_of};
@@ -65,12 +65,13 @@ fn open_without(open_entries: usize, old: Mark<Flags>) -> usize
     }
 }
 
-/// The queued commits of a walk.
+/// The queued commits of a walk, with its count.
 #[derive(Drop)]
 pub(crate) struct Front<A: Allocator> {
     /// Their numbers, each as often as it is queued, by generation, then time.
     pub(crate) queue: PriorityQueue<GenThenTime, Number, A>,
-    /// How many of the entries are of a commit that is not stale.
+    /// How many of the entries are of a commit that is not stale; in the reduction, how many of the
+    /// ids are not.
     pub(crate) open_entries: usize,
 }
 
@@ -226,7 +227,7 @@ pub(crate) struct Walk<A: Allocator> {
 }
 
 impl<A: Allocator + Copy> Walk<A> {
-    /// Nothing is queued. It takes no memory.
+    /// Nothing is queued; the count begins with what is handed in. It takes no memory.
     pub(crate) fn new(alloc: A, open_entries: usize) -> Walk<A>
         ensures queue { result.front.queue ≡ [] }
         ensures count { result.front.open_entries ≡ open_entries }
