@@ -14,7 +14,7 @@ use Rattle.gix_revwalk.proofs.Places.{lookup-has, number-within, place-item}
 use Rattle.gix_revwalk.proofs.Growth.{named-there, named-grown, number-grown}
 use Rattle.gix_merge_base.specs.PaintQueue.{Keyed, AreHeld, IsHeld, key_at, id_at}
 use Rattle.gix_merge_base.specs.declared.merge_base.gen_then_time.GenThenTime.{GenThenTime}
-use Rattle.gix_merge_base.proofs.Numbered.{held-permutation, same-len, id-same}
+use Rattle.gix_merge_base.proofs.Numbered.{held-permutation, same-len}
 
 -- the same ids have the same keys
 pub keyed-same : {S T : Type 0} (h : History) (m n : Graphed S T) → held_ids n ≡ held_ids m → (ps : List (GenThenTime × Number)) → Keyed h m ps → Keyed h n ps
