@@ -182,7 +182,7 @@ closed_there : (text : List ℕ) → (step_at text).way ≡ closed → navigatio
 closed_there text h = navigation-step text ∙ closed_alone (step_at text).way (step_at text) _ h
 
 module _ {S : Type 0} (by : S → Call → Answer → S → Type 0) where
-  ends_way : (b : ℕ) (after : List ℕ) (w : FoundWay) {m n : Context} {s u : S} {x : Behind} {error : Error} → x.way ≡ w → Moves (length after) (step_at (b ∷ after)) →
+  ends_way : (b : ℕ) (after : List ℕ) (w : FoundWay) {m n : Context} {s u : S} {x : Behind} {error : Option Error} → x.way ≡ w → Moves (length after) (step_at (b ∷ after)) →
       Reads by (step_at (b ∷ after)) s m u n (Ok x) error → (x.way ≡ Onward → length (b ∷ after) ≤ length x.rest.now) → Reads by (navigation (b ∷ after)) s m u n (Ok x) error
   ends_way b after Closed e moves f h = rw (closed_there (b ∷ after) (sym f.behind.1 ∙ ap way_of e)) f
   ends_way b after Onward {x} e moves f h =
@@ -191,12 +191,12 @@ module _ {S : Type 0} (by : S → Call → Answer → S → Type 0) where
       let same : length x.rest.now ≡ length (step_at (b ∷ after)).rest = ap length f.behind.0 in absurd (omega arith)
 
   -- a step that ends the steps: a closer, or one that takes no byte
-  ends_by : (b : ℕ) (after : List ℕ) {m n : Context} {s u : S} {x : Behind} {error : Error} → IsStep (b ∷ after) (length after) (step_at (b ∷ after)) →
+  ends_by : (b : ℕ) (after : List ℕ) {m n : Context} {s u : S} {x : Behind} {error : Option Error} → IsStep (b ∷ after) (length after) (step_at (b ∷ after)) →
       Reads by (step_at (b ∷ after)) s m u n (Ok x) error → (x.way ≡ Onward → length (b ∷ after) ≤ length x.rest.now) → Reads by (navigation (b ∷ after)) s m u n (Ok x) error
   ends_by b after (inl none) f h = rw (navigation-none (b ∷ after) none, ← none) f
   ends_by b after {x} (inr moves) f h = ends_way b after x.way refl moves f h
 
-  pub navigation_ends : (text : List ℕ) {m n : Context} {s u : S} {x : Behind} {error : Error} →
+  pub navigation_ends : (text : List ℕ) {m n : Context} {s u : S} {x : Behind} {error : Option Error} →
       Reads by (step_at text) s m u n (Ok x) error → (x.way ≡ Onward → length text ≤ length x.rest.now) → Reads by (navigation text) s m u n (Ok x) error
   navigation_ends [] f h = rw (navigation-none [] step_at-nil, ← step_at-nil) f
   navigation_ends (b ∷ after) f h = ends_by b after (step_at-cases b after) f h

@@ -5,6 +5,7 @@ use Rattle.gix_base.specs.declared.date.Time.{Time}
 use Rattle.gix_spec.specs.declared.spec.parse.context.Anchor.{Anchor}
 use Rattle.gix_spec.specs.declared.spec.parse.context.Anchor.TheVariants.{Head, Reference, ByPrefix}
 use Rattle.gix_spec.specs.declared.spec.parse.context.Context.{Context as Kept}
+use Rattle.gix_spec.specs.declared.spec.parse.Error.{Error}
 use Rattle.gix_spec.specs.Call.{Call, Hint, find_ref, prefix, hint_of}
 
 -- The moment that dates are read at; the prefix or reference call that was accepted last, the anchor; and whether this
@@ -41,3 +42,7 @@ call_of (ByPrefix p hint) = prefix (prefix_text p) (option_map hint_of hint)
 
 abbrev pub context_of : Kept → Context
 context_of kept = record { now = kept.now; anchor = option_map call_of kept.anchor; own_prefix = kept.own_prefix }
+
+-- the same, with why the parse has stopped
+abbrev pub stopped : Kept → Error → Kept
+stopped kept e = record { now = kept.now; anchor = kept.anchor; own_prefix = kept.own_prefix; error = Some e }

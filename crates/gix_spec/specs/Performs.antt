@@ -1,5 +1,6 @@
 -- What a part of a parse does to the run, whatever follows it.
 use Rattle.std.specs.Prelude.{true, false, option_map, ◌≡◌, ℕ, List, ◌++◌, Option, Some, None, Result, Ok, Err, IfOk}
+use Rattle.std.specs.Option.{IsSomeAnd}
 use Rattle.gix_base.specs.declared.error.Exn.{Exn, out-Exn}
 use Rattle.gix_spec.specs.declared.spec.parse.fault.Fault.{Fault}
 use Rattle.gix_spec.specs.declared.spec.parse.Error.{Error}
@@ -17,8 +18,8 @@ use Rattle.gix_spec.specs.Part.{Part}
 use Rattle.gix_spec.specs.Found.{way_of}
 use Rattle.gix_spec.specs.Parse.{Fails}
 
--- What a function of the parse answers, with the error that is kept where the parse has stopped.
-abbrev pub told_by : {X : Type 0} → Result X Stopped → Error → Result X Error
+-- What a function of the parse answers, with what is kept of why the parse has stopped.
+abbrev pub told_by : {X : Type 0} → Result X Stopped → Option Error → Result X (Option Error)
 told_by (Ok x) e = Ok x
 told_by (Err stopped) e = Err e
 
@@ -26,21 +27,21 @@ told_by (Err stopped) e = Err e
 abbrev pub Leads : {S : Type 0} → (step : S → Call → Answer → S → Type 0) → S → Tree → S → Tree → Type 0
 Leads {S} step s t u v = (w : S) (o : Outcome) → IsRun step u v w o → IsRun step s t w o
 
--- They led there, or the run ended at u as this error says.
-abbrev pub GoesTo : {S X : Type 0} → (step : S → Call → Answer → S → Type 0) → S → Tree → S → Result X Error → Tree → Type 0
+-- They led there, or the run ended at u as the error says that is kept.
+abbrev pub GoesTo : {S X : Type 0} → (step : S → Call → Answer → S → Type 0) → S → Tree → S → Result X (Option Error) → Tree → Type 0
 GoesTo step s t u (Ok x) v = Leads step s t u v
-GoesTo step s t u (Err e) v = Fails step s t u e
+GoesTo step s t u (Err e) v = IsSomeAnd e (λ x. Fails step s t u x)
 
 -- The calls did what these pieces mean, whatever follows them, and what is known went from m to n.
-pub record Performs {S X : Type 0} (step : S → Call → Answer → S → Type 0) (ps : List Piece) (s : S) (m : Context) (u : S) (n : Context) (out : Result X Stopped) (error : Error) : Type 0 where
+pub record Performs {S X : Type 0} (step : S → Call → Answer → S → Type 0) (ps : List Piece) (s : S) (m : Context) (u : S) (n : Context) (out : Result X Stopped) (error : Option Error) : Type 0 where
   pub performs : (more : List Piece) → GoesTo step s (tree_of (ps ++ more) m) u (told_by out error) (tree_of more n)
 
 -- The calls that a tree begins with were made, whatever follows them.
-pub record Asks {S X : Type 0} (step : S → Call → Answer → S → Type 0) (begin : Tree → Tree) (s u : S) (out : Result X Stopped) (error : Error) : Type 0 where
+pub record Asks {S X : Type 0} (step : S → Call → Answer → S → Type 0) (begin : Tree → Tree) (s u : S) (out : Result X Stopped) (error : Option Error) : Type 0 where
   pub asks : (onward : Tree) → GoesTo step s (begin onward) u (told_by out error) onward
 
 -- A part was read: the calls did what its pieces mean, and where they went well this is what is left of the text, and the way on.
-pub record Reads {S : Type 0} (step : S → Call → Answer → S → Type 0) (p : Part) (s : S) (m : Context) (u : S) (n : Context) (out : Result Behind Stopped) (error : Error) : Type 0 where
+pub record Reads {S : Type 0} (step : S → Call → Answer → S → Type 0) (p : Part) (s : S) (m : Context) (u : S) (n : Context) (out : Result Behind Stopped) (error : Option Error) : Type 0 where
   pub calls : Performs step p.pieces s m u n out error
   pub behind : IfOk out (λ b. (b.rest.now ≡ p.rest) × (way_of b.way ≡ p.way))
 
@@ -50,11 +51,11 @@ TellsOf e f input OutOfMemory = (out-Exn e).out_of_memory ≡ true
 TellsOf e f input (Refused g given first second) =
     ((out-Exn e).out_of_memory ≡ false) × (g ≡ f) × (option_map (λ x. x.now) given ≡ input) × (first ≡ Some e) × (second ≡ None)
 
-abbrev pub DemandedBy : Result (Unit {0}) Exn → Fault → Option (List ℕ) → Result (Unit {0}) Error → Type 0
+abbrev pub DemandedBy : Result (Unit {0}) Exn → Fault → Option (List ℕ) → Result (Unit {0}) (Option Error) → Type 0
 DemandedBy (Ok a) f input (Ok b) = Unit {0}
-DemandedBy (Err e) f input (Err err) = TellsOf e f input err
+DemandedBy (Err e) f input (Err err) = IsSomeAnd err (λ x. TellsOf e f input x)
 DemandedBy (Ok a) f input (Err err) = ⊥
 DemandedBy (Err e) f input (Ok b) = ⊥
 
-pub record Demanded (answer : Result (Unit {0}) Exn) (f : Fault) (input : Option (List ℕ)) (out : Result (Unit {0}) Stopped) (error : Error) : Type 0 where
+pub record Demanded (answer : Result (Unit {0}) Exn) (f : Fault) (input : Option (List ℕ)) (out : Result (Unit {0}) Stopped) (error : Option Error) : Type 0 where
   pub demanded : DemandedBy answer f input (told_by out error)

@@ -14,7 +14,7 @@ ghost use Rattle.gix_spec.specs.Pieces;
 ghost use Rattle.gix_date.specs.Date.{date_of};
 
 use super::braces::{Braced, opened};
-use super::calls::call_date;
+use super::calls::{Asked, call_asked, unopened};
 use super::context::{Context, Stopped};
 use super::delegate::{Delegate, ReflogLookup, SiblingBranch};
 use super::fault::Fault;
@@ -92,14 +92,7 @@ fn look_up<'a, D: Delegate>(
         result context.new.error }
 {
     let time = time_of(meant, context.now);
-    call_date(
-        time,
-        own,
-        raw,
-        context.own_prefix,
-        &mut context.error,
-        delegate,
-    )
+    call_asked(Asked::Date(time), own, raw, context, delegate)
 }
 
 // A text that is read as a date.
@@ -156,8 +149,10 @@ fn in_braces<'a, A: Allocator, D: Delegate>(
         delegate.old (context_of context.old) delegate.new (context_of context.new)
         result context.new.error }
 {
-    let braces = opened(alloc, text, &mut context.error)?;
-    inside(own, &braces, context, delegate)
+    match opened(alloc, text) {
+        Ok(braces) => inside(own, &braces, context, delegate),
+        Err(why) => Err(unopened(why, text, context)),
+    }
 }
 
 /// Reads an `@` behind the name `own`, if one stands there.

@@ -4,13 +4,10 @@ ghost use Rattle.std.specs.Prelude.{◌≡◌, ℕ, ◌<◌, ◌+◌, ◌==◌, 
 ghost use Rattle.std.specs.Prelude.{IfSome, IfNone, IfOk};
 ghost use Rattle.gix_spec.specs.Marks.{brace, starts_with};
 ghost use Rattle.gix_spec.specs.Braces.{is_special, has_escape, meant_of};
-ghost use Rattle.gix_spec.specs.Opens.{IsLevel, IsClose, Opens};
+ghost use Rattle.gix_spec.specs.Opens.{IsLevel, IsClose, Opens, unopened_error};
 ghost use Rattle.gix_spec.specs.Parens.{ParensGives};
-ghost use Rattle.gix_spec.specs.Performs.{told_by};
 
 use super::Error;
-use super::calls::fault;
-use super::context::Stopped;
 use super::fault::Fault;
 use std::alloc::{AllocError, Allocator};
 use std::borrow::CowSlice;
@@ -136,17 +133,39 @@ pub(crate) struct Braced<'a, A: Allocator> {
     pub(crate) rest: &'a [u8],
 }
 
+/// Why there is no pair of braces.
+#[derive(Clone, Copy)]
+pub(crate) enum Unopened {
+    /// The pair does not close.
+    Unclosed,
+    /// An escape is to be taken out, and there is no memory for it.
+    OutOfMemory,
+}
+
+impl Unopened {
+    /// The error that this is of a text that begins with a brace.
+    pub(crate) fn error(self, text: &[u8]) -> Error<'_>
+        ensures { result ≡ unopened_error self text.entry }
+    {
+        match self {
+            Unopened::Unclosed => Error::Refused {
+                fault: Fault::UnclosedBrace,
+                input: Some(text),
+                first: None,
+                second: None,
+            },
+            Unopened::OutOfMemory => Error::OutOfMemory,
+        }
+    }
+}
+
 /// The pair of braces that a text begins with. Its text is copied only where an escape is taken out.
-pub(crate) fn opened<'a, A: Allocator>(
-    alloc: A,
-    text: &'a [u8],
-    error: &mut Error<'a>,
-) -> Result<Braced<'a, A>, Stopped>
+pub(crate) fn opened<A: Allocator>(alloc: A, text: &[u8]) -> Result<Braced<'_, A>, Unopened>
     requires { starts_with brace text.now ≡ true }
-    ensures { Opens text.now (told_by result error.new) }
+    ensures { Opens text.now result }
 {
     let Some(Close { place, escapes }) = find_close(text) else {
-        return Err(fault(Fault::UnclosedBrace, Some(text), error));
+        return Err(Unopened::Unclosed);
     };
     let raw = &text[1..place];
     let rest = &text[place + 1..];
@@ -159,8 +178,7 @@ pub(crate) fn opened<'a, A: Allocator>(
         });
     }
     let Ok(copied) = without_escapes(alloc, text, place - 1) else {
-        *error = Error::OutOfMemory;
-        return Err(Stopped);
+        return Err(Unopened::OutOfMemory);
     };
     Ok(Braced {
         raw,
@@ -186,17 +204,15 @@ pub fn parens<'a, A: Allocator>(
     if !begins(text) {
         return Ok(None);
     }
-    let mut error = Error::OutOfMemory;
-    let Ok(
-        Braced {
-            raw,
-            meant,
-            rest,
-            ..
-        },
-    ) = opened(alloc, text, &mut error)
-    else {
-        return Err(error);
-    };
-    Ok(Some((meant, rest, raw.len() + 2)))
+    match opened(alloc, text) {
+        Ok(
+            Braced {
+                raw,
+                meant,
+                rest,
+                ..
+            },
+        ) => Ok(Some((meant, rest, raw.len() + 2))),
+        Err(why) => Err(why.error(text)),
+    }
 }

@@ -1,14 +1,17 @@
 //! The calls that the pieces of a text mean.
 
 ghost use Rattle.std.specs.Prelude.{◌≡◌, Some, None, [], ◌∷◌, option_map};
+ghost use Rattle.std.specs.Option.{IsSomeAnd};
 ghost use Rattle.gix_spec.specs.Pieces.{head, name, range, regex};
-ghost use Rattle.gix_spec.specs.Context.{context_of, call_of};
+ghost use Rattle.gix_spec.specs.Context.{context_of, call_of, stopped};
+ghost use Rattle.gix_spec.specs.Opens.{unopened_error};
 ghost use Rattle.gix_spec.specs.Found.{piece_of, attempt_found, slice_of};
-ghost use Rattle.gix_spec.specs.Trees.{repeat, closing_calls, without_parent_calls};
-ghost use Rattle.gix_spec.specs.Trees.{reflog_calls, sibling_calls, date_calls};
+ghost use Rattle.gix_spec.specs.Trees.{at_time, repeat, closing_calls, without_parent_calls};
+ghost use Rattle.gix_spec.specs.Asked.{without_name, asked_calls};
 ghost use Rattle.gix_spec.specs.Performs.{Performs, Asks, TellsOf, Demanded};
 
 use super::Error;
+use super::braces::Unopened;
 use super::context::{Anchor, Context, Stopped};
 use super::delegate::{Delegate, PeelTo, ReflogLookup, SiblingBranch, Traversal};
 use super::fault::Fault;
@@ -19,25 +22,31 @@ use gix_base::error::Exn;
 
 /// Keeps a fault of the text itself.
 #[cold]
-pub(crate) fn fault<'a>(fault: Fault, input: Option<&'a [u8]>, error: &mut Error<'a>) -> Stopped
-    ensures { error.new ≡ Error.Refused fault input.entry None None }
+pub(crate) fn fault<'a>(fault: Fault, input: Option<&'a [u8]>, context: &mut Context<'a>) -> Stopped
+    ensures { context.new ≡ stopped context.old (Error.Refused fault input.entry None None) }
 {
-    *error = Error::Refused {
+    context.stop(Error::Refused {
         fault,
         input,
         first: None,
         second: None,
-    };
-    Stopped
+    })
+}
+
+/// Keeps why there is no pair of braces at the front of a text.
+#[cold]
+pub(crate) fn unopened<'a>(why: Unopened, text: &'a [u8], context: &mut Context<'a>) -> Stopped
+    ensures { context.new ≡ stopped context.old (unopened_error why text.entry) }
+{
+    context.stop(why.error(text))
 }
 
 // Keeps that memory was wanting.
 #[cold]
-fn without_memory(error: &mut Error<'_>) -> Stopped
-    ensures { error.new ≡ Error.OutOfMemory }
+fn without_memory(context: &mut Context<'_>) -> Stopped
+    ensures { context.new ≡ stopped context.old Error.OutOfMemory }
 {
-    *error = Error::OutOfMemory;
-    Stopped
+    context.stop(Error::OutOfMemory)
 }
 
 // Keeps what the refusal of a call that has to be accepted is to the parse.
@@ -46,34 +55,34 @@ fn refused<'a>(
     refusal: Exn,
     fault: Fault,
     input: Option<&'a [u8]>,
-    error: &mut Error<'a>,
+    context: &mut Context<'a>,
 ) -> Stopped
-    ensures { TellsOf refusal fault (slice_of input.entry) error.new }
+    ensures tells { IsSomeAnd context.new.error (TellsOf refusal fault (slice_of input.entry)) }
+    ensures known { context_of context.new ≡ context_of context.old }
 {
     if refusal.out_of_memory {
-        return without_memory(error);
+        return without_memory(context);
     }
-    *error = Error::Refused {
+    context.stop(Error::Refused {
         fault,
         input,
         first: Some(refusal),
         second: None,
-    };
-    Stopped
+    })
 }
 
 // Keeps what the refusals of both attempts at a name are to the parse.
 #[cold]
-fn refused_twice<'a>(first: Exn, second: Exn, whole: &'a [u8], error: &mut Error<'a>) -> Stopped
-    ensures { error.new ≡ Error.Refused Fault.NameRefused (Some whole.entry) (Some first) (Some second) }
+fn refused_twice<'a>(first: Exn, second: Exn, whole: &'a [u8], context: &mut Context<'a>) -> Stopped
+    ensures { context.new ≡ stopped context.old
+        (Error.Refused Fault.NameRefused (Some whole.entry) (Some first) (Some second)) }
 {
-    *error = Error::Refused {
+    context.stop(Error::Refused {
         fault: Fault::NameRefused,
         input: Some(whole),
         first: Some(first),
         second: Some(second),
-    };
-    Stopped
+    })
 }
 
 /// What the answer to a call that has to be accepted is to the parse.
@@ -82,13 +91,14 @@ fn demanded<'a>(
     answer: Result<(), Exn>,
     fault: Fault,
     input: Option<&'a [u8]>,
-    error: &mut Error<'a>,
+    context: &mut Context<'a>,
 ) -> Result<(), Stopped>
-    ensures { Demanded answer fault (slice_of input.entry) result error.new }
+    ensures told { Demanded answer fault (slice_of input.entry) result context.new.error }
+    ensures known { context_of context.new ≡ context_of context.old }
 {
     match answer {
         Ok(()) => Ok(()),
-        Err(refusal) => Err(refused(refusal, fault, input, error)),
+        Err(refusal) => Err(refused(refusal, fault, input, context)),
     }
 }
 
@@ -100,7 +110,7 @@ fn call_head<'a, D: Delegate>(context: &mut Context<'a>, delegate: &mut D) -> Re
         result context.new.error }
 {
     let answer = delegate.find_ref(b"HEAD");
-    demanded(answer, Fault::HeadRefused, None, &mut context.error)?;
+    demanded(answer, Fault::HeadRefused, None, context)?;
     context.anchor = Some(Anchor::Head);
     context.own_prefix = false;
     Ok(())
@@ -119,7 +129,7 @@ fn call_reference<'a, D: Delegate>(
         result context.new.error }
 {
     let answer = delegate.find_ref(text);
-    demanded(answer, Fault::NameRefused, Some(whole), &mut context.error)?;
+    demanded(answer, Fault::NameRefused, Some(whole), context)?;
     context.anchor = Some(Anchor::Reference(text));
     context.own_prefix = false;
     Ok(())
@@ -145,7 +155,7 @@ fn call_prefix<'a, D: Delegate>(
         return Ok(());
     };
     if first.out_of_memory {
-        return Err(without_memory(&mut context.error));
+        return Err(without_memory(context));
     }
     let Err(second) = delegate.find_ref(text) else {
         context.anchor = Some(Anchor::Reference(text));
@@ -153,9 +163,9 @@ fn call_prefix<'a, D: Delegate>(
         return Ok(());
     };
     if second.out_of_memory {
-        return Err(without_memory(&mut context.error));
+        return Err(without_memory(context));
     }
-    Err(refused_twice(first, second, whole, &mut context.error))
+    Err(refused_twice(first, second, whole, context))
 }
 
 /// A regex, as it is written and as it is looked for.
@@ -171,67 +181,74 @@ pub(crate) fn call_find<'a, D: Delegate>(
         result context.new.error }
 {
     let answer = delegate.find(wanted, negated);
-    demanded(answer, Fault::FindRefused, Some(raw), &mut context.error)
+    demanded(answer, Fault::FindRefused, Some(raw), context)
 }
 
-// An entry or a date in the reflog, which no accepted prefix has.
-fn call_reflog<'a, D: Delegate>(
-    query: ReflogLookup,
-    own: &'a [u8],
-    inner: &'a [u8],
-    own_prefix: bool,
-    error: &mut Error<'a>,
-    delegate: &mut D,
-) -> Result<(), Stopped>
-    ensures { Asks D.step (reflog_calls query own.now inner.now own_prefix)
-        delegate.old delegate.new result error.new }
+/// What braces behind an `@` ask for, of the reference in front of them or of the current branch.
+#[derive(Clone, Copy)]
+pub(crate) enum Asked {
+    /// An entry of the reflog, or a date that is written as a number.
+    Entry(ReflogLookup),
+    /// The time that the text means, if it means one, in the reflog.
+    Date(Option<Time>),
+    /// A branch that belongs to another.
+    Sibling(SiblingBranch),
+}
+
+// The fault where this is asked for behind an accepted prefix, which names no reference.
+fn without_name(asked: Asked) -> Fault
+    ensures { result ≡ without_name asked }
 {
-    if own_prefix {
-        return Err(fault(Fault::ReflogWithoutName, Some(own), error));
+    match asked {
+        Asked::Entry(_) | Asked::Date(_) => Fault::ReflogWithoutName,
+        Asked::Sibling(_) => Fault::SiblingWithoutName,
     }
-    let answer = delegate.reflog(query);
-    demanded(answer, Fault::AtRefused, Some(inner), error)
 }
 
-// A branch that belongs to another, which no accepted prefix has.
-fn call_sibling<'a, D: Delegate>(
-    branch: SiblingBranch,
-    own: &'a [u8],
-    inner: &'a [u8],
-    own_prefix: bool,
-    error: &mut Error<'a>,
-    delegate: &mut D,
-) -> Result<(), Stopped>
-    ensures { Asks D.step (sibling_calls branch own.now inner.now own_prefix)
-        delegate.old delegate.new result error.new }
-{
-    if own_prefix {
-        return Err(fault(Fault::SiblingWithoutName, Some(own), error));
-    }
-    let answer = delegate.sibling_branch(branch);
-    demanded(answer, Fault::AtRefused, Some(inner), error)
-}
-
-/// A date in the reflog, if the text in braces is one.
-pub(crate) fn call_date<'a, D: Delegate>(
+// The reflog at the time that the braces `inner` mean, if they mean one.
+fn call_time<'a, D: Delegate>(
     time: Option<Time>,
-    own: &'a [u8],
     inner: &'a [u8],
-    own_prefix: bool,
-    error: &mut Error<'a>,
+    context: &mut Context<'a>,
     delegate: &mut D,
 ) -> Result<(), Stopped>
-    ensures { Asks D.step (date_calls time own.now inner.now own_prefix)
-        delegate.old delegate.new result error.new }
+    ensures asks { Asks D.step (at_time time inner.now)
+        delegate.old delegate.new result context.new.error }
+    ensures known { context_of context.new ≡ context_of context.old }
 {
-    if own_prefix {
-        return Err(fault(Fault::ReflogWithoutName, Some(own), error));
-    }
     let Some(time) = time else {
-        return Err(fault(Fault::Date, Some(inner), error));
+        return Err(fault(Fault::Date, Some(inner), context));
     };
     let answer = delegate.reflog(ReflogLookup::Date(time));
-    demanded(answer, Fault::AtRefused, Some(inner), error)
+    demanded(answer, Fault::AtRefused, Some(inner), context)
+}
+
+/// What the braces `inner` behind the name `own` ask for.
+pub(crate) fn call_asked<'a, D: Delegate>(
+    asked: Asked,
+    own: &'a [u8],
+    inner: &'a [u8],
+    context: &mut Context<'a>,
+    delegate: &mut D,
+) -> Result<(), Stopped>
+    ensures asks { Asks D.step (asked_calls asked own.now inner.now context.old.own_prefix)
+        delegate.old delegate.new result context.new.error }
+    ensures known { context_of context.new ≡ context_of context.old }
+{
+    if context.own_prefix {
+        return Err(fault(without_name(asked), Some(own), context));
+    }
+    match asked {
+        Asked::Entry(query) => {
+            let answer = delegate.reflog(query);
+            demanded(answer, Fault::AtRefused, Some(inner), context)
+        }
+        Asked::Date(time) => call_time(time, inner, context, delegate),
+        Asked::Sibling(branch) => {
+            let answer = delegate.sibling_branch(branch);
+            demanded(answer, Fault::AtRefused, Some(inner), context)
+        }
+    }
 }
 
 // A range mark, behind which the second revision begins.
@@ -246,7 +263,7 @@ fn call_range<'a, D: Delegate>(
         result context.new.error }
 {
     let answer = delegate.kind(kind);
-    demanded(answer, Fault::KindRefused(kind), None, &mut context.error)?;
+    demanded(answer, Fault::KindRefused(kind), None, context)?;
     context.own_prefix = false;
     Ok(())
 }
@@ -256,38 +273,39 @@ fn call_range<'a, D: Delegate>(
 fn call_closer<'a, D: Delegate>(
     kind: Kind,
     rest: &'a [u8],
-    error: &mut Error<'a>,
+    context: &mut Context<'a>,
     delegate: &mut D,
 ) -> Result<(), Stopped>
-    ensures { Asks D.step (closing_calls kind rest.now)
-        delegate.old delegate.new result error.new }
+    ensures asks { Asks D.step (closing_calls kind rest.now)
+        delegate.old delegate.new result context.new.error }
+    ensures known { context_of context.new ≡ context_of context.old }
 {
     let fault = Fault::KindRefused(kind);
-    demanded(delegate.kind(kind), fault, Some(rest), error)?;
+    demanded(delegate.kind(kind), fault, Some(rest), context)?;
     let fault = Fault::DoneRefusedInNavigation;
-    demanded(delegate.done(), fault, Some(rest), error)
+    demanded(delegate.done(), fault, Some(rest), context)
 }
 
 // The call that was accepted last, once more.
 fn call_again<'a, D: Delegate>(
-    anchor: Option<Anchor<'a>>,
     after: &'a [u8],
-    error: &mut Error<'a>,
+    context: &mut Context<'a>,
     delegate: &mut D,
 ) -> Result<(), Stopped>
-    ensures { Asks D.step (repeat (option_map call_of anchor.entry) after.now)
-        delegate.old delegate.new result error.new }
+    ensures asks { Asks D.step (repeat (option_map call_of context.old.anchor) after.now)
+        delegate.old delegate.new result context.new.error }
+    ensures known { context_of context.new ≡ context_of context.old }
 {
-    let Some(anchor) = anchor else {
-        return Err(fault(Fault::Unconsumed, Some(after), error));
+    let Some(anchor) = context.anchor else {
+        return Err(fault(Fault::Unconsumed, Some(after), context));
     };
     let fault = Fault::RepeatRefused;
     match anchor {
-        Anchor::Head => demanded(delegate.find_ref(b"HEAD"), fault, Some(after), error),
-        Anchor::Reference(name) => demanded(delegate.find_ref(name), fault, Some(after), error),
+        Anchor::Head => demanded(delegate.find_ref(b"HEAD"), fault, Some(after), context),
+        Anchor::Reference(name) => demanded(delegate.find_ref(name), fault, Some(after), context),
         Anchor::ByPrefix(prefix, hint) => {
             let answer = delegate.disambiguate_prefix(prefix, hint);
-            demanded(answer, fault, Some(after), error)
+            demanded(answer, fault, Some(after), context)
         }
     }
 }
@@ -297,23 +315,23 @@ fn call_without_parent<'a, D: Delegate>(
     number: usize,
     after: &'a [u8],
     rest: &'a [u8],
-    anchor: Option<Anchor<'a>>,
-    error: &mut Error<'a>,
+    context: &mut Context<'a>,
     delegate: &mut D,
 ) -> Result<(), Stopped>
-    ensures { Asks D.step
-        (without_parent_calls number after.now rest.now (option_map call_of anchor.entry))
-        delegate.old delegate.new result error.new }
+    ensures asks { Asks D.step
+        (without_parent_calls number after.now rest.now (option_map call_of context.old.anchor))
+        delegate.old delegate.new result context.new.error }
+    ensures known { context_of context.new ≡ context_of context.old }
 {
     let step = Traversal::NthParent(number);
     let fault = Fault::TraverseRefused(step);
-    demanded(delegate.traverse(step), fault, Some(after), error)?;
+    demanded(delegate.traverse(step), fault, Some(after), context)?;
     let kind = Kind::RangeBetween;
     let fault = Fault::KindRefused(kind);
-    demanded(delegate.kind(kind), fault, Some(after), error)?;
-    call_again(anchor, after, error, delegate)?;
+    demanded(delegate.kind(kind), fault, Some(after), context)?;
+    call_again(after, context, delegate)?;
     let fault = Fault::DoneRefusedInNavigation;
-    demanded(delegate.done(), fault, Some(rest), error)
+    demanded(delegate.done(), fault, Some(rest), context)
 }
 
 /// Makes the calls that a piece means.
@@ -327,11 +345,10 @@ pub(crate) fn perform<'a, D: Delegate>(
         delegate.old (context_of context.old) delegate.new (context_of context.new)
         result context.new.error }
 {
-    let error = &mut context.error;
     match piece {
         Piece::Exclude => {
             let kind = Kind::ExcludeReachable;
-            demanded(delegate.kind(kind), Fault::KindRefused(kind), None, error)
+            demanded(delegate.kind(kind), Fault::KindRefused(kind), None, context)
         }
         Piece::Regex {
             wanted,
@@ -340,7 +357,7 @@ pub(crate) fn perform<'a, D: Delegate>(
         } => { call_find(wanted, raw, negated, context, delegate) }
         Piece::Index { path, stage } => {
             let answer = delegate.index_lookup(path, stage);
-            demanded(answer, Fault::IndexRefused(stage), Some(path), error)
+            demanded(answer, Fault::IndexRefused(stage), Some(path), context)
         }
         Piece::Head => call_head(context, delegate),
         Piece::Name {
@@ -355,33 +372,33 @@ pub(crate) fn perform<'a, D: Delegate>(
         } => { call_prefix(text, whole, attempt, context, delegate) }
         Piece::Branch { number, inner } => {
             let answer = delegate.nth_checked_out_branch(number);
-            demanded(answer, Fault::AtRefused, Some(inner), error)
+            demanded(answer, Fault::AtRefused, Some(inner), context)
         }
         Piece::Reflog { query, own, inner } => {
-            call_reflog(query, own, inner, context.own_prefix, error, delegate)
+            call_asked(Asked::Entry(query), own, inner, context, delegate)
         }
         Piece::Sibling { branch, own, inner } => {
-            call_sibling(branch, own, inner, context.own_prefix, error, delegate)
+            call_asked(Asked::Sibling(branch), own, inner, context, delegate)
         }
         Piece::Step { step, after } => {
             let answer = delegate.traverse(step);
-            demanded(answer, Fault::TraverseRefused(step), Some(after), error)
+            demanded(answer, Fault::TraverseRefused(step), Some(after), context)
         }
         Piece::Peel { target, after } => {
             let answer = delegate.peel_until(target);
-            demanded(answer, Fault::PeelRefused, Some(after), error)
+            demanded(answer, Fault::PeelRefused, Some(after), context)
         }
         Piece::Path(path) => {
             let answer = delegate.peel_until(PeelTo::Path(path));
-            demanded(answer, Fault::PeelRefused, Some(path), error)
+            demanded(answer, Fault::PeelRefused, Some(path), context)
         }
-        Piece::Closer { kind, rest } => call_closer(kind, rest, error, delegate),
+        Piece::Closer { kind, rest } => call_closer(kind, rest, context, delegate),
         Piece::WithoutParent {
             number,
             after,
             rest,
-        } => { call_without_parent(number, after, rest, context.anchor, error, delegate) }
+        } => { call_without_parent(number, after, rest, context, delegate) }
         Piece::Range(kind) => call_range(kind, context, delegate),
-        Piece::Finish => demanded(delegate.done(), Fault::DoneRefused, None, error),
+        Piece::Finish => demanded(delegate.done(), Fault::DoneRefused, None, context),
     }
 }

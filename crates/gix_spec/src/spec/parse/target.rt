@@ -11,7 +11,7 @@ ghost use Rattle.gix_spec.specs.Targets.{target_named, banged_mark, regex_mark, 
 ghost use Rattle.gix_spec.specs.Targets.{peeled_to, inside_target, target_braces};
 
 use super::braces::{Braced, opened};
-use super::calls::call_find;
+use super::calls::{call_find, unopened};
 use super::context::{Context, Stopped};
 use super::delegate::{Delegate, PeelTo};
 use super::fault::Fault;
@@ -143,6 +143,8 @@ pub(crate) fn target<'a, A: Allocator, D: Delegate>(
         delegate.old (context_of context.old) delegate.new (context_of context.new)
         result context.new.error }
 {
-    let braces = opened(alloc, after, &mut context.error)?;
-    inside(&braces, after, context, delegate)
+    match opened(alloc, after) {
+        Ok(braces) => inside(&braces, after, context, delegate),
+        Err(why) => Err(unopened(why, after, context)),
+    }
 }

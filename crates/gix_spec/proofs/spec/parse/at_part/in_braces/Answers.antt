@@ -2,10 +2,10 @@ use Rattle.gix_spec.specs.AtParts.{at_braces}
 use Rattle.gix_spec.proofs.Opened.{braces_read, braces_stop}
 use Rattle.gix_spec.proofs.spec.parse.at_part.in_braces.Goals as goal
 
-pub returns-in_err-braces : goal.returns-in_err-braces
+pub returns-in-Ok : goal.returns-in-Ok
 unfolding at_braces
-returns-in_err-braces g c = braces_stop g.D.Listener.step c.args.text.now _ _ c.from_residual.result c.in_err-braces.ensures c.from_residual.ensures.1
+returns-in-Ok g c = braces_read g.D.Listener.step c.args.text.now _ c.in-Ok.braces c.in-Ok.ensures c.inside.ensures
 
-pub returns : goal.returns
+pub returns-in-Err : goal.returns-in-Err
 unfolding at_braces
-returns g c = braces_read g.D.Listener.step c.args.text.now _ c.in_ok-braces.braces c.in_ok-braces.ensures c.inside.ensures
+returns-in-Err g c = rw c.unopened.ensures (braces_stop g.D.Listener.step c.args.text _ c.in-Err.why c.in-Err.ensures)

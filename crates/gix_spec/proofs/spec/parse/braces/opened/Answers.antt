@@ -1,9 +1,8 @@
-use Rattle.std.proofs.Common.{refl}
 use Rattle.gix_spec.proofs.Pairs.{close_of-is, braced_there, braced_plain, braced_none}
 use Rattle.gix_spec.proofs.spec.parse.braces.opened.Goals as goal
 
 pub returns-in_default : goal.returns-in_default
-returns-in_default g c = rw c.fault.ensures (braced_none c.args.text.now c.in_default.ensures.none, refl, refl, refl, refl)
+returns-in_default g c = braced_none c.args.text.now c.in_default.ensures.none
 
 pub returns-then-not-escapes : goal.returns-then-not-escapes
 returns-then-not-escapes g c =

@@ -3,4 +3,4 @@ use Rattle.gix_spec.proofs.Runs.{performs_demand}
 use Rattle.gix_spec.proofs.spec.parse.calls.call_find.Goals as goal
 
 pub returns : goal.returns
-returns g c = performs_demand g.D.Listener.step (λ more. refl) c.find-answer.ensures c.demanded.ensures
+returns g c = performs_demand g.D.Listener.step (λ m. m) (λ more. refl) c.demanded.ensures.known c.find-answer.ensures c.demanded.ensures.told
