@@ -6,9 +6,9 @@
  * other than GIX_OK nothing was written to what its pointers lead to, but for the count of GIX_NONE; the history has the
  * commits that it had, and can be used again. Want of memory may come from each function that takes some.
  *
- * Pointers. None may be null, not even to no elements: pass the address of something, and the length 0. What is written
- * does not overlap what is read. Nothing that is passed is kept but copies, and no pointer into a history is answered.
- * A bool is 0 or 1.
+ * Pointers. None may be null, not even to no elements: pass the address of something, and the length 0. That of
+ * gix_history_free alone may be. What is written does not overlap what is read. Nothing that is passed is kept but copies,
+ * and no pointer into a history is answered. A bool is 0 or 1.
  *
  * Threads. A history may be handed to another thread, and used and freed there. No two calls on one history may run at
  * once, not even ones that only ask: what they find is kept in it. Two histories have nothing in common.
@@ -50,7 +50,7 @@ typedef struct gix_history gix_history;
  * GIX_OK, GIX_OUT_OF_MEMORY. */
 int32_t gix_history_new(gix_history **out);
 
-/* Frees a history, which may not be null and is not used again. It takes as long as the history is large. */
+/* Frees a history, which is not used again; of null nothing. It takes as long as the history is large. */
 void gix_history_free(gix_history *history);
 
 /* Puts a commit under an id that has none: its parents in order, its time in seconds since 1970, and its generation,

@@ -206,6 +206,7 @@ int main(void) {
     descriptions(history);
     texts(history);
     gix_history_free(history);
+    gix_history_free(NULL);
     puts(failed ? "failed" : "passed");
     return failed;
 }

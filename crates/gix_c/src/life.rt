@@ -8,7 +8,7 @@ ghost use Rattle.gix_c.specs.Answers.{ByCode, entry_given, id_of};
 ghost use Rattle.gix_c.specs.Behind.{commits_of};
 ghost use Rattle.gix_c.specs.Missing.{IsNoted};
 ghost use Rattle.gix_c.specs.declared.handle.Handle.{Handle};
-ghost use Rattle.gix_c.specs.Owned.{owns_handle, IsNew};
+ghost use Rattle.gix_c.specs.Owned.{owns_unless_null, IsNew};
 
 use crate::handle::Handle;
 use crate::history::History;
@@ -83,11 +83,14 @@ fn dispose(handle: Loose<Handle, Global>) {
     drop(handle.into_box());
 }
 
-/// Frees a history that [`gix_history_new`] made.
+/// Frees a history that [`gix_history_new`] made. Null is none, and does nothing.
 #[unsafe(no_mangle)]
 pub unsafe extern "C" fn gix_history_free(alloc: Global, history: *mut Handle)
     ghost value: { Handle }
-    requires* { sem 𝓛 (owns_handle alloc history value) }
+    requires* { sem 𝓛 (owns_unless_null alloc history value) }
 {
+    if history.is_null() {
+        return;
+    }
     dispose(Loose { at: history, alloc });
 }

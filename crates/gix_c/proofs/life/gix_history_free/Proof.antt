@@ -1,23 +1,26 @@
--- `gix_history_free` takes over the block that its caller owns, and has it dropped.
-use Rattle.std.proofs.Common.{[], ◌∷◌, refl, ap}
+-- `gix_history_free` takes over the block that its caller owns, and has it dropped; of null nothing.
+use Rattle.std.proofs.Common.{ℕ, List, [], ◌∷◌, refl, ap, lit<}
 use Rattle.std.proofs.raw_atomic.Walks.{proved}
-use base.Logic.{id⊢, fst∗, never}
-use base.Fml.{ftrue}
+use seplogic.Ra.Ura.{Ura}
+use base.Logic.{ent, guard, guard_i, id⊢, snd∗, via}
+use base.Fml.{Fml, ftrue}
+use base.Fraction.{full_share}
 use mir.Val.{Val, vunit, vptr}
 use mir.Raw.{raw as bare}
+use contract.Monad.{fact_use}
 use contract.Running.{tables}
 use prog.Wp.{WpFn}
-use types.Logic.{sem}
-use types.Kit.{‵, raw, ◌⊛◌, some, later, prop, ◌$◌, ◌∵◌, !, qed, done, move, drop, use1, use2, split, join, fsplit, feq_i, feq_l, pick, await, regoal, suffices, group}
+use types.Logic.{Logic, sem}
+use types.Kit.{Item, Goal, Seq, ‵, raw, given, learn, at_ret, ◌⊛◌, some, later, prop, ◌$◌, ◌∵◌, !, qed, done, move, drop, use1, use2, split, join, fsplit, feq_i, feq_l, pick, await, suffices, group}
 use types.Part.{agg}
-use types.Run.{enter, of_opd, unit_lit, no_more, and_then, returns}
-use types.ByLocal.{alloc_all, pass_all, free_all, look_at, get, sets, lands_as}
+use types.Run.{enter, of_opd, lit, unit_lit, bin, no_more, and_then, first, branches, skips, exec, returns, returns_within}
+use types.ByLocal.{alloc_all, pass_all, free_all, look_at, get, sets, lands_as, env}
 use denote.Builtin.{unit}
 use denote.Param.{layout}
 use denote.Exit.{yes}
 use denote.Memory.{lone}
 use denote.RattleType.{owns}
-use denote.RawPtr.{Ptr, RawPtr, block_ptr, null_ptr, in_a_block, rawptr_vals, rawptr_Tells}
+use denote.RawPtr.{Ptr, RawPtr, block_ptr, null_ptr, lies_at, Testable, tests_null, rawptr_vals, rawptr_Tells}
 use denote.Signature.{plain, types_at}
 use denote.Steps.{nothing, only}
 use denote.Triple.Call.{calls_at}
@@ -28,10 +31,13 @@ use denote.Triple.Walked.{Stays, walk_of, stay_dropped, Goes-dropped, ends_at}
 use Rattle.std_heap.specs.contracts.Global as Heap
 use Rattle.std_heap.specs.contracts.GlobalAllocator.TheImpl.{ghosts}
 use Rattle.std_heap.proofs.Global.TheLaws as heap
+use Rattle.std_heap.proofs.GlobalToken.{dealloc_token-Testable}
 use Rattle.std_heap.proofs.Handle.{heap_val, heap_Tells}
+use Rattle.core.specs.Ptr.{if_non_null}
+use Rattle.std_alloc.proofs.VecSteps.Shapes.{after}
 use Rattle.core.proofs.cell.Inside.{Good}
 use Rattle.gix_c.proofs.Values.{both, Loose, loose_good, loose_in}
-use Rattle.gix_c.specs.Owned.{owns_handle}
+use Rattle.gix_c.specs.Owned.{owns_handle, owns_unless_null}
 use Rattle.gix_c.specs.contracts.handle.Handle.{the_row as R}
 use Rattle.gix_c.specs.contracts.life.gix_history_free as f
 use Rattle.gix_c.proofs.life.gix_history_free.Statement.{statement}
@@ -42,6 +48,13 @@ use Rattle.gix_c.proofs.life.dispose.Met.{met}
 abbrev stayed : Stays f.ended.signature.params f.ended.kept
 stayed = (stay_dropped _ yes, (stay_dropped _ yes, tt))
 
+-- by whether a pointer is null
+module _ {M : Type 1} {𝓤 : Ura M} {𝓛 : Logic 𝓤} {K : Type 0} {Γ : List (Item 𝓤)} where
+  null_or_block : K → (p : Ptr) (F : Ptr → Fml) (G : Ptr → Goal 𝓤 𝓛.H) → Seq K 𝓛 (‵ ftrue ∷ Γ) (G null_ptr)
+      → ((b o : ℕ) → Seq K 𝓛 (‵ (F (block_ptr b o)) ∷ Γ) (G (block_ptr b o))) → Seq K 𝓛 (‵ (if_non_null p (F p)) ∷ Γ) (G p)
+  null_or_block t (block_ptr b o) F G n k = k b o
+  null_or_block t null_ptr F G n k = n
+
 pub gix_history_free_spec : {M : Type 1} → statement M
 gix_history_free_spec 𝓤 𝓛 𝓜 𝓡 wired =
     let c = f.clauses 𝓛 𝓜.mem 𝓡.returns in let W = walk_of 𝓛 f.ended stayed c in let 𝓣 = tables 𝓤 𝓛.H 𝓜 𝓡 𝓡.env in
@@ -50,16 +63,32 @@ gix_history_free_spec 𝓤 𝓛 𝓜 𝓡 wired =
     (λ κs. ((λ _. heap_val ∷ []), (rawptr_vals, tt))) (λ κs. (heap_Tells, (rawptr_Tells, tt))) (λ κs qs bounds a n are.
     let y : Ptr → W.Ghost = λ p. ((κs, qs, bounds, (a.0, (p, tt)), (heap_val ∷ [], (rawptr_vals p, tt))), n) in
     let G = triple_of 𝓛 g.signature (g.spec 𝓛 𝓜.mem 𝓡.returns) in
-    qed 𝓛 ((‵ ftrue ⊛ ‵ (owns (types_at f.signature.params κs) a (y a.1.0).0.4)) ∷ ‵ (owns_handle a.0 a.1.0 n) ∷ []) ∵ split ! $ drop ! $ fsplit ! $ move ! (1 ∷ []) $ drop ! $ move ! (1 ∷ []) $
-    -- [the block; the allocator]
-    in_a_block ! a.1.0 (λ p. owns_handle a.0 p n) (fst∗ 𝓤 (never 𝓤) (sem 𝓛 (ghosts.dealloc_token a.0 (bare (lone R.mir)) null_ptr))) (λ b o e.
-    regoal ! (λ p. prop (WpFn 𝓤 𝓛.H 𝓣.C 𝓣.Λ code.function (heap_val ∷ rawptr_vals p) (W.post (y p)))) e refl $
-    let v : (Loose R Heap.the_row heap.the_row_laws ghosts).Denot = record { at = block_ptr b o; alloc = a.0; value = n } in
+    let good : Good (layout Heap.the_row) heap_val = (tt, ((tt, tt), tt)) in
+    qed 𝓛 ((‵ ftrue ⊛ ‵ (owns (types_at f.signature.params κs) a (y a.1.0).0.4)) ∷ ‵ (owns_unless_null a.0 a.1.0 n) ∷ []) ∵ split ! $ drop ! $ fsplit ! $ move ! (1 ∷ []) $ drop ! $ move ! (1 ∷ []) $
+    -- [what is owned of the pointer; the allocator]
+    null_or_block ! a.1.0 (λ p. owns_handle a.0 p n) (λ p. prop (WpFn 𝓤 𝓛.H 𝓣.C 𝓣.Λ code.function (heap_val ∷ rawptr_vals p) (W.post (y p))))
+    (drop ! $ drop ! $
+    enter ! _ _ _ _ _ $ alloc_all ! (λ l. pass_all ! refl (good, ((tt, record { fits = lit< tt }), tt)) $
+    sets ! (bin ! (get ! refl) (lit ! tt) tt) refl (tt, tt) $
+    first ! $ branches ! (get ! refl)
+    (λ _. sets ! (of_opd ! (unit_lit !)) refl (tt, tt) $
+    returns_within ! (W.post (y null_ptr)) refl (look_at ! 0 refl) $ free_all ! refl $
+    suffices ! _ (ends_at 𝓛 f.ended stayed c (y null_ptr) vunit tt (tt, (tt, tt)) (tt, (tt, tt))) $
+    nothing ! $ feq_i ! _ (vunit ∷ []) _ refl $ nothing ! $ nothing ! $ join ! $ nothing ! $ join ! $ nothing ! $ group ! 3 $ done !)
+    (λ wrong. absurd wrong)))
+    (λ b o.
+    let p : Ptr = block_ptr b o in
+    let token = ghosts.dealloc_token a.0 (bare (lone R.mir)) p in
+    use1 𝓛 (given (Testable p) (‵ (owns_handle a.0 p n))) (fact_use 𝓤 (Testable p) (via 𝓤 _ (snd∗ 𝓤 (sem 𝓛 (lies_at R full_share p n)) (sem 𝓛 token)) (dealloc_token-Testable 𝓛 a.0 (bare (lone R.mir)) p)) (guard_i 𝓤 (Testable p) _)) $
+    learn ! (λ testable.
+    let v : (Loose R Heap.the_row heap.the_row_laws ghosts).Denot = record { at = p; alloc = a.0; value = n } in
     let w : Val = both (vptr b o) heap_val in
     let z : G.Ghost = ((tt, tt, tt, (v, tt), (w ∷ [], tt)), tt) in
-    let good : Good (layout Heap.the_row) heap_val = (tt, ((tt, tt), tt)) in
     loose_in R Heap.the_row heap.the_row_laws ghosts ! b o heap_val a.0 n $
     enter ! _ _ _ _ _ $ alloc_all ! (λ l. pass_all ! refl (good, ((tt, tt), tt)) $
+    sets ! (bin ! (get ! refl) (lit ! tt) (tests_null p testable)) refl (tt, tt) $
+    first ! $ branches ! (get ! refl) (λ wrong. absurd wrong)
+    (λ _. skips ! $ exec ! 𝓣.C 𝓣.Λ (env code.function.locals l) (after 2 code.function.body) (at_ret _ (W.post (y p))) $
     sets ! (agg ! (and_then ! (get ! refl) (and_then ! (get ! refl) (no_more !)))) refl (loose_good R Heap.the_row heap.the_row_laws ghosts b o heap_val good) $
     nothing ! $ move ! (1 ∷ 0 ∷ []) $ join ! $ nothing ! $ join ! $ nothing ! $ move ! (1 ∷ 0 ∷ []) $ use2 𝓛 (raw (G.pre z)) (id⊢ 𝓤 _) $
     -- dispose(..)
@@ -71,5 +100,5 @@ gix_history_free_spec 𝓤 𝓛 𝓜 𝓡 wired =
     lands_as ! (ap only is_unit) refl (tt, tt) $
     sets ! (of_opd ! (unit_lit !)) refl (tt, tt) $
     returns ! (look_at ! 0 refl) $ free_all ! refl $
-    suffices ! _ (ends_at 𝓛 f.ended stayed c (y (block_ptr b o)) vunit tt (tt, (tt, tt)) (tt, (tt, tt))) $
-    nothing ! $ feq_i ! _ (vunit ∷ []) _ refl $ nothing ! $ nothing ! $ join ! $ nothing ! $ join ! $ nothing ! $ group ! 3 $ done !)))))))
+    suffices ! _ (ends_at 𝓛 f.ended stayed c (y p) vunit tt (tt, (tt, tt)) (tt, (tt, tt))) $
+    nothing ! $ feq_i ! _ (vunit ∷ []) _ refl $ nothing ! $ nothing ! $ join ! $ nothing ! $ join ! $ nothing ! $ group ! 3 $ done !)))))))))
