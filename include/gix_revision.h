@@ -3,8 +3,8 @@
  * Each answer is that of a proved call; docs/C.md says what is proved of each function here.
  *
  * Codes. A function that answers an int32_t answers one of the codes below, and never ends the process. After a code
- * other than GIX_OK nothing was written to what its pointers lead to, but for the count of GIX_NONE; the history has the
- * commits that it had, and can be used again. Want of memory may come from each function that takes some.
+ * other than GIX_OK nothing was written to what its pointers lead to, but for the count of GIX_NONE and the fault of a
+ * text; the history has the commits that it had, and can be used again. Want of memory may come from each function that takes some.
  *
  * Pointers. None may be null, not even to no elements: pass the address of something, and the length 0. That of
  * gix_history_free alone may be. What is written does not overlap what is read. Nothing that is passed is kept but copies,
@@ -153,20 +153,30 @@ typedef struct {
     gix_id second; /* counts for GIX_RANGE and GIX_MERGE; else it is written as the first, and not read */
 } gix_span;
 
+/* The fault of a text: its number, from 1 to 27, and the part of the text that it names, by its first byte and how many
+ * there are. Where the text has these bytes more than once, start is the last place at which it has them. A fault that
+ * names no part has start and length 0. */
+typedef struct {
+    uint8_t number;
+    size_t start;
+    size_t length;
+} gix_fault;
+
 /* Says what a name stands for in texts, `HEAD` too. A name that stood for another id stands for this one.
  * GIX_OK, GIX_OUT_OF_MEMORY. */
 int32_t gix_history_name(gix_history *history, const uint8_t *name, size_t name_len, const gix_id *id);
 
 /* The set of commits that a text means, as main~2..topic: gitrevisions. First digits of an id come before names. Dates
- * are read at `seconds` since 1970 and an offset in seconds.
+ * are read at `seconds` since 1970 and an offset in seconds. Where the text is refused *fault says where it is at fault,
+ * and else *fault stays as it is.
  * GIX_OK, GIX_FAULT and the number of a fault, GIX_OUT_OF_MEMORY. */
 int32_t gix_history_resolve(gix_history *history, const uint8_t *text, size_t text_len, int64_t seconds, int32_t offset,
-                            gix_span *out);
+                            gix_span *out, gix_fault *fault);
 
 /* As gix_history_resolve, with names before first digits of an id, as git has them: 1059-login is a branch of that name,
  * where there is one. */
 int32_t gix_history_rev_parse(gix_history *history, const uint8_t *text, size_t text_len, int64_t seconds, int32_t offset,
-                              gix_span *out);
+                              gix_span *out, gix_fault *fault);
 
 /* A page of the commits of a set, by rising id: at most out_len of them, past the last id of the page before, where
  * after_len is 1; from the first on where it is 0. A page that is not full is the last. Each page makes the whole list.

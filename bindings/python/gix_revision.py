@@ -43,6 +43,10 @@ class _Span(ctypes.Structure):
     _fields_ = [("kind", ctypes.c_uint32), ("first", _Id), ("second", _Id)]
 
 
+class _Fault(ctypes.Structure):
+    _fields_ = [("number", ctypes.c_uint8), ("start", ctypes.c_size_t), ("length", ctypes.c_size_t)]
+
+
 class Kind(IntEnum):
     """How a set of commits is spanned."""
 
@@ -90,11 +94,14 @@ class NoKind(Refused):
 
 
 class Fault(Refused):
-    """A text is refused, by the number of its fault, from 1 to 27."""
+    """A text is refused, by the number of its fault, from 1 to 27, which names the part from byte `start` on, of `length` bytes. Of
+    several places at which the text has these bytes `start` is the last."""
 
-    def __init__(self, number: int) -> None:
-        super().__init__(f"the text is refused by fault {number}")
+    def __init__(self, number: int, start: int, length: int) -> None:
+        super().__init__(f"the text is refused by fault {number}, in {length} bytes from {start} on")
         self.number = number
+        self.start = start
+        self.length = length
 
 
 _NONE = 1
@@ -127,8 +134,8 @@ _declare(
     ctypes.POINTER(ctypes.c_uint32),
 )
 _declare("name", _HANDLE, _BYTES, _SIZE, _ID)
-_declare("resolve", _HANDLE, _BYTES, _SIZE, ctypes.c_int64, ctypes.c_int32, ctypes.POINTER(_Span))
-_declare("rev_parse", _HANDLE, _BYTES, _SIZE, ctypes.c_int64, ctypes.c_int32, ctypes.POINTER(_Span))
+_declare("resolve", _HANDLE, _BYTES, _SIZE, ctypes.c_int64, ctypes.c_int32, ctypes.POINTER(_Span), ctypes.POINTER(_Fault))
+_declare("rev_parse", _HANDLE, _BYTES, _SIZE, ctypes.c_int64, ctypes.c_int32, ctypes.POINTER(_Span), ctypes.POINTER(_Fault))
 _declare("list", _HANDLE, ctypes.POINTER(_Span), _ID, _SIZE, _ID, _SIZE, _COUNT)
 _declare("count", _HANDLE, ctypes.POINTER(_Span), _COUNT)
 
@@ -155,7 +162,7 @@ def _answered(code: int) -> bool:
         return code == 0
     if code == -1:
         raise MemoryError
-    raise Fault(code - 100) if code > 100 else _REFUSALS[code]()
+    raise _REFUSALS[code]()
 
 
 class History:
@@ -180,10 +187,13 @@ class History:
     def __del__(self) -> None:
         self.close()
 
-    def _call(self, name: str, *arguments: object) -> bool:
+    def _code(self, name: str, *arguments: object) -> int:
         if not self._at:
             raise ValueError("the history is closed")
-        return _answered(getattr(_library, f"gix_history_{name}")(self._at, *arguments))
+        return getattr(_library, f"gix_history_{name}")(self._at, *arguments)
+
+    def _call(self, name: str, *arguments: object) -> bool:
+        return _answered(self._code(name, *arguments))
 
     def insert(self, id: Id, parents: Sequence[Id], time: int, generation: int | None = None) -> None:
         """Puts a commit under an id that has none. Raises AlreadyThere."""
@@ -268,8 +278,11 @@ class History:
         return self._span("rev_parse", text, seconds, offset)
 
     def _span(self, call: str, text: bytes, seconds: int, offset: int) -> Span:
-        span = _Span()
-        self._call(call, text, len(text), seconds, offset, span)
+        span, fault = _Span(), _Fault()
+        code = self._code(call, text, len(text), seconds, offset, span, fault)
+        if code > 100:
+            raise Fault(fault.number, fault.start, fault.length)
+        _answered(code)
         return Span(Kind(span.kind), _hex(span.first), _hex(span.second))
 
     def list(self, span: Span, page: int = 1000) -> Iterator[str]:

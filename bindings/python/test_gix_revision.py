@@ -61,8 +61,8 @@ class Calls(unittest.TestCase):
         self.history.name(b"5555", id_of(0x44))
         self.assertEqual(self.history.rev_parse(b"5555").first, id_of(0x44))
         with self.assertRaises(Fault) as refused:
-            self.history.resolve(b"nowhere")
-        self.assertEqual(refused.exception.number, 12)
+            self.history.resolve(b"main..nowhere~2")
+        self.assertEqual((refused.exception.number, refused.exception.start, refused.exception.length), (12, 6, 9))
 
     def test_refusals(self) -> None:
         with self.assertRaises(AlreadyThere):

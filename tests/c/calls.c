@@ -166,21 +166,29 @@ static void descriptions(gix_history *history) {
 static void texts(gix_history *history) {
     gix_id four = id_of(0x44), five = id_of(0x55), out[4];
     gix_span span;
+    gix_fault fault = {9, 9, 9};
     size_t count = 99;
     EXPECT(gix_history_name(history, text_of("main"), 4, &five) == GIX_OK);
     EXPECT(gix_history_name(history, text_of("main"), 4, &four) == GIX_OK);
-    EXPECT(gix_history_resolve(history, text_of("main~1..5555"), 12, 0, 0, &span) == GIX_OK);
+    EXPECT(gix_history_resolve(history, text_of("main~1..5555"), 12, 0, 0, &span, &fault) == GIX_OK);
     EXPECT(span.kind == GIX_RANGE && is_id(&span.first, 0x22) && is_id(&span.second, 0x55));
-    EXPECT(gix_history_resolve(history, text_of("nowhere"), 7, 0, 0, &span) == GIX_FAULT + 12);
-    EXPECT(gix_history_resolve(history, text_of("main~x"), 6, 0, 0, &span) > GIX_FAULT);
+    EXPECT(fault.number == 9 && fault.start == 9 && fault.length == 9);
+    EXPECT(gix_history_resolve(history, text_of("main..nowhere~2"), 15, 0, 0, &span, &fault) == GIX_FAULT + 12);
+    EXPECT(fault.number == 12 && fault.start == 6 && fault.length == 9);
+    EXPECT(gix_history_resolve(history, text_of("main~x"), 6, 0, 0, &span, &fault) == GIX_FAULT + 4);
+    EXPECT(fault.number == 4 && fault.start == 5 && fault.length == 1);
+    EXPECT(gix_history_resolve(history, text_of("main~9"), 6, 0, 0, &span, &fault) == GIX_FAULT + 24);
+    EXPECT(fault.number == 24 && fault.start == 5 && fault.length == 1);
+    EXPECT(gix_history_resolve(history, text_of("@"), 1, 0, 0, &span, &fault) == GIX_FAULT + 2);
+    EXPECT(fault.number == 2 && fault.start == 0 && fault.length == 0);
     EXPECT(span.kind == GIX_RANGE && is_id(&span.first, 0x22));
 
     /* Digits that are a name, too. */
     EXPECT(gix_history_name(history, text_of("5555"), 4, &four) == GIX_OK);
-    EXPECT(gix_history_rev_parse(history, text_of("^5555"), 5, 0, 0, &span) == GIX_OK);
+    EXPECT(gix_history_rev_parse(history, text_of("^5555"), 5, 0, 0, &span, &fault) == GIX_OK);
     EXPECT(span.kind == GIX_EXCLUDE && is_id(&span.first, 0x44) && is_id(&span.second, 0x44));
-    EXPECT(gix_history_rev_parse(history, text_of("main^{tree}"), 11, 0, 0, &span) == GIX_FAULT + 25);
-    EXPECT(gix_history_resolve(history, text_of("main~1..5555"), 12, 0, 0, &span) == GIX_OK);
+    EXPECT(gix_history_rev_parse(history, text_of("main^{tree}"), 11, 0, 0, &span, &fault) == GIX_FAULT + 25);
+    EXPECT(gix_history_resolve(history, text_of("main~1..5555"), 12, 0, 0, &span, &fault) == GIX_OK);
 
     EXPECT(gix_history_list(history, &span, out, 0, out, 4, &count) == GIX_OK);
     EXPECT(count == 2 && is_id(&out[0], 0x33) && is_id(&out[1], 0x55));

@@ -61,6 +61,7 @@ static void calls(gix_history *history, long turn) {
     gix_name name = {one, text_of("v1"), 2};
     gix_how how = {10, 7, false, false, false};
     gix_span span;
+    gix_fault fault;
     uint8_t text[32];
     size_t count = 0, len = 0;
     uint32_t depth = 0;
@@ -86,8 +87,8 @@ static void calls(gix_history *history, long turn) {
     UNTIL(GIX_OK, gix_history_describe(history, &four, &name, 1, &how, text, sizeof text, &len, &depth));
     EXPECT(len == 13 && memcmp(text, "v1-3-g4444444", 13) == 0);
     UNTIL(GIX_OK, gix_history_name(history, text_of("main"), 4, &four));
-    UNTIL(GIX_OK, gix_history_resolve(history, text_of("5555~1..main^{commit}"), 21, 0, 0, &span));
-    UNTIL(GIX_OK, gix_history_rev_parse(history, text_of("5555^..main^{}"), 14, 0, 0, &span));
+    UNTIL(GIX_OK, gix_history_resolve(history, text_of("5555~1..main^{commit}"), 21, 0, 0, &span, &fault));
+    UNTIL(GIX_OK, gix_history_rev_parse(history, text_of("5555^..main^{}"), 14, 0, 0, &span, &fault));
     UNTIL(GIX_OK, gix_history_list(history, &span, &one, 0, out, 4, &count));
     EXPECT(count == 2 && is_id(&out[0], 0x33) && is_id(&out[1], 0x44));
     UNTIL(GIX_OK, gix_history_count(history, &span, &count));

@@ -2,5 +2,6 @@ pub mod AsBox
 pub mod Values
 pub mod Lacking
 pub mod Named
+pub mod Parts
 pub mod Printed
 pub mod Undescribed

@@ -10,6 +10,8 @@ use Rattle.gix_revision.specs.Types.Error.TheVariants.{OutOfMemory, Refused}
 use Rattle.gix_revwalk.specs.Sizes.{HasSize, AtMost}
 use Rattle.gix_resolve.specs.ListMeaning.{IsMeant, IsPage}
 use Rattle.gix_c.specs.Answers.{id_of, bytes_in, IsWritten}
+use Rattle.gix_c.specs.FaultPlaces.{IsFaultAt}
+use Rattle.gix_c.specs.declared.faults.FaultPlace.{FaultPlace}
 use Rattle.gix_c.specs.declared.revisions.Span.{Span}
 
 -- the set that a kind and two ids stand for
@@ -33,11 +35,12 @@ abbrev pub IsCodeOf : Error → ℤ → Type 0
 IsCodeOf (Refused fault input first second) code = code ≡ pos (100 + number_of fault)
 IsCodeOf OutOfMemory code = ⊥
 
--- the text is refused by the fault that the code tells
-pub record HasFault (Means : Result Spec Error → Type 0) (code : ℤ) : Type 0 where
+-- the text is refused by the fault that the code tells, with the part that is written
+pub record HasFault (Means : Result Spec Error → Type 0) (text : List ℕ) (place : FaultPlace) (code : ℤ) : Type 0 where
   pub error : Error
   pub means : Means (Err error)
   pub told : IsCodeOf error code
+  pub placed : IsFaultAt text error place
 
 -- a page of the commits of a set, as many as there is room for, is counted and written
 pub record HasPage (h : History) (span : Span) (bound : Option ObjectId) (old new : List (List ℕ)) (count : ℕ) : Type 0 where

@@ -5,6 +5,7 @@
 mod bases;
 mod counts;
 mod describe;
+mod faults;
 mod handle;
 mod history;
 mod ids;
@@ -17,6 +18,7 @@ mod revisions;
 mod status;
 
 pub use describe::{How, Name};
+pub use faults::FaultPlace;
 pub use handle::Handle;
 pub use place::Place;
 pub use revisions::Span;

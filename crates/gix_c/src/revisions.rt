@@ -8,6 +8,7 @@ ghost use Rattle.gix_c.specs.Answers.{ByCode, id_of};
 ghost use Rattle.gix_c.specs.Behind.{commits_of};
 ghost use Rattle.gix_c.specs.Spans.{spec_at, HasFault, HasSpec, HasPage};
 
+use crate::faults::{FaultPlace, fault_place};
 use crate::handle::Handle;
 use crate::ids::{bytes_of, bytes_of_each, write};
 use crate::status::{FAULT, NO_KIND, OK, OUT_OF_MEMORY};
@@ -114,14 +115,16 @@ pub extern "C" fn gix_history_resolve(
     seconds: i64,
     offset: i32,
     out: &mut Span,
+    fault: &mut FaultPlace,
 ) -> i32
     ensures spec { ByCode result
         (HasSpec (Resolved text.now (record { seconds = seconds; offset = offset })
         history.old.value.table (commits_of history.old)) out.new)
         (HasFault (Resolved text.now (record { seconds = seconds; offset = offset })
-        history.old.value.table (commits_of history.old)) result)
+        history.old.value.table (commits_of history.old)) text.now fault.new result)
         (result ≡ OUT_OF_MEMORY) }
     ensures kept { ByCode result ⊤ (out.new ≡ out.old) (out.new ≡ out.old) }
+    ensures faultless { ByCode result (fault.new ≡ fault.old) ⊤ (fault.new ≡ fault.old) }
     ensures commits { commits_of history.new ≡ commits_of history.old }
     ensures named { history.new.value.named ≡ history.old.value.named }
 {
@@ -133,7 +136,16 @@ pub extern "C" fn gix_history_resolve(
             OK
         }
         Err(Error::OutOfMemory) => OUT_OF_MEMORY,
-        Err(Error::Refused { fault, .. }) => FAULT + i32::from(fault.number()),
+        Err(
+            Error::Refused {
+                fault: found,
+                input,
+                ..
+            },
+        ) => {
+            *fault = fault_place(text, found.number(), input);
+            FAULT + i32::from(found.number())
+        }
     }
 }
 
@@ -147,14 +159,16 @@ pub extern "C" fn gix_history_rev_parse(
     seconds: i64,
     offset: i32,
     out: &mut Span,
+    fault: &mut FaultPlace,
 ) -> i32
     ensures spec { ByCode result
         (HasSpec (RevParsed text.now (record { seconds = seconds; offset = offset })
         history.old.value.table (commits_of history.old)) out.new)
         (HasFault (RevParsed text.now (record { seconds = seconds; offset = offset })
-        history.old.value.table (commits_of history.old)) result)
+        history.old.value.table (commits_of history.old)) text.now fault.new result)
         (result ≡ OUT_OF_MEMORY) }
     ensures kept { ByCode result ⊤ (out.new ≡ out.old) (out.new ≡ out.old) }
+    ensures faultless { ByCode result (fault.new ≡ fault.old) ⊤ (fault.new ≡ fault.old) }
     ensures commits { commits_of history.new ≡ commits_of history.old }
     ensures named { history.new.value.named ≡ history.old.value.named }
 {
@@ -166,7 +180,16 @@ pub extern "C" fn gix_history_rev_parse(
             OK
         }
         Err(Error::OutOfMemory) => OUT_OF_MEMORY,
-        Err(Error::Refused { fault, .. }) => FAULT + i32::from(fault.number()),
+        Err(
+            Error::Refused {
+                fault: found,
+                input,
+                ..
+            },
+        ) => {
+            *fault = fault_place(text, found.number(), input);
+            FAULT + i32::from(found.number())
+        }
     }
 }
 

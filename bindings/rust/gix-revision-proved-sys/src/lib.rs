@@ -58,6 +58,14 @@ pub struct gix_span {
     pub second: gix_id,
 }
 
+#[repr(C)]
+#[derive(Clone, Copy, Debug)]
+pub struct gix_fault {
+    pub number: u8,
+    pub start: usize,
+    pub length: usize,
+}
+
 extern "C" {
     pub fn gix_history_new(out: *mut *mut gix_history) -> i32;
     pub fn gix_history_free(history: *mut gix_history);
@@ -146,6 +154,7 @@ extern "C" {
         seconds: i64,
         offset: i32,
         out: *mut gix_span,
+        fault: *mut gix_fault,
     ) -> i32;
     pub fn gix_history_rev_parse(
         history: *mut gix_history,
@@ -154,6 +163,7 @@ extern "C" {
         seconds: i64,
         offset: i32,
         out: *mut gix_span,
+        fault: *mut gix_fault,
     ) -> i32;
     pub fn gix_history_list(
         history: *mut gix_history,

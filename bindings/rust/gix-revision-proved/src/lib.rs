@@ -45,8 +45,13 @@ pub enum Error {
     NoCommit,
     /// There are more commits than a count of 32 bits can say.
     TooMany,
-    /// The text is refused, by the number of its fault, from 1 to 27.
-    Fault(i32),
+    /// The text is refused, by the number of its fault, from 1 to 27, which names the part that begins at a byte of the
+    /// text and has so many. Of several places at which the text has these bytes `start` is the last.
+    Fault {
+        number: u8,
+        start: usize,
+        length: usize,
+    },
 }
 
 impl fmt::Display for Error {
@@ -56,7 +61,14 @@ impl fmt::Display for Error {
             Error::AlreadyThere => f.write_str("the history has a commit under that id"),
             Error::NoCommit => f.write_str("the history lacks that commit"),
             Error::TooMany => f.write_str("there are too many commits to count"),
-            Error::Fault(number) => write!(f, "the text is refused by fault {number}"),
+            Error::Fault {
+                number,
+                start,
+                length,
+            } => write!(
+                f,
+                "the text is refused by fault {number}, in {length} bytes from {start} on"
+            ),
         }
     }
 }
@@ -71,10 +83,28 @@ fn answered(code: i32) -> Result<bool, Error> {
         sys::GIX_ALREADY_THERE => Err(Error::AlreadyThere),
         sys::GIX_NO_COMMIT => Err(Error::NoCommit),
         sys::GIX_TOO_MANY => Err(Error::TooMany),
-        code if code > sys::GIX_FAULT => Err(Error::Fault(code - sys::GIX_FAULT)),
         _ => Err(Error::OutOfMemory),
     }
 }
+
+/// The set of commits that a text means, once it is asked for.
+fn meant(code: i32, span: &sys::gix_span, fault: &sys::gix_fault) -> Result<Span, Error> {
+    if code > sys::GIX_FAULT {
+        return Err(Error::Fault {
+            number: fault.number,
+            start: fault.start,
+            length: fault.length,
+        });
+    }
+    answered(code)?;
+    Ok(Span::of_raw(span))
+}
+
+const NO_FAULT: sys::gix_fault = sys::gix_fault {
+    number: 0,
+    start: 0,
+    length: 0,
+};
 
 /// How a commit is described: git-describe, "Options".
 #[derive(Clone, Copy, Debug)]
@@ -385,7 +415,8 @@ impl History {
     /// The set of commits that a text means, read at so many seconds since 1970 and that offset: first digits of an id before names.
     pub fn resolve(&mut self, text: &[u8], seconds: i64, offset: i32) -> Result<Span, Error> {
         let mut raw = Span::Include(Id([0; 20])).to_raw();
-        answered(unsafe {
+        let mut fault = NO_FAULT;
+        let code = unsafe {
             sys::gix_history_resolve(
                 self.at(),
                 text.as_ptr(),
@@ -393,15 +424,17 @@ impl History {
                 seconds,
                 offset,
                 &mut raw,
+                &mut fault,
             )
-        })?;
-        Ok(Span::of_raw(&raw))
+        };
+        meant(code, &raw, &fault)
     }
 
     /// As [`History::resolve`], with names before first digits of an id, as git has them.
     pub fn rev_parse(&mut self, text: &[u8], seconds: i64, offset: i32) -> Result<Span, Error> {
         let mut raw = Span::Include(Id([0; 20])).to_raw();
-        answered(unsafe {
+        let mut fault = NO_FAULT;
+        let code = unsafe {
             sys::gix_history_rev_parse(
                 self.at(),
                 text.as_ptr(),
@@ -409,9 +442,10 @@ impl History {
                 seconds,
                 offset,
                 &mut raw,
+                &mut fault,
             )
-        })?;
-        Ok(Span::of_raw(&raw))
+        };
+        meant(code, &raw, &fault)
     }
 
     /// The commits of a set by rising id, of which `page` are fetched at a time, at least one.

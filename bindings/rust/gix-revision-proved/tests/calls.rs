@@ -107,7 +107,14 @@ fn texts_are_resolved() -> Result<(), Error> {
     );
     history.name(b"5555", id(0x44))?;
     assert_eq!(history.rev_parse(b"5555", 0, 0)?, Span::Include(id(0x44)));
-    assert_eq!(history.resolve(b"nowhere", 0, 0), Err(Error::Fault(12)));
+    assert_eq!(
+        history.resolve(b"main..nowhere~2", 0, 0),
+        Err(Error::Fault {
+            number: 12,
+            start: 6,
+            length: 9
+        })
+    );
     Ok(())
 }
 
