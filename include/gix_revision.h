@@ -1,4 +1,4 @@
-/* Merge bases, described commits and revision texts over a history in memory: C99 and C++.
+/* Merge bases, described commits and revision texts over a history in memory, or over git's commit-graph file: C99 and C++.
  *
  * Each answer is that of a proved call; docs/C.md says what is proved of each function here.
  *
@@ -35,6 +35,8 @@ enum {
     GIX_NO_COMMIT = -4,     /* the history lacks the commit that is to be described */
     GIX_TOO_MANY = -5,      /* there are more commits than a uint32_t counts */
     GIX_NO_KIND = -6,       /* the kind of a gix_span is none of those below */
+    GIX_NO_GRAPH = -7,      /* the bytes are no commit-graph file that is read */
+    GIX_NO_LEVELS = -8,     /* a commit of the file has no level, or a parent no lesser one */
     GIX_FAULT = 100         /* 101 to 127: the text is refused, by fault 1 to 27 */
 };
 
@@ -49,6 +51,15 @@ typedef struct gix_history gix_history;
 /* Makes a history without commits, and puts it into *out. What *out pointed to before is not freed.
  * GIX_OK, GIX_OUT_OF_MEMORY. */
 int32_t gix_history_new(gix_history **out);
+
+/* Makes a history over the bytes of git's commit-graph file (objects/info/commit-graph: ids of SHA-1, no file of a chain
+ * but its first), and puts it into *out. What *out pointed to before is not freed. The bytes are copied, and so are the
+ * ids of the commits, since texts may name them by first digits: that takes some 60 bytes more for each commit. All of it
+ * is checked once, but the hash at its end. The history has the commits of the file, with their generations, and lacks
+ * none of their parents; gix_history_insert adds what the file lacks. The premises of the questions below hold of it, and
+ * go on to hold while what is added has no cycle of its own and no generations.
+ * GIX_OK, GIX_NO_GRAPH, GIX_NO_LEVELS, GIX_OUT_OF_MEMORY. */
+int32_t gix_history_open(const uint8_t *bytes, size_t bytes_len, gix_history **out);
 
 /* Frees a history, which is not used again; of null nothing. It takes as long as the history is large. */
 void gix_history_free(gix_history *history);

@@ -93,6 +93,14 @@ class NoKind(Refused):
     """The kind of a set of commits is none."""
 
 
+class NoGraph(Refused):
+    """The bytes are no commit-graph file that is read."""
+
+
+class NoLevels(Refused):
+    """A commit of the commit-graph file has no level, or a parent no lesser one."""
+
+
 class Fault(Refused):
     """A text is refused, by the number of its fault, from 1 to 27, which names the part from byte `start` on, of `length` bytes. Of
     several places at which the text has these bytes `start` is the last."""
@@ -105,7 +113,7 @@ class Fault(Refused):
 
 
 _NONE = 1
-_REFUSALS = {-2: AlreadyThere, -4: NoCommit, -5: TooMany, -6: NoKind}
+_REFUSALS = {-2: AlreadyThere, -4: NoCommit, -5: TooMany, -6: NoKind, -7: NoGraph, -8: NoLevels}
 
 _library = ctypes.CDLL(os.environ.get("GIX_REVISION_LIBRARY", "libgix_revision.so.0"))
 
@@ -119,6 +127,7 @@ def _declare(name: str, *types: object) -> None:
 _HANDLE, _SIZE = ctypes.c_void_p, ctypes.c_size_t
 _ID, _COUNT, _BYTES = ctypes.POINTER(_Id), ctypes.POINTER(ctypes.c_size_t), ctypes.c_char_p
 _declare("new", ctypes.POINTER(_HANDLE))
+_declare("open", _BYTES, _SIZE, ctypes.POINTER(_HANDLE))
 _declare("free", _HANDLE)
 _declare("insert", _HANDLE, _ID, _ID, _SIZE, ctypes.c_int64, ctypes.c_bool, ctypes.c_uint32)
 _declare("merge_bases", _HANDLE, _ID, _ID, _SIZE, _ID, _SIZE, _COUNT)
@@ -166,11 +175,19 @@ def _answered(code: int) -> bool:
 
 
 class History:
-    """Commits in memory, and what is asked of them. It is used by one thread at a time."""
+    """Commits in memory, or of a commit-graph file and in memory, and what is asked of them. It is used by one thread at a time."""
 
     def __init__(self) -> None:
         self._at = _HANDLE()
         _answered(_library.gix_history_new(ctypes.byref(self._at)))
+
+    @classmethod
+    def open(cls, file: bytes) -> History:
+        """A history over the bytes of git's commit-graph file, which are copied; `insert` adds what the file lacks. Raises NoGraph, NoLevels."""
+        history = cls.__new__(cls)
+        history._at = _HANDLE()
+        _answered(_library.gix_history_open(file, len(file), ctypes.byref(history._at)))
+        return history
 
     def close(self) -> None:
         """Frees it. It can't be used again."""

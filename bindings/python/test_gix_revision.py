@@ -1,12 +1,27 @@
 """Each call once over a criss-cross: python3 -m unittest, in this folder."""
 
+import struct
 import unittest
 
-from gix_revision import AlreadyThere, Description, Fault, History, Kind, NoCommit, Span
+from gix_revision import AlreadyThere, Description, Fault, History, Kind, NoCommit, NoGraph, NoLevels, Span
 
 
 def id_of(byte: int) -> str:
     return f"{byte:02x}" * 20
+
+
+def file_of(levels: list[int]) -> bytes:
+    """Returns the commit-graph file of the criss-cross with these levels. The hash at its end is not right."""
+    none = 0x70000000
+    parents = [(none, none), (0, none), (0, none), (1, 2), (1, 2)]
+    file = b"CGPH\1\1\3\0"
+    for name, place in ((b"OIDF", 56), (b"OIDL", 1080), (b"CDAT", 1180), (bytes(4), 1360)):
+        file += struct.pack(">4sQ", name, place)
+    file += b"".join(struct.pack(">I", min(byte // 0x11, 5)) for byte in range(256))
+    file += b"".join(bytes([0x11 * n] * 20) for n in range(1, 6))
+    for both, level, time in zip(parents, levels, (1, 2, 2, 4, 5)):
+        file += bytes(20) + struct.pack(">IIII", *both, level << 2, time)
+    return file + bytes(20)
 
 
 class Calls(unittest.TestCase):
@@ -63,6 +78,22 @@ class Calls(unittest.TestCase):
         with self.assertRaises(Fault) as refused:
             self.history.resolve(b"main..nowhere~2")
         self.assertEqual((refused.exception.number, refused.exception.start, refused.exception.length), (12, 6, 9))
+
+    def test_file(self) -> None:
+        file = file_of([1, 2, 2, 3, 3])
+        with History.open(file) as history:
+            history.insert(id_of(0x66), [id_of(0x55)], 6)
+            self.assertEqual(history.merge_bases(id_of(0x44), [id_of(0x66)]), [id_of(0x22), id_of(0x33)])
+            self.assertEqual(list(history.missing()), [])
+            self.assertEqual(history.resolve(b"4444").first, id_of(0x44))
+            with self.assertRaises(AlreadyThere):
+                history.insert(id_of(0x55), [], 5)
+        with self.assertRaises(NoGraph):
+            History.open(file[:-1])
+        with self.assertRaises(NoGraph):
+            History.open(b"")
+        with self.assertRaises(NoLevels):
+            History.open(file_of([1, 2, 2, 0, 3]))
 
     def test_refusals(self) -> None:
         with self.assertRaises(AlreadyThere):

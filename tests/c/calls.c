@@ -200,6 +200,42 @@ static void texts(gix_history *history) {
     EXPECT(gix_history_list(history, &span, out, 0, out, 4, &count) == GIX_NO_KIND && count == 99);
 }
 
+/* A history over a file and newer commits, and bytes that are none. */
+static void opened(void) {
+    uint8_t file[FILE_OF_FIVE];
+    gix_history *history = NULL;
+    gix_id four = id_of(0x44), newer = id_of(0x79), out[3];
+    size_t count = 99;
+    write_file(file);
+    for (size_t len = 0; len < sizeof file; len++)
+        EXPECT(gix_history_open(file, len, &history) == GIX_NO_GRAPH);
+    file[ROWS_OF_FIVE + 36 * 3 + 23] = 5;
+    EXPECT(gix_history_open(file, sizeof file, &history) == GIX_NO_GRAPH);
+    write_file(file);
+    write_number(file + ROWS_OF_FIVE + 36 * 3 + 28, 2 << 2);
+    EXPECT(gix_history_open(file, sizeof file, &history) == GIX_NO_LEVELS && history == NULL);
+
+    write_file(file);
+    EXPECT(gix_history_open(file, sizeof file, &history) == GIX_OK);
+    memset(file, 0xEE, sizeof file);
+    EXPECT(gix_history_missing(history, &four, 0, out, 3, &count) == GIX_OK && count == 0);
+    EXPECT(put(history, 0x55, 0x11, 0, 5) == GIX_ALREADY_THERE);
+    EXPECT(put(history, 0x66, 0, 0, 6) == GIX_OK);
+    bases(history);
+    ancestors(history);
+    independent(history);
+    counts(history);
+    newest(history);
+    late_parent(history);
+    descriptions(history);
+    texts(history);
+    EXPECT(put(history, 0x79, 0x55, 0x99, 9) == GIX_OK);
+    EXPECT(gix_history_merge_bases(history, &newer, &four, 1, out, 3, &count) == GIX_OK);
+    EXPECT(count == 2 && is_id(&out[0], 0x22) && is_id(&out[1], 0x33));
+    EXPECT(gix_history_missing(history, &four, 0, out, 3, &count) == GIX_OK && count == 1 && is_id(out, 0x99));
+    gix_history_free(history);
+}
+
 int main(void) {
     gix_history *history = NULL;
     EXPECT(gix_history_new(&history) == GIX_OK);
@@ -213,6 +249,7 @@ int main(void) {
     late_parent(history);
     descriptions(history);
     texts(history);
+    opened();
     gix_history_free(history);
     gix_history_free(NULL);
     puts(failed ? "failed" : "passed");

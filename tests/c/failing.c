@@ -95,6 +95,20 @@ static void calls(gix_history *history, long turn) {
     EXPECT(count == 2);
 }
 
+/* A file, and a commit that it lacks. */
+static void opened(long turn) {
+    gix_history *history = NULL;
+    gix_id four = id_of(0x44), six = id_of(0x66), out[4];
+    uint8_t file[FILE_OF_FIVE];
+    size_t count = 0;
+    write_file(file);
+    UNTIL(GIX_OK, gix_history_open(file, sizeof file, &history));
+    UNTIL(GIX_OK, put(history, 0x66, 0x55, 0, 6));
+    UNTIL(GIX_OK, gix_history_merge_bases(history, &four, &six, 1, out, 4, &count));
+    EXPECT(count == 2 && is_id(&out[0], 0x22) && is_id(&out[1], 0x33));
+    gix_history_free(history);
+}
+
 int main(void) {
     long turn = -1, before;
     do {
@@ -105,6 +119,7 @@ int main(void) {
         UNTIL(GIX_OK, gix_history_new(&history));
         calls(history, turn);
         gix_history_free(history);
+        opened(turn);
         EXPECT(live == 0);
     } while (refused > before);
     left = -1;

@@ -1,4 +1,5 @@
-/* Answers the lines `commit`, `base`, `octopus` and `ahead-behind` of revtool through the library, as revtool does. */
+/* Answers the lines `commit`, `base`, `octopus` and `ahead-behind` of revtool through the library, as revtool does; with the path of a
+ * commit-graph file over that. */
 #include "case.h"
 
 #include <stdlib.h>
@@ -42,10 +43,27 @@ static void put_commit(gix_history *history) {
     EXPECT(gix_history_insert(history, &id, parents, count, time, *generation != '-', (uint32_t)strtoul(generation, NULL, 10)) == GIX_OK);
 }
 
-int main(void) {
+/* A history over the file at a path. */
+static gix_history *open_file(const char *path) {
+    static uint8_t bytes[1 << 20];
+    gix_history *history = NULL;
+    FILE *file = fopen(path, "rb");
+    if (!file)
+        exit(2);
+    size_t len = fread(bytes, 1, sizeof bytes, file);
+    fclose(file);
+    if (gix_history_open(bytes, len, &history) != GIX_OK)
+        exit(3);
+    return history;
+}
+
+int main(int argc, char **argv) {
     gix_history *history = NULL;
     char line[1024];
-    EXPECT(gix_history_new(&history) == GIX_OK);
+    if (argc > 1)
+        history = open_file(argv[1]);
+    else
+        EXPECT(gix_history_new(&history) == GIX_OK);
     while (fgets(line, sizeof line, stdin)) {
         gix_id ids[16], out[64];
         size_t count = 0;

@@ -70,6 +70,13 @@ noted_empty h ids empty none = record {
   missing = λ p is. absurd (true≢false (sym (subst (λ (o : Option Entry). IsTrue (is_one_of (parents_in o) p)) (empty is.0.0) is.0.1)));
 }
 
+-- where each parent is a commit of the history none is missing
+pub noted-closed : (h : History) (ids : List ObjectId) → ((a b : ObjectId) → IsTrue (is_one_of (parents_in (entry_at h a)) b) → Has h b) → ids ≡ [] → Remembers h ids
+noted-closed h ids closed none = record {
+  parents = λ p m. absurd (true≢false (sym (subst (λ (l : List ObjectId). IsTrue (is_one_of l p)) none m)));
+  missing = λ p is. absurd (is.1 (closed is.0.0 p is.0.1));
+}
+
 -- n is h with the commit d under k, which had none
 module _ (h n : History) (k : ObjectId) (d : Entry) (new : entry_at h k ≡ None) (put : (q : ObjectId) → entry_at n q ≡ cond (same_id k q) (Some d) (entry_at h q)) where
   stays : (c p : ObjectId) → IsTrue (is_one_of (parents_in (entry_at h c)) p) → IsTrue (is_one_of (parents_in (entry_at n c)) p)

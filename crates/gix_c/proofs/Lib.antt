@@ -1,4 +1,5 @@
 pub mod AsBox
+pub mod Copied
 pub mod Values
 pub mod Lacking
 pub mod Named

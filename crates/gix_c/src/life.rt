@@ -26,13 +26,10 @@ use std::alloc::Global;
 pub extern "C" fn gix_history_new(alloc: Global, out: &mut Place) -> i32
     ensures { ByCode result (IsNew out.new.value) ⊥ ((result ≡ OUT_OF_MEMORY) × (out.new ≡ out.old)) }
 {
-    let Ok(history) = Box::new(alloc, History::new(alloc)) else {
+    let Ok(place) = Place::holding(alloc, History::new(alloc)) else {
         return OUT_OF_MEMORY;
     };
-    let Ok(handle) = Box::new(alloc, Handle::new(history)) else {
-        return OUT_OF_MEMORY;
-    };
-    *out = Place::of(Loose::of(handle));
+    *out = place;
     OK
 }
 
@@ -83,7 +80,7 @@ fn dispose(handle: Loose<Handle, Global>) {
     drop(handle.into_box());
 }
 
-/// Frees a history that [`gix_history_new`] made. Null is none, and does nothing.
+/// Frees a history that was made here. Null is none, and does nothing.
 #[unsafe(no_mangle)]
 pub unsafe extern "C" fn gix_history_free(alloc: Global, history: *mut Handle)
     ghost value: { Handle }

@@ -9,14 +9,14 @@ ghost use Rattle.gix_base.specs.declared.hash.ObjectId.{ObjectId};
 ghost use Rattle.gix_revwalk.specs.History.{is_one_of};
 ghost use Rattle.gix_resolve.specs.ListMeaning.{past};
 ghost use Rattle.gix_c.specs.Answers.{ByCode, bytes_in, id_of};
-ghost use Rattle.gix_c.specs.Behind.{commits_of};
+ghost use Rattle.gix_c.specs.Behind.{commits_in, commits_of, joined};
 ghost use Rattle.gix_c.specs.Missing.{AreLacked, HasMissing, IsNoted, is_lacked};
 
 use crate::handle::Handle;
 use crate::history::History;
 use crate::ids::{bytes_of_each, write};
 use crate::status::{OK, OUT_OF_MEMORY};
-use gix_revision::graph::MemorySource;
+use gix_revision::commit_graph::Commits;
 use gix_revision::hash::ObjectId;
 use std::alloc::{AllocError, Global};
 use std::collections::BTreeSet;
@@ -25,11 +25,11 @@ use std::collections::BTreeSet;
 fn add_lacked(
     alloc: Global,
     id: ObjectId,
-    source: &MemorySource,
+    source: &Commits<Global>,
     found: &mut Vec<ObjectId>,
 ) -> Result<(), AllocError>
     ensures { OnOk result
-        (found.new.items ≡ found.old.items ++ filter (is_lacked source.now) (id ∷ [])) }
+        (found.new.items ≡ found.old.items ++ filter (is_lacked (joined source.now)) (id ∷ [])) }
 {
     if source.get(alloc, id)?.is_none() {
         found.push(id)?;
@@ -41,9 +41,9 @@ fn add_lacked(
 fn lacked(
     alloc: Global,
     ids: &[ObjectId],
-    source: &MemorySource,
+    source: &Commits<Global>,
 ) -> Result<Vec<ObjectId>, AllocError>
-    ensures { IfOk result (λ found. found.items ≡ filter (is_lacked source.now) ids.now) }
+    ensures { IfOk result (λ found. found.items ≡ filter (is_lacked (joined source.now)) ids.now) }
 {
     let mut found = Vec::new(alloc);
     for id in ids {
@@ -72,7 +72,7 @@ fn rising(alloc: Global, set: BTreeSet<ObjectId>) -> Result<Vec<ObjectId>, Alloc
 /// Looks the noted parents through: those stay that the history lacks, each once, by rising id.
 fn sift(alloc: Global, history: &mut History) -> Result<(), AllocError>
     ensures sifted { OnOk result
-        (AreLacked history.old.graph.source history.old.named.items history.new.named.items) }
+        (AreLacked (commits_in history.old) history.old.named.items history.new.named.items) }
     ensures refused { OnErr result (history.new.named ≡ history.old.named) }
     ensures graph { history.new.graph ≡ history.old.graph }
     ensures table { history.new.table ≡ history.old.table }

@@ -14,5 +14,9 @@ pub const NO_COMMIT: i32 = -4;
 pub const TOO_MANY: i32 = -5;
 /// The kind of a set of commits is none.
 pub const NO_KIND: i32 = -6;
+/// The bytes are no commit-graph file that is read.
+pub const NO_GRAPH: i32 = -7;
+/// A commit of a commit-graph file has no level, or a parent no lesser one.
+pub const NO_LEVELS: i32 = -8;
 /// A text is refused, by the number of its fault, from 1 to 27, beyond this.
 pub const FAULT: i32 = 100;

@@ -11,6 +11,8 @@ pub const GIX_ALREADY_THERE: i32 = -2;
 pub const GIX_NO_COMMIT: i32 = -4;
 pub const GIX_TOO_MANY: i32 = -5;
 pub const GIX_NO_KIND: i32 = -6;
+pub const GIX_NO_GRAPH: i32 = -7;
+pub const GIX_NO_LEVELS: i32 = -8;
 pub const GIX_FAULT: i32 = 100;
 
 pub const GIX_INCLUDE: u32 = 0;
@@ -68,6 +70,11 @@ pub struct gix_fault {
 
 extern "C" {
     pub fn gix_history_new(out: *mut *mut gix_history) -> i32;
+    pub fn gix_history_open(
+        bytes: *const u8,
+        bytes_len: usize,
+        out: *mut *mut gix_history,
+    ) -> i32;
     pub fn gix_history_free(history: *mut gix_history);
     pub fn gix_history_insert(
         history: *mut gix_history,

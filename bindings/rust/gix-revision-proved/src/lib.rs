@@ -45,6 +45,10 @@ pub enum Error {
     NoCommit,
     /// There are more commits than a count of 32 bits can say.
     TooMany,
+    /// The bytes are no commit-graph file that is read.
+    NoGraph,
+    /// A commit of the commit-graph file has no level, or a parent no lesser one.
+    NoLevels,
     /// The text is refused, by the number of its fault, from 1 to 27, which names the part that begins at a byte of the
     /// text and has so many. Of several places at which the text has these bytes `start` is the last.
     Fault {
@@ -61,6 +65,8 @@ impl fmt::Display for Error {
             Error::AlreadyThere => f.write_str("the history has a commit under that id"),
             Error::NoCommit => f.write_str("the history lacks that commit"),
             Error::TooMany => f.write_str("there are too many commits to count"),
+            Error::NoGraph => f.write_str("the bytes are no commit-graph file that is read"),
+            Error::NoLevels => f.write_str("the levels of the commit-graph file do not fall"),
             Error::Fault {
                 number,
                 start,
@@ -83,6 +89,8 @@ fn answered(code: i32) -> Result<bool, Error> {
         sys::GIX_ALREADY_THERE => Err(Error::AlreadyThere),
         sys::GIX_NO_COMMIT => Err(Error::NoCommit),
         sys::GIX_TOO_MANY => Err(Error::TooMany),
+        sys::GIX_NO_GRAPH => Err(Error::NoGraph),
+        sys::GIX_NO_LEVELS => Err(Error::NoLevels),
         _ => Err(Error::OutOfMemory),
     }
 }
@@ -181,7 +189,7 @@ impl Span {
     }
 }
 
-/// Commits in memory, and what is asked of them.
+/// Commits in memory, or of a commit-graph file and in memory, and what is asked of them.
 pub struct History(NonNull<sys::gix_history>);
 
 // What it points to is its own, and nothing there is of the thread that made it.
@@ -192,6 +200,13 @@ impl History {
     pub fn new() -> Result<History, Error> {
         let mut at = ptr::null_mut();
         answered(unsafe { sys::gix_history_new(&mut at) })?;
+        NonNull::new(at).map(History).ok_or(Error::OutOfMemory)
+    }
+
+    /// A history over the bytes of git's commit-graph file, which are copied. [`History::insert`] adds what the file lacks.
+    pub fn open(bytes: &[u8]) -> Result<History, Error> {
+        let mut at = ptr::null_mut();
+        answered(unsafe { sys::gix_history_open(bytes.as_ptr(), bytes.len(), &mut at) })?;
         NonNull::new(at).map(History).ok_or(Error::OutOfMemory)
     }
 

@@ -16,6 +16,66 @@ fn criss_cross() -> Result<History, Error> {
     Ok(history)
 }
 
+/// The commit-graph file of the criss-cross. The hash at its end is not right.
+fn file() -> Vec<u8> {
+    const NONE: u32 = 0x7000_0000;
+    let mut file = b"CGPH\x01\x01\x03\x00".to_vec();
+    for (name, place) in [
+        (b"OIDF", 56_u64),
+        (b"OIDL", 1080),
+        (b"CDAT", 1180),
+        (&[0; 4], 1360),
+    ] {
+        file.extend(name);
+        file.extend(place.to_be_bytes());
+    }
+    file.extend((0..256_u32).flat_map(|byte| (byte / 0x11).min(5).to_be_bytes()));
+    file.extend((1..=5).flat_map(|n| id(0x11 * n).0));
+    for row in [
+        [NONE, NONE, 1, 1],
+        [0, NONE, 2, 2],
+        [0, NONE, 2, 2],
+        [1, 2, 3, 4],
+        [1, 2, 3, 5],
+    ] {
+        let [first, second, level, time] = row;
+        file.extend([0; 20]);
+        file.extend(
+            [first, second, level << 2, time]
+                .map(u32::to_be_bytes)
+                .concat(),
+        );
+    }
+    file.extend([0; 20]);
+    file
+}
+
+#[test]
+fn a_file_is_opened() -> Result<(), Error> {
+    let mut history = History::open(&file())?;
+    history.insert(id(0x66), &[id(0x55)], 6, None)?;
+    assert_eq!(
+        history.merge_bases(id(0x44), &[id(0x66)])?,
+        [id(0x22), id(0x33)]
+    );
+    assert_eq!(history.missing(None, 10)?, []);
+    assert_eq!(
+        history.insert(id(0x55), &[], 5, None),
+        Err(Error::AlreadyThere)
+    );
+    assert_eq!(history.resolve(b"4444", 0, 0)?, Span::Include(id(0x44)));
+    Ok(())
+}
+
+#[test]
+fn bytes_that_are_no_file_are_refused() {
+    let mut file = file();
+    assert_eq!(History::open(&file[1..]).err(), Some(Error::NoGraph));
+    assert_eq!(History::open(&[]).err(), Some(Error::NoGraph));
+    file[1180 + 31] = 0;
+    assert_eq!(History::open(&file).err(), Some(Error::NoLevels));
+}
+
 #[test]
 fn bases_are_found() -> Result<(), Error> {
     let mut history = criss_cross()?;

@@ -2,7 +2,7 @@
 use Rattle.std.proofs.Common.{ℕ, List, [], ◌∷◌, refl, ap, lit<}
 use Rattle.std.proofs.raw_atomic.Walks.{proved}
 use seplogic.Ra.Ura.{Ura}
-use base.Logic.{ent, guard, guard_i, id⊢, snd∗, via}
+use base.Logic.{guard_i, id⊢, snd∗, via}
 use base.Fml.{Fml, ftrue}
 use base.Fraction.{full_share}
 use mir.Val.{Val, vunit, vptr}

@@ -1,11 +1,12 @@
 use Rattle.gix_c.specs.Answers.{id_of}
+use Rattle.gix_c.specs.Behind.{commits_in}
 use Rattle.gix_c.specs.Noted.{Remembers}
 use Rattle.gix_c.proofs.Lacking.{noted-more}
 use Rattle.gix_c.proofs.life.gix_history_insert.Goals as goal
 
 pub returns-in-Ok-insert-clause-noted : goal.returns-in-Ok-insert-clause-noted
 returns-in-Ok-insert-clause-noted c = λ noted.
-    let h = c.add_id.new.self.graph.source in
+    let h = commits_in c.add_id.new.self in
     let ids = c.add_id.new.self.named.items in
     let before : Remembers h ids = rw (c.add_id.ensures.graph, c.add_id.ensures.named, c.get_mut-history.ensures.value) noted in
-    rw c.in-Ok-insert.ensures.named (noted-more h c.insert.new.self.graph.source (id_of c.args.id.now) _ c.in-Ok-insert.ensures.new c.in-Ok-insert.ensures.put ids before)
+    rw c.in-Ok-insert.ensures.named (noted-more h (commits_in c.insert.new.self) (id_of c.args.id.now) _ c.in-Ok-insert.ensures.new c.in-Ok-insert.ensures.put ids before)

@@ -1,0 +1,21 @@
+use Rattle.std.proofs.Common.{ap, sym, subst, ◌∙◌}
+use Rattle.std.specs.BTreeSet.{BTreeSet}
+use Rattle.gix_base.specs.declared.hash.ObjectId.{ObjectId}
+use Rattle.gix_commitgraph.specs.FileCommits.{history_in}
+use Rattle.gix_revwalk.specs.History.{History, is_one_of}
+use Rattle.gix_c.specs.Noted.{Remembers}
+use Rattle.gix_c.proofs.Lacking.{noted-closed}
+use Rattle.gix_c.proofs.history.History.over.Goals as goal
+
+pub returns : goal.returns
+returns c =
+    let made = c.with.ensures in
+    let levelled = c.premises.ensures.levelled in
+    record {
+      commits = made.commits;
+      held = made.held;
+      noted = subst (λ (h : History). Remembers h c.with.result.named.items) (sym made.commits)
+          (noted-closed (history_in c.args.file) c.with.result.named.items levelled.closed made.named);
+      ids = λ id. ap (λ (s : BTreeSet ObjectId). is_one_of s.keys id) made.ids ∙ c.in_ok-ids.ensures id;
+      levelled = levelled;
+    }

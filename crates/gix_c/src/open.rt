@@ -1,0 +1,53 @@
+//! What C calls to make a history over a commit-graph file.
+
+ghost use Rattle.std.specs.Prelude.{◌≡◌, ◌++◌, ◌⊎◌, ⊤};
+ghost use Rattle.gix_commitgraph.specs.FileCommits.{history_in};
+ghost use Rattle.gix_commitgraph.specs.FileFormat.{IsCommitGraph};
+ghost use Rattle.gix_commitgraph.specs.FileLevels.{LevelsFall};
+ghost use Rattle.gix_commitgraph.specs.NewerCommits.{HasNoGenerations};
+ghost use Rattle.gix_revwalk.specs.History.{GenerationsNeverRise, History as Commits, IsAcyclic};
+ghost use Rattle.gix_c.specs.Answers.{ByCode};
+ghost use Rattle.gix_c.specs.Opened.{IsOpened};
+
+use crate::file::{Unopened, read_file};
+use crate::history::History;
+use crate::place::Place;
+use crate::status::{NO_GRAPH, NO_LEVELS, OK, OUT_OF_MEMORY};
+use std::alloc::Global;
+
+/// Makes a history over the bytes of a commit-graph file, which `*out` owns from then on. What it owned
+/// before is not freed.
+#[unsafe(no_mangle)]
+pub extern "C" fn gix_history_open(alloc: Global, bytes: &[u8], out: &mut Place) -> i32
+    ensures opened { ByCode result (IsOpened bytes.now out.new.value) ⊥ (out.new ≡ out.old) }
+
+    // What merge bases ask of a history.
+    ensures premises { ByCode result
+        (IsAcyclic (history_in bytes.now) × GenerationsNeverRise (history_in bytes.now)) ⊥ ⊤ }
+
+    // With newer commits behind those of the file, as far as these meet it.
+    ensures acyclic { ByCode result ((newer : Commits)
+        → IsAcyclic newer → IsAcyclic (history_in bytes.now ++ newer)) ⊥ ⊤ }
+    ensures never_rise { ByCode result ((newer : Commits)
+        → HasNoGenerations newer → GenerationsNeverRise (history_in bytes.now ++ newer)) ⊥ ⊤ }
+
+    ensures no_graph { result ≡ NO_GRAPH → ¬ IsCommitGraph bytes.now }
+    ensures no_levels { result ≡ NO_LEVELS → IsCommitGraph bytes.now × (¬ LevelsFall bytes.now) }
+    ensures refused { ByCode result ⊤ ⊥
+        ((result ≡ NO_GRAPH) ⊎ ((result ≡ NO_LEVELS) ⊎ (result ≡ OUT_OF_MEMORY))) }
+{
+    let file = match read_file(alloc, bytes) {
+        Ok(file) => file,
+        Err(Unopened::NoGraph) => return NO_GRAPH,
+        Err(Unopened::NoLevels) => return NO_LEVELS,
+        Err(Unopened::OutOfMemory) => return OUT_OF_MEMORY,
+    };
+    let Ok(history) = History::over(alloc, file) else {
+        return OUT_OF_MEMORY;
+    };
+    let Ok(place) = Place::holding(alloc, history) else {
+        return OUT_OF_MEMORY;
+    };
+    *out = place;
+    OK
+}
