@@ -5,7 +5,6 @@ mod bases;
 mod error;
 mod flags;
 mod function;
-mod gather;
 mod gen_then_time;
 mod hand;
 mod heads;

@@ -10,10 +10,11 @@ ghost use Rattle.gix_merge_base.specs.AfterCall.{AfterCall};
 
 use crate::merge_base::error::{Error, commit_refused};
 use crate::merge_base::flags::Flags;
-use crate::merge_base::gather::take_in;
 use crate::merge_base::gen_then_time::GenThenTime;
+use bitflags::Flags as BitFlags;
 use gix_base::hash::ObjectId;
 use gix_revwalk::graph::{Commit, Find, Graph};
+use gix_revwalk::numbers;
 use std::alloc::{AllocError, Allocator};
 use std::cmp::Reverse;
 
@@ -31,12 +32,13 @@ pub(crate) fn candidate_of<S: Find, A: Allocator + Copy>(
     ensures candidate { IfOk result (λ c. c ≡ candidate_at (S.history graph.old.source) id) }
     ensures after { AfterCall S.history S.fault_count graph.old graph.new result }
 {
-    if let Err(error) = take_in(alloc, id, graph) {
-        return Err(commit_refused(error));
-    }
-    match graph.get(&id) {
-        Some(commit) => Ok(Some((GenThenTime::from(commit), Reverse(id)))),
-        None => Ok(None),
+    match numbers::take(graph, alloc, id, Flags::empty()) {
+        Ok(Some(number)) => {
+            let commit = numbers::value(graph, number);
+            Ok(Some((GenThenTime::from(commit), Reverse(id))))
+        }
+        Ok(None) => Ok(None),
+        Err(error) => Err(commit_refused(error)),
     }
 }
 
