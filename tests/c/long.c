@@ -79,6 +79,9 @@ int main(void) {
     size_t ahead = 0, behind = 0;
     EXPECT(gix_history_ahead_behind(history, &next, &b, &ahead, &behind) == GIX_OK && ahead > behind && behind == 0);
     lap("ahead and behind");
+    gix_id root = numbered(0);
+    EXPECT(gix_history_is_ancestor(history, &root, &next) == GIX_OK);
+    lap("whether the root is an ancestor");
     EXPECT(gix_history_missing(history, &a, 0, out, 4, &count) == GIX_OK && count == 0);
     lap("what is missing, first");
     EXPECT(gix_history_missing(history, &a, 0, out, 4, &count) == GIX_OK && count == 0);
