@@ -54,10 +54,11 @@ int32_t gix_history_new(gix_history **out);
 
 /* Makes a history over the bytes of git's commit-graph file (objects/info/commit-graph: ids of SHA-1, no file of a chain
  * but its first), and puts it into *out. What *out pointed to before is not freed. The bytes are copied, and so are the
- * ids of the commits, since texts may name them by first digits: that takes some 60 bytes more for each commit. All of it
- * is checked once, but the hash at its end. The history has the commits of the file, with their generations, and lacks
- * none of their parents; gix_history_insert adds what the file lacks. The premises of the questions below hold of it, and
- * go on to hold while what is added has no cycle of its own and no generations.
+ * ids of the commits, since texts may name them by first digits: that takes some 50 bytes for each commit beside the file,
+ * and some 0.5 microseconds. All of it is checked here once, but the hash at its end. The history has the commits of the
+ * file with their generations, and lacks none of their parents; gix_history_insert adds what the file lacks. What the
+ * questions below ask of a history is so of the commits of a file, and stays so while those that are added have no cycle
+ * and no generations.
  * GIX_OK, GIX_NO_GRAPH, GIX_NO_LEVELS, GIX_OUT_OF_MEMORY. */
 int32_t gix_history_open(const uint8_t *bytes, size_t bytes_len, gix_history **out);
 

@@ -1,5 +1,5 @@
 -- The part of a text that a fault names.
-use Rattle.std.proofs.Common.{◌≡◌, ◌+◌, ℕ, suc, ℤ, pos, Bool, true, false, List, ◌++◌, Option, None, Some, Bor, length, refl, ap, sym, subst, ◌∙◌, arith}
+use Rattle.std.proofs.Common.{◌≡◌, ◌+◌, ◌<◌, ℕ, suc, ℤ, pos, Bool, true, false, List, ◌++◌, Option, None, Some, Bor, length, refl, ap, sym, subst, ◌∙◌, arith, rules, ◌+ℤ◌, to_z, of_z, w32}
 use Rattle.std.proofs.lemmas.List.{get_or-append-add, get_or_append_left, length-append}
 use Rattle.std.specs.Option.{option_map}
 use Rattle.std.specs.Prelude.{Err, IfSome, Result}
@@ -51,6 +51,10 @@ told step text now e ends f input first second is = part-of step text now f inpu
 pub no-fault : (b : Bool) → 0 ≡ count_after b 0 → b ≡ false
 no-fault true is = cc
 no-fault false is = refl
+
+-- the code of a fault, by its number
+pub fault-code : (z : ℤ) (n : ℕ) → z ≡ pos n → n < 256 → to_z w32 (of_z w32 (pos 100 +ℤ to_z w32 (of_z w32 z))) ≡ pos (100 + n)
+fault-code z n is small = rw is (search rules)
 
 -- the code of a refusal, with what is written of it
 pub faulted : (Means : Result Spec Error → Type 0) (text : List ℕ) (at : FaultPlace) (code : ℤ) (ok refused : Type 0) (e : Error)
