@@ -1,4 +1,4 @@
-/* Merge bases, described commits and revision texts over a history in memory, or over git's commit-graph file: C99 and C++.
+/* Merge bases, described commits and revision texts over commits in memory or of a commit-graph file: C99 and C++.
  *
  * Each answer is that of a proved call; docs/C.md says what is proved of each function here.
  *
