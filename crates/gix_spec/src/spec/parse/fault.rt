@@ -1,6 +1,6 @@
 //! Why a revision text is refused.
 
-ghost use Rattle.std.specs.Prelude.{◌≡◌, Some};
+ghost use Rattle.std.specs.Prelude.{◌≡◌, Some, IfSome};
 ghost use Rattle.gix_spec.specs.FaultTexts.{fault_text, number_of};
 
 use super::delegate::Traversal;
@@ -102,6 +102,42 @@ impl Fault {
             Fault::RepeatRefused => 27,
         }
     }
+
+    /// What is printed, but nothing where a debug form stands in it.
+    fn text(&self) -> &'static str
+        ensures { IfSome (fault_text self.now) (λ text. result.now ≡ text) }
+    {
+        match self {
+            Fault::HeadRefused => "delegate did not find the HEAD reference",
+            Fault::Unconsumed => "unconsumed input",
+            Fault::DoneRefused => "No revision was produced after all input was consumed",
+            Fault::DoneRefusedInNavigation =>
+                "navigation succeeded, but no revision was produced as intermediate step",
+            Fault::LoneColon =>
+                "':' must be followed by either slash and regex or path to lookup in HEAD tree",
+            Fault::LoneColonSlash => "':/' must be followed by a regular expression",
+            Fault::RegexPrefix => "need one character after /!, typically -",
+            Fault::FindRefused => "the delegate found no commit for the regex",
+            Fault::IndexRefused(_) => "the delegate found no index entry",
+            Fault::NameRefused => "couldn't parse revision",
+            Fault::AtWithoutBraces => "@ character must be standalone or followed by {<content>}",
+            Fault::UnclosedBrace => "unclosed brace pair",
+            Fault::NegativeZero => "negative zero is invalid - remove the minus sign",
+            Fault::NegativeEntry => "reference name must be followed by positive numbers in @{n}",
+            Fault::ReflogWithoutName => "reflog entries require a ref name",
+            Fault::SiblingWithoutName =>
+                "sibling branches like 'upstream' or 'push' require a branch name with remote configuration",
+            Fault::Date => "could not parse time for reflog lookup",
+            Fault::AtRefused => "the delegate refused the content of the braces",
+            Fault::TildeFirst => "tilde needs to follow an anchor, like @~",
+            Fault::Sign => "a sign is invalid here",
+            Fault::Number => "could not parse number",
+            Fault::PeelRefused => "the delegate could not peel the object",
+            Fault::UnknownTarget => "cannot peel to unknown target",
+            Fault::RepeatRefused => "the delegate refused the repeated anchor",
+            Fault::KindRefused(_) | Fault::KindTwice { .. } | Fault::TraverseRefused(_) => "",
+        }
+    }
 }
 
 impl fmt::Display for Fault {
@@ -110,49 +146,12 @@ impl fmt::Display for Fault {
     fn fmt<W: fmt::Write>(&self, f: &mut fmt::Formatter<W>) -> fmt::Result {
         match self {
             Fault::KindRefused(kind) => write!(f, "delegate.kind({kind:?}) failed"),
-            Fault::HeadRefused => f.write_str("delegate did not find the HEAD reference"),
             Fault::KindTwice { was, now } => write!(
                 f,
                 "cannot set spec kind more than once (was {was:?}, now {now:?})"
             ),
-            Fault::Unconsumed => f.write_str("unconsumed input"),
-            Fault::DoneRefused => {
-                f.write_str("No revision was produced after all input was consumed")
-            }
-            Fault::DoneRefusedInNavigation => f.write_str(
-                "navigation succeeded, but no revision was produced as intermediate step",
-            ),
-            Fault::LoneColon => f.write_str(
-                "':' must be followed by either slash and regex or path to lookup in HEAD tree",
-            ),
-            Fault::LoneColonSlash => f.write_str("':/' must be followed by a regular expression"),
-            Fault::RegexPrefix => f.write_str("need one character after /!, typically -"),
-            Fault::FindRefused => f.write_str("the delegate found no commit for the regex"),
-            Fault::IndexRefused(_) => f.write_str("the delegate found no index entry"),
-            Fault::NameRefused => f.write_str("couldn't parse revision"),
-            Fault::AtWithoutBraces => {
-                f.write_str("@ character must be standalone or followed by {<content>}")
-            }
-            Fault::UnclosedBrace => f.write_str("unclosed brace pair"),
-            Fault::NegativeZero => {
-                f.write_str("negative zero is invalid - remove the minus sign")
-            }
-            Fault::NegativeEntry => {
-                f.write_str("reference name must be followed by positive numbers in @{n}")
-            }
-            Fault::ReflogWithoutName => f.write_str("reflog entries require a ref name"),
-            Fault::SiblingWithoutName => f.write_str(
-                "sibling branches like 'upstream' or 'push' require a branch name with remote configuration",
-            ),
-            Fault::Date => f.write_str("could not parse time for reflog lookup"),
-            Fault::AtRefused => f.write_str("the delegate refused the content of the braces"),
-            Fault::TildeFirst => f.write_str("tilde needs to follow an anchor, like @~"),
-            Fault::Sign => f.write_str("a sign is invalid here"),
-            Fault::Number => f.write_str("could not parse number"),
             Fault::TraverseRefused(step) => write!(f, "delegate.traverse({step:?}) failed"),
-            Fault::PeelRefused => f.write_str("the delegate could not peel the object"),
-            Fault::UnknownTarget => f.write_str("cannot peel to unknown target"),
-            Fault::RepeatRefused => f.write_str("the delegate refused the repeated anchor"),
+            _ => f.write_str(self.text()),
         }
     }
 }
