@@ -8,6 +8,7 @@ pub mod PairText
 pub mod Opened
 pub mod Navigation
 pub mod Readings
+pub mod Marked
 pub mod Memory
 pub mod Sound
 pub mod Ending

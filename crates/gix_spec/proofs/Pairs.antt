@@ -72,6 +72,12 @@ closed_fits [] n depth closed follows h some e = cc
 closed_fits (b ∷ rest) zero depth closed follows h some e = omega (arith, no_close_first b rest closed follows h e)
 closed_fits (b ∷ rest) (suc n) depth closed follows h some e = omega (arith, some (omega arith), at_most_one _ closed e)
 
+-- where no brace is open behind a place, the pair closes there
+pub level_there : (text : List ℕ) (n depth : ℕ) → depth + counted 125 text (n + 1) ≡ counted 123 text (n + 1) → depth ≡ 0 → counted 123 text (suc n) ≡ counted 125 text (suc n)
+level_there text n depth level none =
+    let next : n + 1 ≡ suc n = omega arith in
+    let balance : depth + counted 125 text (suc n) ≡ counted 123 text (suc n) = rw next at level in omega (arith, balance, none)
+
 none_by : (text : List ℕ) (n k : ℕ) (b : Bool) → nat_lt k n ≡ b → k < n + 1 → (k < n → IsLevel text k → ⊥) → (IsLevel text n → ⊥) → IsLevel text k → ⊥
 none_by text n k true e h before here level = before (ltb-true k n e) level
 none_by text n k false e h before here level =

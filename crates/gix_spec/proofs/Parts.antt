@@ -25,6 +25,11 @@ module _ {S : Type 0} (by : S → Call → Answer → S → Type 0) where
   reads_then p more {b} f goes_on g =
       joined_reads p.way p (more p.rest) (sym f.behind.1 ∙ ap way_of goes_on) f.calls (rw f.behind.0 at g)
 
+  -- the same, where the first part says that reading goes on
+  pub reads_more : (p : Part) (more : List ℕ → Part) {m n k : Context} {s u w : S} {b : Behind} {e error : Option Error} {out : Result Behind Stopped} →
+      p.way ≡ onward → Reads by p s m u n (Ok b) e → Reads by (more b.rest.now) u n w k out error → Reads by (followed p more) s m w k out error
+  reads_more p more goes_on f g = joined_reads p.way p (more p.rest) goes_on f.calls (rw f.behind.0 at g)
+
   joined_ends : (v : Way) (p q : Part) {m n : Context} {s u : S} {b : Behind} {error : Option Error} → closed ≡ v → Reads by p s m u n (Ok b) error → Reads by (joined v p q) s m u n (Ok b) error
   joined_ends onward p q e f = cc
   joined_ends closed p q e f = f

@@ -1,5 +1,5 @@
 -- What the readers of the code hand over, as pieces and parts.
-use Rattle.std.specs.Prelude.{ℕ, ◌≤◌, ◌<◌, ◌^◌, List, [], ◌∷◌, Option, Some, None, option_map, Result, Ok, Err}
+use Rattle.std.specs.Prelude.{ℕ, ◌≤◌, ◌<◌, ◌^◌, List, [], ◌∷◌, Option, Some, None, option_map, Result, Ok, Err, ◌==◌, if◌then◌else◌}
 use Rattle.std.specs.Borrow.{Bor}
 use Rattle.gix_base.specs.Prefix.{prefix_text}
 use Rattle.gix_spec.specs.declared.spec.parse.number.Signed.{Signed as FoundSigned}
@@ -60,3 +60,8 @@ way_of ways.Closed = closed
 abbrev pub part_of : Result FoundPart Refusal → Part
 part_of (Ok p) = record { pieces = pieces_found p.piece; rest = p.rest.now; way = way_of p.way }
 part_of (Err r) = refusal r.fault (slice_of r.input)
+
+-- what stands behind a mark, where a text begins with it
+abbrev pub behind_mark : (mark : ℕ) → (text : List ℕ) → Option (List ℕ)
+behind_mark mark [] = None
+behind_mark mark (b ∷ rest) = if b == mark then Some rest else None

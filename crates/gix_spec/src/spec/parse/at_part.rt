@@ -13,9 +13,10 @@ ghost use Rattle.gix_spec.specs.Performs.{Performs, Reads};
 ghost use Rattle.gix_spec.specs.Pieces;
 ghost use Rattle.gix_date.specs.Date.{date_of};
 
-use super::braces::{Braced, opened};
+use super::braces::{Braced, begins, opened};
 use super::calls::{Asked, call_asked, unopened};
 use super::context::{Context, Stopped};
+use super::cut::behind_mark;
 use super::delegate::{Delegate, ReflogLookup, SiblingBranch};
 use super::fault::Fault;
 use super::function::read;
@@ -156,7 +157,6 @@ fn in_braces<'a, A: Allocator, D: Delegate>(
 }
 
 /// Reads an `@` behind the name `own`, if one stands there.
-#[tactic(auto, unfolding(crate::specs::Names::at_part))]
 pub(crate) fn at_part<'a, A: Allocator, D: Delegate>(
     alloc: A,
     own: &'a [u8],
@@ -168,18 +168,17 @@ pub(crate) fn at_part<'a, A: Allocator, D: Delegate>(
         delegate.old (context_of context.old) delegate.new (context_of context.new)
         result context.new.error }
 {
-    match text {
-        [b'@', b'{', ..] => in_braces(alloc, own, &text[1..], context, delegate),
-        [b'@', ..] => {
-            let fault = Part::refusal(Fault::AtWithoutBraces, Some(text));
-            read(fault, context, delegate)
-        }
-        _ => read(Part::nothing(text), context, delegate),
+    let Some(after) = behind_mark(text, b'@') else {
+        return read(Part::nothing(text), context, delegate);
+    };
+    if begins(after) {
+        return in_braces(alloc, own, after, context, delegate);
     }
+    let fault = Part::refusal(Fault::AtWithoutBraces, Some(text));
+    read(fault, context, delegate)
 }
 
 /// Reads what stands where there is no name.
-#[tactic(auto, unfolding(crate::specs::Names::without_name))]
 pub(crate) fn without_name<'a, A: Allocator, D: Delegate>(
     alloc: A,
     text: &'a [u8],
@@ -190,9 +189,11 @@ pub(crate) fn without_name<'a, A: Allocator, D: Delegate>(
         delegate.old (context_of context.old) delegate.new (context_of context.new)
         result context.new.error }
 {
-    match text {
-        [b'@', b'{', ..] => in_braces(alloc, b"", &text[1..], context, delegate),
-        [b'@', after @ ..] => read(Part::piece(Piece::Head, after), context, delegate),
-        _ => read(Part::nothing(text), context, delegate),
+    let Some(after) = behind_mark(text, b'@') else {
+        return read(Part::nothing(text), context, delegate);
+    };
+    if begins(after) {
+        return in_braces(alloc, b"", after, context, delegate);
     }
+    read(Part::piece(Piece::Head, after), context, delegate)
 }

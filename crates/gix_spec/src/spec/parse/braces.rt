@@ -50,7 +50,8 @@ fn counted(byte: u8, mark: u8, escaping: bool) -> usize
     }
 }
 
-fn begins(text: &[u8]) -> bool
+/// Whether a text begins with an opening brace.
+pub(crate) fn begins(text: &[u8]) -> bool
     ensures { result ≡ starts_with brace text.now }
 {
     matches!(text, [b'{', ..])

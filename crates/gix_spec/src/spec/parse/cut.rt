@@ -3,6 +3,7 @@
 ghost use Rattle.std.specs.Prelude.{◌≡◌, ◌<◌, ◌≤◌, ◌^◌, ◌+◌, length, slice_index, if◌then◌else◌, ◌==◌};
 ghost use Rattle.gix_spec.specs.Marks.{dot};
 ghost use Rattle.gix_spec.specs.Cut.{two_dots_at, at_ends, ends_name, cut_of};
+ghost use Rattle.gix_spec.specs.Found.{slice_of, behind_mark};
 
 // The byte at a place, or 0 past the end.
 fn byte_at(text: &[u8], place: usize) -> u8
@@ -63,4 +64,14 @@ pub(crate) fn cut(text: &[u8]) -> usize
         start = part_start(*byte, start, place);
     }
     text.len()
+}
+
+/// What stands behind a mark, where a text begins with it.
+pub(crate) fn behind_mark(text: &[u8], mark: u8) -> Option<&[u8]>
+    ensures { slice_of result ≡ behind_mark mark text.now }
+{
+    match text {
+        [first, rest @ ..] if *first == mark => Some(rest),
+        _ => None,
+    }
 }

@@ -18,7 +18,7 @@ use super::at_part::{at_part, without_name};
 use super::calls::{fault, perform};
 use super::colon_form::colon_form;
 use super::context::{Context, Stopped};
-use super::cut::cut;
+use super::cut::{behind_mark, cut};
 use super::delegate::Delegate;
 use super::fault::Fault;
 use super::name::named;
@@ -56,7 +56,6 @@ pub(crate) fn read<'a, D: Delegate>(
 
 /// Reads the name of a revision, and an `@` behind it.
 #[inline(always)]
-#[tactic(auto, unfolding(crate::specs::Names::anchor_at))]
 fn anchor<'a, A: Allocator, D: Delegate>(
     alloc: A,
     text: &'a [u8],
@@ -120,7 +119,6 @@ fn named_revision<'a, A: Allocator + Copy, D: Delegate>(
 }
 
 /// Reads a revision.
-#[tactic(auto, unfolding(crate::specs::Reading::revision_at))]
 fn revision<'a, A: Allocator + Copy, D: Delegate>(
     alloc: A,
     text: &'a [u8],
@@ -131,11 +129,13 @@ fn revision<'a, A: Allocator + Copy, D: Delegate>(
         delegate.old (context_of context.old) delegate.new (context_of context.new)
         result context.new.error }
 {
-    match text {
-        [b':', after @ ..] => read(colon_form(after, text), context, delegate),
-        [b'~', ..] => read(Part::refusal(Fault::TildeFirst, None), context, delegate),
-        _ => named_revision(alloc, text, context, delegate),
+    if let Some(after) = behind_mark(text, b':') {
+        return read(colon_form(after, text), context, delegate);
     }
+    if let Some(_) = behind_mark(text, b'~') {
+        return read(Part::refusal(Fault::TildeFirst, None), context, delegate);
+    }
+    named_revision(alloc, text, context, delegate)
 }
 
 /// The range mark that a text begins with, and what follows it.
@@ -186,7 +186,6 @@ fn end<'a, D: Delegate>(
 }
 
 /// Reads what stands after a range mark.
-#[tactic(auto, unfolding(crate::specs::Reading::second_side), using(crate::proofs::Runs::performs_then, crate::proofs::Runs::performs_stop))]
 fn second<'a, A: Allocator + Copy, D: Delegate>(
     alloc: A,
     text: &'a [u8],
@@ -212,7 +211,6 @@ struct First<'a> {
 }
 
 /// Reads a range from its mark on.
-#[tactic(auto, using(crate::proofs::Runs::performs_fault, crate::proofs::Runs::performs_then, crate::proofs::Runs::performs_stop))]
 fn range_side<'a, A: Allocator + Copy, D: Delegate>(
     alloc: A,
     first: First<'a>,
@@ -256,7 +254,6 @@ fn after_side<'a, A: Allocator + Copy, D: Delegate>(
 }
 
 /// Reads one side, or two.
-#[tactic(auto, unfolding(crate::specs::Reading::sides_at), using(crate::proofs::Runs::performs_then, crate::proofs::Runs::performs_stop))]
 fn sides<'a, A: Allocator + Copy, D: Delegate>(
     alloc: A,
     excluded: bool,
@@ -308,7 +305,6 @@ fn exclude<'a, D: Delegate>(
 }
 
 /// Reads a text.
-#[tactic(auto, unfolding(crate::specs::Reading::pieces_of), using(crate::proofs::Runs::performs_then, crate::proofs::Runs::performs_stop))]
 fn whole<'a, A: Allocator + Copy, D: Delegate>(
     alloc: A,
     text: &'a [u8],

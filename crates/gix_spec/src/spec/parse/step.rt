@@ -14,6 +14,7 @@ ghost use Rattle.gix_spec.specs.Part.{piece, closing};
 ghost use Rattle.gix_spec.specs.Pieces;
 
 use super::context::{Context, Stopped};
+use super::cut::behind_mark;
 use super::delegate::{Delegate, PeelTo, Traversal};
 use super::fault::Fault;
 use super::function::read;
@@ -178,7 +179,6 @@ fn parent_step<'a, A: Allocator, D: Delegate>(
 
 /// Reads the step at the front of a text, if one stands there.
 #[inline(always)]
-#[tactic(auto, unfolding(crate::specs::Steps::step_at))]
 pub(crate) fn next_step<'a, A: Allocator, D: Delegate>(
     alloc: A,
     text: &'a [u8],
@@ -189,10 +189,14 @@ pub(crate) fn next_step<'a, A: Allocator, D: Delegate>(
         delegate.old (context_of context.old) delegate.new (context_of context.new)
         result context.new.error }
 {
-    match text {
-        [b'~', after @ ..] => read(ancestor(after), context, delegate),
-        [b'^', after @ ..] => parent_step(alloc, after, context, delegate),
-        [b':', path @ ..] => read(Part::piece(Piece::Path(path), b""), context, delegate),
-        _ => read(Part::nothing(text), context, delegate),
+    if let Some(after) = behind_mark(text, b'~') {
+        return read(ancestor(after), context, delegate);
     }
+    if let Some(after) = behind_mark(text, b'^') {
+        return parent_step(alloc, after, context, delegate);
+    }
+    if let Some(path) = behind_mark(text, b':') {
+        return read(Part::piece(Piece::Path(path), b""), context, delegate);
+    }
+    read(Part::nothing(text), context, delegate)
 }

@@ -13,6 +13,7 @@ ghost use Rattle.gix_spec.specs.Targets.{peeled_to, inside_target, target_braces
 use super::braces::{Braced, opened};
 use super::calls::{call_find, unopened};
 use super::context::{Context, Stopped};
+use super::cut::behind_mark;
 use super::delegate::{Delegate, PeelTo};
 use super::fault::Fault;
 use super::function::read;
@@ -125,10 +126,10 @@ fn inside<'a, A: Allocator, D: Delegate>(
         result context.new.error }
 {
     let meant = braces.meant.as_ref();
-    if let [b'/', more @ ..] = meant {
-        return regex(behind(braces.raw, 1), more, braces.rest, context, delegate);
+    match behind_mark(meant, b'/') {
+        Some(more) => regex(behind(braces.raw, 1), more, braces.rest, context, delegate),
+        None => read(peeled(named(meant), braces, after), context, delegate),
     }
-    read(peeled(named(meant), braces, after), context, delegate)
 }
 
 /// Reads braces behind a `^`, from the opening one on.
