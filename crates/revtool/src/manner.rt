@@ -61,12 +61,16 @@ impl Manner {
 
     // One more option, which was not given before.
     fn add(&mut self, option: &[u8]) -> Result<(), LineFault> {
-        match option {
-            b"long" => set_once(&mut self.long),
-            b"always" => set_once(&mut self.always),
-            b"first-parent" => set_once(&mut self.first_parent),
-            _ => self.add_number(option),
+        if option == b"long".as_slice() {
+            return set_once(&mut self.long);
         }
+        if option == b"always".as_slice() {
+            return set_once(&mut self.always);
+        }
+        if option == b"first-parent".as_slice() {
+            return set_once(&mut self.first_parent);
+        }
+        self.add_number(option)
     }
 
     // One more option with a number.

@@ -138,26 +138,37 @@ fn print_call<W: Write>(call: Call<'_>, to: &mut W) -> io::Result<()> {
     match call {
         Call::FindRef(name) => print_text("find_ref(", name, to),
         Call::Prefix(prefix, hint) => print_prefix(prefix, hint, to),
-        Call::Reflog(ReflogLookup::Entry(number)) => write!(to, "reflog(entry {number})"),
-        Call::Reflog(ReflogLookup::Date(time)) => {
-            write!(to, "reflog(date {} {})", time.seconds, time.offset)
-        }
+        Call::Reflog(query) => print_lookup(query, to),
         Call::Branch(number) => write!(to, "branch({number})"),
-        Call::Sibling(SiblingBranch::Upstream) => to.write_all(b"sibling(upstream)"),
-        Call::Sibling(SiblingBranch::Push) => to.write_all(b"sibling(push)"),
+        Call::Sibling(branch) => print_text("sibling(", name_of_sibling(branch).as_bytes(), to),
         Call::Kind(kind) => print_text("kind(", name_of_kind(kind).as_bytes(), to),
-        Call::Traverse(Traversal::NthParent(number)) => write!(to, "parent({number})"),
-        Call::Traverse(Traversal::NthAncestor(number)) => write!(to, "ancestor({number})"),
+        Call::Traverse(step) => print_step(step, to),
         Call::Peel(target) => print_target(target, to),
         Call::Find { regex, negated } => {
             print_text(if negated { "find_not(" } else { "find(" }, regex, to)
         }
-        Call::Index { path, stage } => {
-            write!(to, "index({stage} ")?;
-            print_text("", path, to)
-        }
+        Call::Index { path, stage } => print_index(path, stage, to),
         Call::Done => to.write_all(b"done"),
     }
+}
+
+fn print_lookup<W: Write>(query: ReflogLookup, to: &mut W) -> io::Result<()> {
+    match query {
+        ReflogLookup::Entry(number) => write!(to, "reflog(entry {number})"),
+        ReflogLookup::Date(time) => write!(to, "reflog(date {} {})", time.seconds, time.offset),
+    }
+}
+
+fn print_step<W: Write>(step: Traversal, to: &mut W) -> io::Result<()> {
+    match step {
+        Traversal::NthParent(number) => write!(to, "parent({number})"),
+        Traversal::NthAncestor(number) => write!(to, "ancestor({number})"),
+    }
+}
+
+fn print_index<W: Write>(path: &[u8], stage: u8, to: &mut W) -> io::Result<()> {
+    write!(to, "index({stage} ")?;
+    print_text("", path, to)
 }
 
 // What comes before a text, the text, and a closing bracket.
@@ -206,6 +217,13 @@ fn name_of_kind(kind: spec::Kind) -> &'static str {
         spec::Kind::ReachableToMergeBase => "ReachableToMergeBase",
         spec::Kind::IncludeReachableFromParents => "IncludeReachableFromParents",
         spec::Kind::ExcludeReachableFromParents => "ExcludeReachableFromParents",
+    }
+}
+
+fn name_of_sibling(branch: SiblingBranch) -> &'static str {
+    match branch {
+        SiblingBranch::Upstream => "upstream",
+        SiblingBranch::Push => "push",
     }
 }
 
