@@ -62,6 +62,6 @@ part_of (Ok p) = record { pieces = pieces_found p.piece; rest = p.rest.now; way 
 part_of (Err r) = refusal r.fault (slice_of r.input)
 
 -- what stands behind a mark, where a text begins with it
-abbrev pub behind_mark : (mark : ℕ) → (text : List ℕ) → Option (List ℕ)
-behind_mark mark [] = None
-behind_mark mark (b ∷ rest) = if b == mark then Some rest else None
+abbrev pub after_mark : (mark : ℕ) → (text : List ℕ) → Option (List ℕ)
+after_mark mark [] = None
+after_mark mark (b ∷ rest) = if b == mark then Some rest else None

@@ -16,7 +16,7 @@ ghost use Rattle.gix_date.specs.Date.{date_of};
 use super::braces::{Braced, begins, opened};
 use super::calls::{Asked, call_asked, unopened};
 use super::context::{Context, Stopped};
-use super::cut::behind_mark;
+use super::cut::after_mark;
 use super::delegate::{Delegate, ReflogLookup, SiblingBranch};
 use super::fault::Fault;
 use super::function::read;
@@ -168,7 +168,7 @@ pub(crate) fn at_part<'a, A: Allocator, D: Delegate>(
         delegate.old (context_of context.old) delegate.new (context_of context.new)
         result context.new.error }
 {
-    let Some(after) = behind_mark(text, b'@') else {
+    let Some(after) = after_mark(text, b'@') else {
         return read(Part::nothing(text), context, delegate);
     };
     if begins(after) {
@@ -189,7 +189,7 @@ pub(crate) fn without_name<'a, A: Allocator, D: Delegate>(
         delegate.old (context_of context.old) delegate.new (context_of context.new)
         result context.new.error }
 {
-    let Some(after) = behind_mark(text, b'@') else {
+    let Some(after) = after_mark(text, b'@') else {
         return read(Part::nothing(text), context, delegate);
     };
     if begins(after) {

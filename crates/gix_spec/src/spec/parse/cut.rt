@@ -3,7 +3,7 @@
 ghost use Rattle.std.specs.Prelude.{◌≡◌, ◌<◌, ◌≤◌, ◌^◌, ◌+◌, length, slice_index, if◌then◌else◌, ◌==◌};
 ghost use Rattle.gix_spec.specs.Marks.{dot};
 ghost use Rattle.gix_spec.specs.Cut.{two_dots_at, at_ends, ends_name, cut_of};
-ghost use Rattle.gix_spec.specs.Found.{slice_of, behind_mark};
+ghost use Rattle.gix_spec.specs.Found.{slice_of, after_mark};
 
 // The byte at a place, or 0 past the end.
 fn byte_at(text: &[u8], place: usize) -> u8
@@ -67,8 +67,8 @@ pub(crate) fn cut(text: &[u8]) -> usize
 }
 
 /// What stands behind a mark, where a text begins with it.
-pub(crate) fn behind_mark(text: &[u8], mark: u8) -> Option<&[u8]>
-    ensures { slice_of result ≡ behind_mark mark text.now }
+pub(crate) fn after_mark(text: &[u8], mark: u8) -> Option<&[u8]>
+    ensures { slice_of result ≡ after_mark mark text.now }
 {
     match text {
         [first, rest @ ..] if *first == mark => Some(rest),

@@ -18,7 +18,7 @@ use super::at_part::{at_part, without_name};
 use super::calls::{fault, perform};
 use super::colon_form::colon_form;
 use super::context::{Context, Stopped};
-use super::cut::{behind_mark, cut};
+use super::cut::{after_mark, cut};
 use super::delegate::Delegate;
 use super::fault::Fault;
 use super::name::named;
@@ -129,10 +129,10 @@ fn revision<'a, A: Allocator + Copy, D: Delegate>(
         delegate.old (context_of context.old) delegate.new (context_of context.new)
         result context.new.error }
 {
-    if let Some(after) = behind_mark(text, b':') {
+    if let Some(after) = after_mark(text, b':') {
         return read(colon_form(after, text), context, delegate);
     }
-    if let Some(_) = behind_mark(text, b'~') {
+    if let Some(_) = after_mark(text, b'~') {
         return read(Part::refusal(Fault::TildeFirst, None), context, delegate);
     }
     named_revision(alloc, text, context, delegate)

@@ -14,7 +14,7 @@ ghost use Rattle.gix_spec.specs.Part.{piece, closing};
 ghost use Rattle.gix_spec.specs.Pieces;
 
 use super::context::{Context, Stopped};
-use super::cut::behind_mark;
+use super::cut::after_mark;
 use super::delegate::{Delegate, PeelTo, Traversal};
 use super::fault::Fault;
 use super::function::read;
@@ -189,13 +189,13 @@ pub(crate) fn next_step<'a, A: Allocator, D: Delegate>(
         delegate.old (context_of context.old) delegate.new (context_of context.new)
         result context.new.error }
 {
-    if let Some(after) = behind_mark(text, b'~') {
+    if let Some(after) = after_mark(text, b'~') {
         return read(ancestor(after), context, delegate);
     }
-    if let Some(after) = behind_mark(text, b'^') {
+    if let Some(after) = after_mark(text, b'^') {
         return parent_step(alloc, after, context, delegate);
     }
-    if let Some(path) = behind_mark(text, b':') {
+    if let Some(path) = after_mark(text, b':') {
         return read(Part::piece(Piece::Path(path), b""), context, delegate);
     }
     read(Part::nothing(text), context, delegate)

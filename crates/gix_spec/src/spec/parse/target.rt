@@ -13,7 +13,7 @@ ghost use Rattle.gix_spec.specs.Targets.{peeled_to, inside_target, target_braces
 use super::braces::{Braced, opened};
 use super::calls::{call_find, unopened};
 use super::context::{Context, Stopped};
-use super::cut::behind_mark;
+use super::cut::after_mark;
 use super::delegate::{Delegate, PeelTo};
 use super::fault::Fault;
 use super::function::read;
@@ -126,7 +126,7 @@ fn inside<'a, A: Allocator, D: Delegate>(
         result context.new.error }
 {
     let meant = braces.meant.as_ref();
-    match behind_mark(meant, b'/') {
+    match after_mark(meant, b'/') {
         Some(more) => regex(behind(braces.raw, 1), more, braces.rest, context, delegate),
         None => read(peeled(named(meant), braces, after), context, delegate),
     }
