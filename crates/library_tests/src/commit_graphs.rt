@@ -3,14 +3,14 @@
 use fixtures::graph_files::{empty_file, file};
 use fixtures::histories::Row;
 use gix_revision::commit_graph::{CommitGraph, OpenFault};
-use gix_revision::graph::SourceCommit;
 use gix_revision::hash::ObjectId;
 use refusing::Refusing;
 use std::alloc::{AllocError, Global};
+use std::mem::replace;
 use std::test::Fail;
 
 /// The commits of the file, with positions in place of ids.
-const COMMITS: [Row<'static>; 5] = [
+static COMMITS: [Row<'static>; 5] = [
     Row(0, 3, Some(2), &[1]),
     Row(1, 1, Some(1), &[]),
     Row(2, 4, Some(3), &[0, 3]),
@@ -20,6 +20,20 @@ const COMMITS: [Row<'static>; 5] = [
 
 /// A place in the file, the byte that stands there in place of its own, and why the file is refused then.
 struct Spoiled(usize, u8, OpenFault);
+
+/// Two chunks of the file, by their places in the table of contents, whose ids are swapped.
+static SWAPPED: [(usize, usize); 10] = [
+    (0, 1),
+    (0, 2),
+    (0, 3),
+    (0, 4),
+    (1, 2),
+    (1, 3),
+    (1, 4),
+    (2, 3),
+    (2, 4),
+    (3, 4),
+];
 
 /// The file with one byte spoiled.
 static SPOILED: [Spoiled; 20] = [
@@ -49,198 +63,230 @@ static SPOILED: [Spoiled; 20] = [
     Spoiled(0x57c + 4, 0, OpenFault::EdgeEnd),
 ];
 
-/// Whether the commit is that of a row of the file.
-fn is_row(graph: &CommitGraph<&[u8]>, commit: &SourceCommit, row: &Row<'_>) -> bool {
-    let parents = row.3.iter().map(|position| graph.id(*position as usize));
-    commit.time == row.1
-        && commit.generation == row.2
-        && commit.parents.iter().map(|id| Some(*id)).eq(parents)
-}
+type File<'b> = CommitGraph<&'b [u8]>;
 
-/// Whether each commit of the file is found under its id, and is the row's.
-fn reads_back(alloc: Global) -> Result<bool, AllocError> {
-    let bytes = file(alloc)?;
-    let Ok(graph) = CommitGraph::open(bytes.as_slice()) else {
-        return Ok(false);
-    };
-    for row in &COMMITS {
-        let Some(id) = graph.id(row.0 as usize) else {
-            return Ok(false);
-        };
-        match graph.get(alloc, id)? {
-            Some(commit) if is_row(&graph, &commit, row) => {}
-            _ => return Ok(false),
+/// Whether these are the ids at some positions of the file, in order.
+fn are_at(graph: &File<'_>, ids: &[ObjectId], positions: &[u8]) -> bool {
+    for (id, position) in ids.iter().zip(positions) {
+        if graph.id(*position as usize) != Some(*id) {
+            return false;
         }
     }
-    let lacks = graph.get(alloc, ObjectId([0xc2; 20]))?.is_none();
-    Ok(lacks && graph.len() == COMMITS.len() && graph.hash_is_right() && graph.levels_fall())
+    ids.len() == positions.len()
+}
+
+/// Whether the commit of a row is found under its id.
+fn finds(alloc: Global, graph: &File<'_>, row: &Row<'_>) -> bool {
+    let Some(id) = graph.id(row.0 as usize) else {
+        return false;
+    };
+    match graph.get(alloc, id) {
+        Ok(Some(commit)) => {
+            commit.time == row.1
+                && commit.generation == row.2
+                && are_at(graph, &commit.parents, row.3)
+        }
+        _ => false,
+    }
+}
+
+/// Whether there is no commit under the id that repeats a byte.
+fn lacks(alloc: Global, graph: &File<'_>, byte: u8) -> bool {
+    matches!(graph.get(alloc, ObjectId([byte; 20])), Ok(None))
+}
+
+/// Whether each commit of the file is found, and no other.
+fn finds_all(alloc: Global, graph: &File<'_>) -> bool {
+    for row in &COMMITS {
+        if !finds(alloc, graph, row) {
+            return false;
+        }
+    }
+    graph.len() == COMMITS.len() && lacks(alloc, graph, 0xc2)
+}
+
+/// Whether the octopus merge is found, or wants memory, where the request after so many is refused; none where there is no
+/// such request.
+fn wants_memory(alloc: Global, graph: &File<'_>, id: ObjectId, before: u64) -> Option<bool> {
+    let memory = Refusing::new(alloc, before);
+    let is_found = match graph.get(&memory, id) {
+        Ok(Some(commit)) => commit.parents.len() == 3,
+        _ => false,
+    };
+    if memory.has_refused() {
+        Some(!is_found)
+    } else if is_found {
+        None
+    } else {
+        Some(false)
+    }
+}
+
+/// Whether each request for the octopus merge is told where it is refused, and there is one.
+fn is_told(alloc: Global, graph: &File<'_>) -> bool {
+    let Some(id) = graph.id(4) else {
+        return false;
+    };
+    for before in 0..10u64 {
+        match wants_memory(alloc, graph, id, before) {
+            Some(true) => {}
+            Some(false) => return false,
+            None => return before > 0,
+        }
+    }
+    false
+}
+
+/// Whether the file is opened, and is what git wrote.
+fn is_read_back(alloc: Global, bytes: &[u8]) -> bool {
+    match CommitGraph::open(bytes) {
+        Ok(graph) => {
+            graph.hash_is_right()
+                && graph.levels_fall()
+                && finds_all(alloc, &graph)
+                && is_told(alloc, &graph)
+        }
+        Err(_) => false,
+    }
 }
 
 /// Whether the file without commits is opened, and has none.
-fn has_none(alloc: Global) -> Result<bool, AllocError> {
-    let bytes = empty_file(alloc)?;
-    let Ok(graph) = CommitGraph::open(bytes.as_slice()) else {
-        return Ok(false);
-    };
-    let lacks = graph.get(alloc, ObjectId([0; 20]))?.is_none();
-    Ok(lacks && graph.len() == 0 && graph.id(0).is_none() && graph.levels_fall())
-}
-
-/// How many requests the octopus merge takes where all are granted, and each of them is told where it is refused.
-fn requests_of_get(alloc: Global) -> Result<Option<u64>, AllocError> {
-    let bytes = file(alloc)?;
-    let Ok(graph) = CommitGraph::open(bytes.as_slice()) else {
-        return Ok(None);
-    };
-    let Some(id) = graph.id(4) else {
-        return Ok(None);
-    };
-    for number in 0..10u64 {
-        let memory = Refusing::new(alloc, number);
-        let found = graph.get(&memory, id);
-        match found {
-            Ok(Some(commit)) if !memory.has_refused() && commit.parents.len() == 3 => {
-                return Ok(Some(number));
-            }
-            Err(_) if memory.has_refused() => {}
-            _ => return Ok(None),
-        }
-    }
-    Ok(None)
-}
-
-/// The file with another byte at a place.
-fn changed(alloc: Global, file: &[u8], place: usize, byte: u8) -> Result<Vec<u8>, AllocError> {
-    let mut bytes = file.to_vec(alloc)?;
-    if let Some(at) = bytes.get_mut(place) {
-        *at = byte;
-    }
-    Ok(bytes)
-}
-
-/// Whether bytes are refused for a fault, and come back.
-fn is_refused_for(bytes: Vec<u8>, fault: OpenFault) -> bool {
-    let len = bytes.len();
+fn has_none(alloc: Global, bytes: &[u8]) -> bool {
     match CommitGraph::open(bytes) {
-        Ok(_) => false,
-        Err(error) => error.fault == fault && error.bytes.len() == len,
-    }
-}
-
-/// The first fault for which its spoiled file is not refused.
-fn first_opened(alloc: Global) -> Result<Option<OpenFault>, AllocError> {
-    let file = file(alloc)?;
-    for case in &SPOILED {
-        if !is_refused_for(changed(alloc, &file, case.0, case.1)?, case.2) {
-            return Ok(Some(case.2));
+        Ok(graph) => {
+            graph.len() == 0
+                && graph.id(0).is_none()
+                && graph.levels_fall()
+                && lacks(alloc, &graph, 0)
         }
+        Err(_) => false,
     }
-    Ok(None)
 }
 
-/// Whether bytes that are not the file's are refused; or each commit in them is found, and their hash
-/// is not right.
-fn is_refused_or_read(alloc: Global, bytes: &[u8]) -> Result<bool, AllocError> {
-    let Ok(graph) = CommitGraph::open(bytes) else {
-        return Ok(true);
-    };
-    for position in 0..graph.len() {
-        let Some(id) = graph.id(position) else {
-            return Ok(false);
-        };
-        if graph.get(alloc, id)?.is_none() {
-            return Ok(false);
-        }
-    }
-    Ok(!graph.hash_is_right())
-}
-
-/// Whether the file is refused where it is cut at a place; and with 0, 255 or one bit changed there
-/// refused or read.
-fn holds_at(alloc: Global, file: &[u8], place: usize) -> Result<bool, AllocError> {
-    let (Some(before), Some(byte)) = (file.get(..place), file.get(place)) else {
-        return Ok(false);
-    };
-    for other in [0, 255, *byte ^ 1] {
-        let bytes = changed(alloc, file, place, other)?;
-        if other != *byte && !is_refused_or_read(alloc, &bytes)? {
-            return Ok(false);
-        }
-    }
-    Ok(CommitGraph::open(before).is_err())
-}
-
-/// The first place at which the file holds none of that.
-fn first_misread(alloc: Global) -> Result<Option<usize>, AllocError> {
-    let file = file(alloc)?;
-    for place in 0..file.len() {
-        if !holds_at(alloc, &file, place)? {
-            return Ok(Some(place));
-        }
-    }
-    Ok(None)
-}
-
-/// The place of a byte of the id of a chunk.
-fn place_of_id(chunk: usize, byte: usize) -> usize {
-    chunk
-        .saturating_mul(12)
-        .saturating_add(byte)
-        .saturating_add(8)
-}
-
-/// The file with the ids of two chunks swapped, so that each stands where the other one was.
-fn swapped(alloc: Global, file: &[u8], one: usize, other: usize) -> Result<Vec<u8>, AllocError> {
-    let mut bytes = file.to_vec(alloc)?;
-    for byte in 0..4 {
-        let (left, right) = (place_of_id(one, byte), place_of_id(other, byte));
-        if left < bytes.len() && right < bytes.len() {
-            bytes.swap(left, right);
-        }
-    }
-    Ok(bytes)
-}
-
-/// How many of the ten files with two chunks swapped are refused; `None` where one is neither refused nor read.
-fn refused_swaps(alloc: Global) -> Result<Option<u64>, AllocError> {
-    let file = file(alloc)?;
-    let mut refused = 0u64;
-    for one in 0..5usize {
-        for other in 0..one {
-            let bytes = swapped(alloc, &file, one, other)?;
-            if !is_refused_or_read(alloc, &bytes)? {
-                return Ok(None);
-            }
-            if CommitGraph::open(bytes).is_err() {
-                refused = refused.saturating_add(1);
-            }
-        }
-    }
-    Ok(Some(refused))
+/// The file, and the one without commits.
+fn both_files(alloc: Global) -> Result<bool, AllocError> {
+    Ok(is_read_back(alloc, &file(alloc)?) && has_none(alloc, &empty_file(alloc)?))
 }
 
 #[test]
 fn what_git_wrote_is_read_back(rt: HostRuntime) -> Result<(), Fail> {
-    assert!(rt; reads_back(rt.alloc())?);
-    assert!(rt; has_none(rt.alloc())?);
-    assert!(rt; requests_of_get(rt.alloc())?.is_some_and(|requests| requests > 0));
+    assert!(rt; both_files(rt.alloc())?);
     Ok(())
 }
 
-#[test]
-fn two_chunks_may_be_swapped(rt: HostRuntime) -> Result<(), Fail> {
-    assert_eq!(rt; refused_swaps(rt.alloc())?, Some(10));
-    Ok(())
+/// Puts another byte at a place, and answers the one that stood there.
+fn put(bytes: &mut [u8], place: usize, byte: u8) -> u8 {
+    match bytes.get_mut(place) {
+        Some(at) => replace(at, byte),
+        None => byte,
+    }
+}
+
+/// Whether bytes are refused for a fault, and come back.
+fn is_refused_for(bytes: &[u8], fault: OpenFault) -> bool {
+    match CommitGraph::open(bytes) {
+        Ok(_) => false,
+        Err(error) => error.fault == fault && error.bytes.len() == bytes.len(),
+    }
+}
+
+/// The first fault for which its spoiled file is not refused.
+fn first_opened(bytes: &mut [u8]) -> Option<OpenFault> {
+    for case in &SPOILED {
+        let own = put(bytes, case.0, case.1);
+        if !is_refused_for(bytes, case.2) {
+            return Some(case.2);
+        }
+        let _ = put(bytes, case.0, own);
+    }
+    None
+}
+
+/// Whether each commit of a file is found.
+fn is_whole(alloc: Global, graph: &File<'_>) -> bool {
+    for position in 0..graph.len() {
+        let Some(id) = graph.id(position) else {
+            return false;
+        };
+        if !matches!(graph.get(alloc, id), Ok(Some(_))) {
+            return false;
+        }
+    }
+    true
+}
+
+/// Whether bytes that are not the file's are refused; or each commit in them is found, and their hash
+/// is not right.
+fn is_refused_or_read(alloc: Global, bytes: &[u8]) -> bool {
+    match CommitGraph::open(bytes) {
+        Ok(graph) => is_whole(alloc, &graph) && !graph.hash_is_right(),
+        Err(_) => true,
+    }
+}
+
+/// Whether the file is refused or read with another byte at a place.
+fn holds_with(alloc: Global, bytes: &mut [u8], place: usize, byte: u8) -> bool {
+    let own = put(bytes, place, byte);
+    let holds = own == byte || is_refused_or_read(alloc, bytes);
+    let _ = put(bytes, place, own);
+    holds
+}
+
+/// The first place at which the file is opened where it is cut there; or neither refused nor read with 0, 255 or one bit
+/// changed there.
+fn first_misread(alloc: Global, bytes: &mut [u8]) -> Option<usize> {
+    for place in 0..bytes.len() {
+        let (before, rest) = bytes.split_at(place);
+        let bit = match rest.first() {
+            Some(byte) => *byte ^ 1,
+            None => 0,
+        };
+        if CommitGraph::open(before).is_ok()
+            || !holds_with(alloc, bytes, place, 0)
+            || !holds_with(alloc, bytes, place, 255)
+            || !holds_with(alloc, bytes, place, bit)
+        {
+            return Some(place);
+        }
+    }
+    None
+}
+
+/// Swaps the ids of two chunks, so that each stands where the other one was.
+fn swap_ids(bytes: &mut [u8], (one, other): (usize, usize)) {
+    for byte in 8..12usize {
+        let left = one.saturating_mul(12).saturating_add(byte);
+        let right = other.saturating_mul(12).saturating_add(byte);
+        if left < bytes.len() && right < bytes.len() {
+            bytes.swap(left, right);
+        }
+    }
+}
+
+/// The first two chunks that may be swapped.
+fn first_swapped(bytes: &mut [u8]) -> Option<(usize, usize)> {
+    for pair in &SWAPPED {
+        swap_ids(bytes, *pair);
+        if CommitGraph::open(&*bytes).is_ok() {
+            return Some(*pair);
+        }
+        swap_ids(bytes, *pair);
+    }
+    None
+}
+
+/// Whether the file is refused where it is spoiled on purpose, and misread nowhere.
+fn is_refused_where_spoiled(alloc: Global) -> Result<bool, AllocError> {
+    let mut bytes = file(alloc)?;
+    Ok(
+        first_opened(&mut bytes).is_none()
+            && first_swapped(&mut bytes).is_none()
+            && first_misread(alloc, &mut bytes).is_none(),
+    )
 }
 
 #[test]
-fn spoiled_files_are_refused_by_name(rt: HostRuntime) -> Result<(), Fail> {
-    assert_eq!(rt; first_opened(rt.alloc())?, None);
-    Ok(())
-}
-
-#[test]
-fn each_byte_may_be_spoiled(rt: HostRuntime) -> Result<(), Fail> {
-    assert_eq!(rt; first_misread(rt.alloc())?, None);
+fn spoiled_files_are_refused_or_read(rt: HostRuntime) -> Result<(), Fail> {
+    assert!(rt; is_refused_where_spoiled(rt.alloc())?);
     Ok(())
 }

@@ -1,6 +1,8 @@
 //! Texts that are dates, and texts that are none.
 
+use fixtures::printed::prints;
 use gix_revision::date::{DateError, Time, parse};
+use std::alloc::{AllocError, Global};
 use std::test::Fail;
 
 const RANGE: Result<(i64, i32), DateError> = Err(DateError::OutOfRange);
@@ -8,7 +10,7 @@ const RANGE: Result<(i64, i32), DateError> = Err(DateError::OutOfRange);
 const NONE: Result<(i64, i32), DateError> = Err(DateError::NotADate);
 
 /// Each text, the seconds and the offset of the moment it is read at, and those that it means.
-const ROWS: [(&str, (i64, i32), Result<(i64, i32), DateError>); 84] = [
+static ROWS: [(&str, (i64, i32), Result<(i64, i32), DateError>); 84] = [
     // The worked rows.
     ("1234567890 +0200", (77, 0), Ok((1234567890, 7200))),
     ("1979-02-26", (77, 0), Ok((288835200, 0))),
@@ -135,36 +137,72 @@ fn means(text: &[u8], now: (i64, i32), want: Result<(i64, i32), DateError>) -> b
     }
 }
 
+/// The first text of a table that does not mean what it says.
+fn first_misread() -> Option<&'static str> {
+    for (text, now, want) in &ROWS {
+        if !means(text.as_bytes(), *now, *want) {
+            return Some(*text);
+        }
+    }
+    None
+}
+
 #[test]
 fn dates_mean_their_times(rt: HostRuntime) {
-    for (text, now, want) in ROWS {
-        assert!(rt; means(text.as_bytes(), now, want), "{text}");
+    assert_eq!(rt; first_misread(), None);
+}
+
+/// Whether a text that is repeated so often before another one means that, a minute east of Greenwich.
+fn repeated_means(
+    alloc: Global,
+    (text, count, rest): (&[u8], usize, &[u8]),
+    want: Result<(i64, i32), DateError>,
+) -> Result<bool, AllocError> {
+    let mut long = text.repeat(alloc, count)?;
+    long.extend_from_slice(rest)?;
+    Ok(means(&long, (0, 60), want))
+}
+
+/// What is repeated, how often, and what stands behind it; and what all of it means.
+static LONG: [(&[u8], usize, &[u8], Result<(i64, i32), DateError>); 4] = [
+    (b"7", 100_000, b"", NONE),
+    (b"7", 100_000, b" +0000", RANGE),
+    (b"1 day ", 20_000, b"", NONE),
+    (b"1 day ", 20_000, b"ago", Ok((-1_728_000_000, 60))),
+];
+
+/// The number of the first long text that means something else.
+fn first_long_misread(alloc: Global) -> Result<Option<usize>, AllocError> {
+    for (i, (text, count, rest, want)) in LONG.iter().enumerate() {
+        if !repeated_means(alloc, (text, *count, rest), *want)? {
+            return Ok(Some(i));
+        }
     }
+    Ok(None)
+}
+
+/// How refusals print.
+static REFUSALS: [(DateError, &str); 3] = [
+    (DateError::NotADate, "NotADate"),
+    (DateError::OutOfRange, "OutOfRange"),
+    (DateError::OutOfMemory, "out of memory"),
+];
+
+/// The first text that a refusal is not printed as.
+fn first_misprinted(alloc: Global) -> Result<Option<&'static str>, AllocError> {
+    for (refusal, text) in &REFUSALS {
+        if !prints(alloc, refusal, text)? {
+            return Ok(Some(*text));
+        }
+    }
+    Ok(None)
 }
 
 #[test]
 fn long_texts_and_other_bytes(rt: HostRuntime) -> Result<(), Fail> {
-    let alloc = rt.alloc();
     assert!(rt; means(b"\xff", (0, 0), NONE));
     assert!(rt; means(b"1 Jan 1970 00:00 GMT (\xff)", (0, 0), NONE));
-    let mut digits = vec![in alloc; b'7'; 100_000]?;
-    assert!(rt; means(&digits, (0, 0), NONE));
-    digits.extend_from_slice(b" +0000")?;
-    assert!(rt; means(&digits, (0, 0), RANGE));
-    let mut days = Vec::new(alloc);
-    for _ in 0..20_000 {
-        days.extend_from_slice(b"1 day ")?;
-    }
-    assert!(rt; means(&days, (0, 0), NONE));
-    days.extend_from_slice(b"ago")?;
-    assert!(rt; means(&days, (0, 60), Ok((-1_728_000_000, 60))));
-    for (error, want) in [
-        (DateError::NotADate, "NotADate"),
-        (DateError::OutOfRange, "OutOfRange"),
-        (DateError::OutOfMemory, "out of memory"),
-    ] {
-        let text = format!(in alloc; "{error}")?;
-        assert_eq!(rt; text.as_str(), want);
-    }
+    assert_eq!(rt; first_long_misread(rt.alloc())?, None);
+    assert_eq!(rt; first_misprinted(rt.alloc())?, None);
     Ok(())
 }

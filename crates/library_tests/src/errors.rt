@@ -10,13 +10,17 @@ fn holds_one(alloc: Global) -> bool {
     *one.first() == 7 && one.len() == 1 && NonEmpty::<u8>::from_vec(Vec::new(alloc)).is_none()
 }
 
+/// Whether these are 3, 1 and 2.
+fn are_three(list: &NonEmpty<u8>) -> bool {
+    *list.first() == 3 && list.len() == 3 && list.iter().eq([3u8, 1, 2].iter())
+}
+
 /// A list of three has them in their order.
 fn holds_three(alloc: Global) -> Result<bool, AllocError> {
-    let Some(list) = NonEmpty::from_vec(vec![in alloc; 3u8, 1, 2]?) else {
-        return Ok(false);
-    };
-    let in_order = list.iter().zip(&[3, 1, 2]).all(|(item, want)| item == want);
-    Ok(in_order && *list.first() == 3 && list.len() == 3)
+    Ok(match &NonEmpty::from_vec(vec![in alloc; 3u8, 1, 2]?) {
+        Some(list) => are_three(list),
+        None => false,
+    })
 }
 
 /// Whether a refusal has this message, says this of memory, and nothing more.

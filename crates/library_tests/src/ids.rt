@@ -87,6 +87,19 @@ static PREFIXES: [(&str, Result<(usize, &str, &str), HexError>); 10] = [
     ),
 ];
 
+/// Whether a prefix has so many digits, and it and its id print so.
+fn is_prefix(
+    alloc: Global,
+    prefix: &Prefix,
+    (len, printed, padded): (usize, &str, &str),
+) -> Result<bool, AllocError> {
+    Ok(
+        prefix.hex_len() == len
+            && prints(alloc, prefix, printed)?
+            && prints(alloc, prefix.as_oid(), padded)?,
+    )
+}
+
 /// Whether a text is read as a prefix of so many digits that prints so, as its id does, or is refused so.
 fn reads_prefix(
     alloc: Global,
@@ -94,11 +107,7 @@ fn reads_prefix(
     want: Result<(usize, &str, &str), HexError>,
 ) -> Result<bool, AllocError> {
     match (Prefix::from_hex(text.as_bytes()), want) {
-        (Ok(prefix), Ok((len, printed, padded))) => Ok(
-            prefix.hex_len() == len
-                && prints(alloc, &prefix, printed)?
-                && prints(alloc, prefix.as_oid(), padded)?,
-        ),
+        (Ok(prefix), Ok(want)) => is_prefix(alloc, &prefix, want),
         (found, want) => Ok(found.err() == want.err()),
     }
 }
@@ -111,18 +120,28 @@ static REFUSALS: [(HexError, &str); 4] = [
     (HexError::TooLong, "TooLong"),
 ];
 
-/// The first id, prefix or refusal that is not as its table says.
-fn first_misread(alloc: Global) -> Result<Option<&'static str>, AllocError> {
+/// The first text that is not read as the table of ids says.
+fn first_misread_id(alloc: Global) -> Result<Option<&'static str>, AllocError> {
     for (text, want) in &IDS {
         if !reads_id(alloc, text, *want)? {
             return Ok(Some(*text));
         }
     }
+    Ok(None)
+}
+
+/// The first text that is not read as the table of prefixes says.
+fn first_misread_prefix(alloc: Global) -> Result<Option<&'static str>, AllocError> {
     for (text, want) in &PREFIXES {
         if !reads_prefix(alloc, text, *want)? {
             return Ok(Some(*text));
         }
     }
+    Ok(None)
+}
+
+/// The first text that a refusal is not printed as.
+fn first_misprinted(alloc: Global) -> Result<Option<&'static str>, AllocError> {
     for (refusal, text) in &REFUSALS {
         if !prints(alloc, refusal, text)? {
             return Ok(Some(*text));
@@ -133,7 +152,9 @@ fn first_misread(alloc: Global) -> Result<Option<&'static str>, AllocError> {
 
 #[test]
 fn digits_are_read_and_printed(rt: HostRuntime) -> Result<(), Fail> {
-    assert_eq!(rt; first_misread(rt.alloc())?, None);
+    assert_eq!(rt; first_misread_id(rt.alloc())?, None);
+    assert_eq!(rt; first_misread_prefix(rt.alloc())?, None);
+    assert_eq!(rt; first_misprinted(rt.alloc())?, None);
     Ok(())
 }
 
@@ -186,16 +207,51 @@ fn compare(text: &str, other: &str, order: Ordering) -> bool {
     }
 }
 
+/// The first number of digits of an id that is not written so.
+fn first_unwritten(id: &ObjectId) -> Option<usize> {
+    for (len, count, want) in &WRITTEN {
+        if !writes(id, *len, *count, want) {
+            return Some(*len);
+        }
+    }
+    None
+}
+
+/// The first prefix that has another order against an id.
+fn first_unmet(id: &ObjectId) -> Option<&'static str> {
+    for (text, order) in &AGAINST_NAME {
+        if !meets(text, id, *order) {
+            return Some(*text);
+        }
+    }
+    None
+}
+
+/// The first of two prefixes that have another order.
+fn first_uncompared() -> Option<&'static str> {
+    for (text, other, order) in &AMONG_PREFIXES {
+        if !compare(text, other, *order) {
+            return Some(*text);
+        }
+    }
+    None
+}
+
+/// Whether the id of the example has its bytes, is written and is compared.
+fn is_written_and_compared() -> bool {
+    match &ObjectId::from_hex(UPPER.as_bytes()) {
+        Ok(id) => {
+            id.as_bytes().first() == Some(&0xda)
+                && id.as_bytes().last() == Some(&0x35)
+                && first_unwritten(id).is_none()
+                && first_unmet(id).is_none()
+        }
+        Err(_) => false,
+    }
+}
+
 #[test]
-fn ids_are_written_and_compared(rt: HostRuntime) -> Result<(), Fail> {
-    let id = ObjectId::from_hex(UPPER.as_bytes())?;
-    assert!(rt; id.as_bytes().first() == Some(&0xda) && id.as_bytes().last() == Some(&0x35));
-    assert!(rt; WRITTEN.iter().all(|row| writes(&id, row.0, row.1, row.2)));
-    assert!(rt; AGAINST_NAME.iter().all(|row| meets(row.0, &id, row.1)));
-    assert!(rt;
-        AMONG_PREFIXES
-            .iter()
-            .all(|row| compare(row.0, row.1, row.2))
-    );
-    Ok(())
+fn ids_are_written_and_compared(rt: HostRuntime) {
+    assert!(rt; is_written_and_compared());
+    assert_eq!(rt; first_uncompared(), None);
 }

@@ -12,6 +12,7 @@ ghost use Rattle.gix_revision.specs.Premises.{KeysFallFrom};
 ghost use Rattle.gix_base.specs.declared.hash.ObjectId.{ObjectId};
 
 use fixtures::graph_files::levelled;
+use fixtures::printed::prints;
 use gix_revision::commit_graph::{Commits, Joined, LevelledGraph};
 use gix_revision::describe::{self, Options, Outcome, describe};
 use gix_revision::error::NonEmpty;
@@ -21,7 +22,6 @@ use gix_revision::laws::merge_base::whole_histories_meet;
 use gix_revision::merge_base::{Error, Flags, merge_base, octopus};
 use std::alloc::Global;
 use std::borrow::CowSlice;
-use std::string::String;
 
 /// The merge bases.
 fn bases_of(
@@ -145,30 +145,43 @@ fn has_octopus_base(
 
 /// Whether the first parent is the base of the octopus merge and itself, two commits without a common ancestor have none,
 /// and the second parent is the octopus base of the merge and both.
-fn are_answered(alloc: Global) -> bool {
-    let Some(source) = levelled(alloc) else {
-        return false;
-    };
-    keys_fall(&source);
-    let Some(ids) = ids_in(&source) else {
-        return false;
-    };
-    let mut graph = Graph::new(alloc, source);
-    has_bases(alloc, ids.merge, ids.first, &mut graph, &[ids.first])
-        && has_bases(alloc, ids.second, ids.other_root, &mut graph, &[])
-        && has_octopus_base(alloc, &ids, &mut graph)
+fn has_all_bases(
+    alloc: Global,
+    ids: &Ids,
+    graph: &mut Graph<LevelledGraph, Commit<Flags>>,
+) -> bool {
+    has_bases(alloc, ids.merge, ids.first, graph, &[ids.first])
+        && has_bases(alloc, ids.second, ids.other_root, graph, &[])
+        && has_octopus_base(alloc, ids, graph)
 }
 
-/// How the octopus merge is described by the name of a root: the four others are ahead of it.
-fn description(alloc: Global) -> Option<String> {
-    let source = levelled(alloc)?;
-    let ids = ids_in(&source)?;
+/// Options with the name of the root.
+fn naming(alloc: Global, root: ObjectId) -> Option<Options<'static>> {
     let mut options = Options::new(alloc);
     let name = CowSlice::Borrowed(b"v1".as_slice());
-    options.name_by_oid.insert(ids.root, name).ok()?;
+    options.name_by_oid.insert(root, name).ok()?;
+    Some(options)
+}
+
+/// Whether the octopus merge is described by the name of a root: the four others are ahead of it.
+fn is_described(alloc: Global, ids: &Ids, graph: &mut Graph<LevelledGraph, u32>) -> bool {
+    let Some(options) = naming(alloc, ids.root) else {
+        return false;
+    };
+    match description_of(alloc, &ids.merge, graph, options) {
+        Ok(Some(outcome)) => { prints(alloc, &outcome.into_format(7), "v1-4-gc5f95b3") == Ok(true) }
+        _ => false,
+    }
+}
+
+fn are_answered(alloc: Global) -> Option<bool> {
+    let source = levelled(alloc)?;
+    keys_fall(&source);
+    let ids = ids_in(&source)?;
     let mut graph = Graph::new(alloc, source);
-    let outcome = description_of(alloc, &ids.merge, &mut graph, options).ok()??;
-    format!(in alloc; "{}", outcome.into_format(7)).ok()
+    let has_bases = has_all_bases(alloc, &ids, &mut graph);
+    let mut marks = Graph::new(alloc, graph.into_source());
+    Some(has_bases && is_described(alloc, &ids, &mut marks))
 }
 
 /// A commit that the file lacks.
@@ -190,52 +203,12 @@ fn newer_than(alloc: Global, parent: ObjectId) -> Option<MemorySource> {
     Some(newer)
 }
 
-/// Whether the octopus merge is the base of its newer child and itself.
-fn is_joined(alloc: Global) -> bool {
-    let Some(file) = levelled(alloc) else {
-        return false;
-    };
-    let Some(merge) = file.graph().id(4) else {
-        return false;
-    };
-    let Some(newer) = newer_than(alloc, merge) else {
-        return false;
-    };
-    let mut graph = Graph::new(
-        alloc,
-        Joined {
-            file: Some(file),
-            newer,
-        },
-    );
-    match bases_of_all(alloc, NEWER, &[merge], &mut graph) {
-        Ok(bases) => are(&bases, &[merge]),
-        Err(_) => false,
-    }
-}
-
-/// A parent that comes after its child.
-const LATE: ObjectId = ObjectId([2; 20]);
-
-type GrowingGraph = Graph<Commits<Global>, Commit<Flags>>;
-
-/// Whether a commit is refused, since there is one under its id, and comes back.
-fn comes_back(alloc: Global, id: ObjectId, graph: &mut GrowingGraph) -> bool {
-    let (Some(commit), Some(same)) = (child_of(alloc, id), child_of(alloc, id)) else {
-        return false;
-    };
-    match graph.insert(id, commit) {
-        Err(InsertError::AlreadyThere(back)) => back == same,
-        _ => false,
-    }
-}
-
 /// Whether two commits have these bases.
-fn meet_at(
+fn meet_at<S: Find>(
     alloc: Global,
     first: ObjectId,
     other: ObjectId,
-    graph: &mut GrowingGraph,
+    graph: &mut Graph<Joined<S>, Commit<Flags>>,
     want: &[ObjectId],
 ) -> bool {
     match bases_of_all(alloc, first, &[other], graph) {
@@ -244,40 +217,76 @@ fn meet_at(
     }
 }
 
+/// Whether the octopus merge is the base of its newer child and itself.
+fn is_joined(alloc: Global) -> Option<bool> {
+    let file = levelled(alloc)?;
+    let merge = file.graph().id(4)?;
+    let newer = newer_than(alloc, merge)?;
+    let file = Some(file);
+    let mut graph = Graph::new(alloc, Joined { file, newer });
+    Some(meet_at(alloc, NEWER, merge, &mut graph, &[merge]))
+}
+
+/// A parent that comes after its child.
+const LATE: ObjectId = ObjectId([2; 20]);
+
+type GrowingGraph = Graph<Commits<Global>, Commit<Flags>>;
+
+/// Whether a commit is put in as a child of another one.
+fn is_put(alloc: Global, id: ObjectId, parent: ObjectId, graph: &mut GrowingGraph) -> bool {
+    match child_of(alloc, parent) {
+        Some(commit) => graph.insert(id, commit).is_ok(),
+        None => false,
+    }
+}
+
+/// Whether a commit is refused, since there is one under its id, and comes back.
+fn comes_back(alloc: Global, id: ObjectId, graph: &mut GrowingGraph) -> bool {
+    let Some(commit) = child_of(alloc, id) else {
+        return false;
+    };
+    match &graph.insert(id, commit) {
+        Err(InsertError::AlreadyThere(back)) => {
+            back.parents.as_slice() == [id].as_slice()
+                && back.time == 0
+                && back.generation.is_none()
+        }
+        _ => false,
+    }
+}
+
 /// Whether a file keeps its commits, a new one on one of them is met, and so is a parent that comes after two walks
 /// met its child.
+fn grows_on(alloc: Global, merge: ObjectId, graph: &mut GrowingGraph) -> bool {
+    is_put(alloc, NEWER, LATE, graph)
+        && meet_at(alloc, NEWER, merge, graph, &[])
+        && meet_at(alloc, NEWER, merge, graph, &[])
+        && is_put(alloc, LATE, merge, graph)
+        && meet_at(alloc, NEWER, merge, graph, &[merge])
+        && comes_back(alloc, merge, graph)
+        && comes_back(alloc, LATE, graph)
+        && meet_at(alloc, NEWER, LATE, graph, &[LATE])
+}
+
 fn grows(alloc: Global) -> Option<bool> {
     let file = levelled(alloc)?;
     let merge = file.graph().id(4)?;
     let mut graph: GrowingGraph = Graph::new(alloc, Commits::new(alloc, Some(file)));
-    graph.insert(NEWER, child_of(alloc, LATE)?).ok()?;
-    let apart = meet_at(alloc, NEWER, merge, &mut graph, &[])
-        && meet_at(alloc, NEWER, merge, &mut graph, &[]);
-    graph.insert(LATE, child_of(alloc, merge)?).ok()?;
-    Some(
-        apart
-            && meet_at(alloc, NEWER, merge, &mut graph, &[merge])
-            && comes_back(alloc, merge, &mut graph)
-            && comes_back(alloc, LATE, &mut graph)
-            && meet_at(alloc, NEWER, LATE, &mut graph, &[LATE]),
-    )
+    Some(grows_on(alloc, merge, &mut graph))
 }
 
 /// Whether a history without a file takes commits.
-fn grows_from_nothing(alloc: Global) -> Option<bool> {
+fn grows_from_nothing(alloc: Global) -> bool {
     let mut graph: GrowingGraph = Graph::new(alloc, Commits::new(alloc, None));
-    graph.insert(LATE, child_of(alloc, NEWER)?).ok()?;
-    graph
-        .insert(NEWER, child_of(alloc, ObjectId([3; 20]))?)
-        .ok()?;
-    Some(meet_at(alloc, LATE, NEWER, &mut graph, &[NEWER]))
+    is_put(alloc, LATE, NEWER, &mut graph)
+        && is_put(alloc, NEWER, ObjectId([3; 20]), &mut graph)
+        && meet_at(alloc, LATE, NEWER, &mut graph, &[NEWER])
 }
 
 #[test]
 fn a_file_is_asked(rt: HostRuntime) {
-    assert!(rt; are_answered(rt.alloc()));
-    assert!(rt; description(rt.alloc()).as_deref() == Some("v1-4-gc5f95b3"));
-    assert!(rt; is_joined(rt.alloc()));
+    assert!(rt; are_answered(rt.alloc()) == Some(true));
+    assert!(rt; is_joined(rt.alloc()) == Some(true));
     assert!(rt; grows(rt.alloc()) == Some(true));
-    assert!(rt; grows_from_nothing(rt.alloc()) == Some(true));
+    assert!(rt; grows_from_nothing(rt.alloc()));
 }

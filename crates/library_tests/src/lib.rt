@@ -29,4 +29,4 @@ mod questions;
 #[cfg(test)]
 mod queue;
 #[cfg(test)]
-mod sets;
+mod sources;

@@ -1,13 +1,13 @@
 //! Merge bases of worked histories, failing look-ups, and memory refused at each request.
 
 use crate::questions::Call::{Ancestor, Bases, Counted, Octopus, Paint, Reduce};
-use crate::questions::{Call, Question, refusal_of};
+use crate::questions::{Call, Question, is_refused_with};
 use bitflags::Flags as BitFlags;
 use fixtures::faults::{first_lost, first_wrong};
 use fixtures::histories::{CRISS_CROSS, OLD_PATH, OLDER_CHILD, Row, id, source_of};
 use fixtures::printed::prints;
 use fixtures::sources::Turn;
-use gix_revision::graph::Graph;
+use gix_revision::graph::{Commit, Graph, MemorySource};
 use gix_revision::merge_base::{Error, Flags, Simple, merge_base, octopus};
 use std::alloc::{AllocError, Global};
 use std::test::Fail;
@@ -152,10 +152,14 @@ fn commits_reach_their_ancestors(rt: HostRuntime) -> Result<(), Fail> {
 }
 
 /// Whether both calls answer on a history with a cycle. What they answer is open.
-fn returns_on_a_cycle(alloc: Global) -> Result<bool, Fail> {
+fn returns(alloc: Global, graph: &mut Graph<MemorySource, Commit<Flags>>) -> bool {
+    merge_base(alloc, id(3), &[id(4)], graph).is_ok()
+        && octopus(alloc, id(3), &[id(4)], graph).is_ok()
+}
+
+fn returns_on_a_cycle(alloc: Global) -> Result<bool, AllocError> {
     let mut graph = Graph::new(alloc, source_of(alloc, &CYCLE)?);
-    let bases = merge_base(alloc, id(3), &[id(4)], &mut graph);
-    Ok(bases.is_ok() && octopus(alloc, id(3), &[id(4)], &mut graph).is_ok())
+    Ok(returns(alloc, &mut graph))
 }
 
 #[test]
@@ -169,29 +173,29 @@ const OF_ID: &str = "could not insert commit into graph";
 
 const OF_PARENT: &str = "could not insert parent commit into graph";
 
-/// The text of each look-up that is made for the bases of 4 and 5 in the criss-cross, in their order.
-const IN_ORDER: [&str; 5] = [OF_ID, OF_ID, OF_PARENT, OF_PARENT, OF_PARENT];
+/// The look-up that fails of those for the bases of 4 and 5 in the criss-cross, and the text of the refusal. There are five.
+static IN_ORDER: [(u64, Option<&str>); 6] = [
+    (0, Some(OF_ID)),
+    (1, Some(OF_ID)),
+    (2, Some(OF_PARENT)),
+    (3, Some(OF_PARENT)),
+    (4, Some(OF_PARENT)),
+    (5, None),
+];
 
-/// The first of these look-ups that is not answered with its text where it fails. They are all.
+/// The first of these look-ups that is not answered with its text where it fails.
 fn first_untold(alloc: Global) -> Result<Option<u64>, AllocError> {
     let question = Question(Bases, &CRISS_CROSS, 4, &[5], &[2, 3]);
-    let mut before: u64 = 0;
-    for text in &IN_ORDER {
-        let refusal = refusal_of(alloc, &question, Turn::After(before))?;
-        if refusal != Some(Error::Source(Simple(text))) {
-            return Ok(Some(before));
+    for (before, text) in &IN_ORDER {
+        if !is_refused_with(alloc, &question, Turn::After(*before), *text)? {
+            return Ok(Some(*before));
         }
-        before = before.saturating_add(1);
     }
-    Ok(if refusal_of(alloc, &question, Turn::After(before))? == None {
-        None
-    } else {
-        Some(before)
-    })
+    Ok(None)
 }
 
 /// The other calls, each of 4 and 5.
-const CALLS: [(Call, &[u8]); 4] = [
+static CALLS: [(Call, &[u8]); 4] = [
     (Counted, &[5]),
     (Octopus, &[5]),
     (Paint, &[5]),
@@ -199,7 +203,7 @@ const CALLS: [(Call, &[u8]); 4] = [
 ];
 
 /// Each commit of the criss-cross, and the text of a refusal since the source failed for it.
-const OF_EACH: [(u8, &str); 5] = [
+static OF_EACH: [(u8, &str); 5] = [
     (4, OF_ID),
     (5, OF_ID),
     (2, OF_PARENT),
@@ -214,10 +218,9 @@ fn first_untold_of(
     others: &'static [u8],
 ) -> Result<Option<u8>, AllocError> {
     let question = Question(call, &CRISS_CROSS, 4, others, &[]);
-    for (digit, text) in OF_EACH {
-        let refusal = refusal_of(alloc, &question, Turn::For(id(digit)))?;
-        if refusal != Some(Error::Source(Simple(text))) {
-            return Ok(Some(digit));
+    for (digit, text) in &OF_EACH {
+        if !is_refused_with(alloc, &question, Turn::For(id(*digit)), Some(*text))? {
+            return Ok(Some(*digit));
         }
     }
     Ok(None)
@@ -225,8 +228,8 @@ fn first_untold_of(
 
 /// Whether each of the other calls is refused with the text of each commit.
 fn are_told(alloc: Global) -> Result<bool, AllocError> {
-    for (call, others) in CALLS {
-        if first_untold_of(alloc, call, others)?.is_some() {
+    for (call, others) in &CALLS {
+        if first_untold_of(alloc, *call, *others)?.is_some() {
             return Ok(false);
         }
     }

@@ -3,11 +3,11 @@
 use crate::questions::Call::{Counted, Paint, Reduce};
 use crate::questions::{Question, are_bases, are_set};
 use fixtures::faults::first_lost;
-use fixtures::histories::{CRISS_CROSS, OLD_PATH, OLDER_CHILD, Row, are, id, ids, source_of};
+use fixtures::histories::{CRISS_CROSS, OLD_PATH, OLDER_CHILD, Row, id, source_of};
 use fixtures::sources::{Failing, Turn};
 use gix_revision::graph::{Commit, Find, FindFault, Graph, MemorySource};
-use gix_revision::merge_base::{Flags, counted, paint, reduce};
-use std::alloc::Global;
+use gix_revision::merge_base::{Flags, counted, paint};
+use std::alloc::{AllocError, Global};
 use std::test::Fail;
 
 /// A line of three commits with two heads: what lies below 2 need not be looked at.
@@ -60,11 +60,14 @@ const SKEWED: [Row<'static>; 6] = [
 /// A history, two commits of it, their merge bases in order, and the pops where they are worked out.
 type Worked = (&'static [Row<'static>], u8, u8, &'static [u8], Option<u128>);
 
-const WORKED: [Worked; 9] = [
+/// What lies below the base of this one is not looked up.
+const TO_NEAR: Worked = (&NEAR, 4, 5, &[3], Some(4));
+
+static WORKED: [Worked; 9] = [
     (&OLDER_CHILD, 3, 4, &[2], Some(7)),
     // The source lacks both.
     (&OLDER_CHILD, 8, 9, &[], Some(0)),
-    (&NEAR, 4, 5, &[3], Some(4)),
+    TO_NEAR,
     (&CRISS_CROSS, 4, 4, &[4], Some(0)),
     (&CRISS_CROSS, 4, 5, &[2, 3], None),
     (&BY_TIME, 4, 5, &[3, 2], None),
@@ -74,80 +77,93 @@ const WORKED: [Worked; 9] = [
 ];
 
 /// Whether `counted` answers these bases, with these pops where they are known.
-fn counts(
-    alloc: Global,
-    graph: &mut Graph<MemorySource, Commit<Flags>>,
-    worked: &Worked,
-) -> Result<bool, Fail> {
-    let (_, first, other, bases, pops) = worked;
-    let (found, made) = counted(alloc, id(*first), &[id(*other)], graph)?;
-    Ok(are_bases(&found, bases) && pops.is_none_or(|pops| pops == made))
+fn counts<S: Find>(alloc: Global, graph: &mut Graph<S, Commit<Flags>>, worked: &Worked) -> bool {
+    match counted(alloc, id(worked.1), &[id(worked.2)], graph) {
+        Ok((found, made)) => {
+            are_bases(&found, worked.3) && (worked.4 == Some(made) || worked.4.is_none())
+        }
+        Err(_) => false,
+    }
 }
 
 /// Whether the call answers alike on a fresh graph, and on one that a call the other way round left.
-fn counts_alike(alloc: Global, worked: &Worked) -> Result<bool, Fail> {
-    let (rows, first, other, _, _) = worked;
-    let mut graph = Graph::new(alloc, source_of(alloc, rows)?);
-    let fresh = counts(alloc, &mut graph, worked)?;
-    let _ = paint(alloc, id(*other), &[id(*first)], &mut graph)?;
-    Ok(fresh && counts(alloc, &mut graph, worked)?)
+fn counts_alike(
+    alloc: Global,
+    graph: &mut Graph<MemorySource, Commit<Flags>>,
+    worked: &Worked,
+) -> bool {
+    counts(alloc, graph, worked)
+        && paint(alloc, id(worked.2), &[id(worked.1)], graph).is_ok()
+        && counts(alloc, graph, worked)
+}
+
+fn is_counted(alloc: Global, worked: &Worked) -> Result<bool, AllocError> {
+    let mut graph = Graph::new(alloc, source_of(alloc, worked.0)?);
+    Ok(counts_alike(alloc, &mut graph, worked))
+}
+
+/// The number of the first row that is not counted so.
+fn first_miscounted(alloc: Global) -> Result<Option<usize>, AllocError> {
+    for (i, worked) in WORKED.iter().enumerate() {
+        if !is_counted(alloc, worked)? {
+            return Ok(Some(i));
+        }
+    }
+    Ok(None)
+}
+
+/// Whether the walk to a near base leaves the far end of the line alone.
+fn stays_near(alloc: Global, graph: &mut Graph<Failing<MemorySource>, Commit<Flags>>) -> bool {
+    counts(alloc, graph, &TO_NEAR)
+        && graph.source().faults() == 0
+        && graph.contains(&id(2))
+        && !graph.contains(&id(1))
+}
+
+/// The same, over a source that fails for the far end.
+fn leaves_the_far_end(alloc: Global) -> Result<bool, AllocError> {
+    let inner = source_of(alloc, &NEAR)?;
+    let source = Failing::new(inner, Turn::For(id(1)), FindFault::Failed, 0);
+    let mut graph = Graph::new(alloc, source);
+    Ok(stays_near(alloc, &mut graph))
 }
 
 #[test]
 fn pops_of_worked_histories(rt: HostRuntime) -> Result<(), Fail> {
-    for worked in &WORKED {
-        assert!(rt;
-            counts_alike(rt.alloc(), worked)?,
-            "{} and {}",
-            worked.1,
-            worked.2
-        );
-    }
+    assert_eq!(rt; first_miscounted(rt.alloc())?, None);
+    assert!(rt; leaves_the_far_end(rt.alloc())?);
     Ok(())
 }
 
 /// Two commits of the history with an older child, what painting finds, in any order, and its pops.
-const PAINTED: [(u8, u8, &[u8], u128); 2] = [
+static PAINTED: [(u8, u8, &[u8], u128); 2] = [
     (3, 4, &[1, 2], 7),
     // The source lacks both.
     (8, 9, &[], 0),
 ];
 
-/// Whether painting finds what each row says, with its pops, and of 1, 2 and an id that the source lacks the
-/// reduction leaves the last two.
-fn paints_and_reduces(alloc: Global) -> Result<bool, Fail> {
-    let mut graph = Graph::new(alloc, source_of(alloc, &OLDER_CHILD)?);
-    for (first, other, wanted, pops) in PAINTED {
-        let (painted, made) = paint(alloc, id(first), &[id(other)], &mut graph)?;
-        if !are_set(&painted, wanted) || made != pops {
-            return Ok(false);
+/// Whether painting finds what each row says, with its pops.
+fn paints(alloc: Global, graph: &mut Graph<MemorySource, Commit<Flags>>) -> bool {
+    for (first, other, wanted, pops) in &PAINTED {
+        let is_painted = match paint(alloc, id(*first), &[id(*other)], graph) {
+            Ok((painted, made)) => are_set(&painted, wanted) && made == *pops,
+            Err(_) => false,
+        };
+        if !is_painted {
+            return false;
         }
     }
-    let left = reduce(alloc, &ids(alloc, &[1, 2, 9])?, &mut graph)?;
-    Ok(are(&left, &[2, 9]))
+    true
 }
 
-/// Whether a walk to a near base leaves the far end of the line alone.
-fn leaves_the_far_end(alloc: Global) -> Result<bool, Fail> {
-    let mut graph = Graph::new(alloc, source_of(alloc, &NEAR)?);
-    let _ = counted(alloc, id(4), &[id(5)], &mut graph)?;
-    Ok(graph.contains(&id(2)) && !graph.contains(&id(1)))
-}
-
-/// Whether that walk is answered as ever where the source fails for the far end.
-fn asks_not_for_the_far_end(alloc: Global) -> Result<bool, Fail> {
-    let inner = source_of(alloc, &NEAR)?;
-    let failing = Failing::new(inner, Turn::For(id(1)), FindFault::Failed, 0);
-    let mut graph = Graph::new(alloc, failing);
-    let (found, pops) = counted(alloc, id(4), &[id(5)], &mut graph)?;
-    Ok(are_bases(&found, &[3]) && pops == 4 && graph.source().faults() == 0)
+fn are_painted(alloc: Global) -> Result<bool, AllocError> {
+    let mut graph = Graph::new(alloc, source_of(alloc, &OLDER_CHILD)?);
+    Ok(paints(alloc, &mut graph))
 }
 
 #[test]
-fn painting_and_reduction_by_themselves(rt: HostRuntime) -> Result<(), Fail> {
-    assert!(rt; paints_and_reduces(rt.alloc())?);
-    assert!(rt; leaves_the_far_end(rt.alloc())?);
-    assert!(rt; asks_not_for_the_far_end(rt.alloc())?);
+fn painting_by_itself(rt: HostRuntime) -> Result<(), Fail> {
+    assert!(rt; are_painted(rt.alloc())?);
     Ok(())
 }
 

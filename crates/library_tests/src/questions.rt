@@ -7,7 +7,7 @@ use gix_revision::error::NonEmpty;
 use gix_revision::graph::{Commit, Find, FindFault, Graph};
 use gix_revision::hash::ObjectId;
 use gix_revision::merge_base::{
-    Error, Flags, counted, is_ancestor, merge_base, octopus, octopus_bases, paint, reduce,
+    Error, Flags, Simple, counted, is_ancestor, merge_base, octopus, octopus_bases, paint, reduce,
 };
 use std::alloc::{AllocError, Allocator, Global};
 
@@ -38,26 +38,33 @@ pub struct Question(
 
 /// Whether these are the ids of the digits, in order.
 pub fn are_bases<A: Allocator>(found: &Option<NonEmpty<ObjectId, A>>, digits: &[u8]) -> bool {
-    match found {
-        Some(list) => {
-            list.len() == digits.len()
-                && list
-                    .iter()
-                    .zip(digits)
-                    .all(|(base, digit)| *base == id(*digit))
+    let Some(list) = found else {
+        return digits.is_empty();
+    };
+    for (base, digit) in list.iter().zip(digits) {
+        if *base != id(*digit) {
+            return false;
         }
-        None => digits.is_empty(),
     }
+    list.len() == digits.len()
 }
 
 /// Whether these are the ids of the digits, in any order, each once.
 pub fn are_set(list: &[ObjectId], digits: &[u8]) -> bool {
-    list.len() == digits.len() && digits.iter().all(|digit| list.contains(&id(*digit)))
+    for digit in digits {
+        if !list.contains(&id(*digit)) {
+            return false;
+        }
+    }
+    list.len() == digits.len()
 }
 
 /// Whether this is the id of the digit, or none where there is no digit.
 pub fn is_one(found: Option<ObjectId>, digits: &[u8]) -> bool {
-    found == digits.first().map(|digit| id(*digit))
+    match digits.first() {
+        Some(digit) => found == Some(id(*digit)),
+        None => found.is_none(),
+    }
 }
 
 /// Whether it is answered that the only one of the others reaches the first.
@@ -113,14 +120,22 @@ impl Asks for Question {
     }
 }
 
-/// Why the call of a question is refused, over a source that fails at each such turn; none where it is not.
-pub fn refusal_of(
+/// Whether the call of a question is refused with this text, or not at all where there is none, over a source that fails at
+/// each such turn.
+pub fn is_refused_with(
     alloc: Global,
     question: &Question,
     turn: Turn,
-) -> Result<Option<Error>, AllocError> {
+    text: Option<&'static str>,
+) -> Result<bool, AllocError> {
     let others = ids(alloc, question.3)?;
     let inner = source_of(alloc, question.1)?;
     let mut graph = Graph::new(alloc, Failing::new(inner, turn, FindFault::Failed, 0));
-    Ok(is_right(alloc, &mut graph, question, &others).err())
+    Ok(
+        match (is_right(alloc, &mut graph, question, &others), text) {
+            (Err(Error::Source(refusal)), Some(text)) => refusal == Simple(text),
+            (Ok(_), None) => true,
+            _ => false,
+        },
+    )
 }

@@ -20,13 +20,24 @@ fn filled<A: Allocator>(alloc: A) -> Result<PriorityQueue<u8, char, A>, AllocErr
 }
 
 /// How often a value comes.
-fn times<A: Allocator>(queue: &PriorityQueue<u8, char, A>, value: char) -> usize {
-    queue.iter_unordered().filter(|one| **one == value).count()
+fn times<A: Allocator>(queue: &PriorityQueue<u8, char, A>, value: char) -> u8 {
+    let mut times: u8 = 0;
+    for one in queue.iter_unordered() {
+        if *one == value {
+            times = times.saturating_add(1);
+        }
+    }
+    times
 }
 
 /// Whether it has each value of the pairs once, and nothing more.
 fn has_each_once<A: Allocator>(queue: &PriorityQueue<u8, char, A>) -> bool {
-    queue.len() == 4 && !queue.is_empty() && PAIRS.iter().all(|pair| times(queue, pair.1) == 1)
+    for (_, value) in PAIRS {
+        if times(queue, value) != 1 {
+            return false;
+        }
+    }
+    queue.len() == 4 && !queue.is_empty()
 }
 
 /// Whether it gives up the pairs from the greatest key on.

@@ -1,10 +1,11 @@
 //! Calls of `describe` as tables have them, and whether they are answered so.
 
+use fixtures::faults::{Answered, Came, Repeats};
 use fixtures::histories::{Row, id, source_of};
 use fixtures::sources::{Failing, Turn};
 use gix_base::error::Message;
 use gix_revision::describe::{Names, Options, Outcome, counted, describe};
-use gix_revision::graph::{Find, FindFault, Graph};
+use gix_revision::graph::{Find, FindFault, Graph, MemorySource};
 use std::alloc::{AllocError, Allocator, Global};
 use std::borrow::CowSlice;
 use std::collections::HashMap;
@@ -138,24 +139,25 @@ pub fn says<A: Allocator>(outcome: &Outcome<'static, A>, start: u8, want: Want) 
     named && outcome.id == id(start) && outcome.depth == depth && outcome.commits_seen == seen
 }
 
-/// Whether so many commits left the queue, and these digits are held.
-fn leaves<S: Find, A: Allocator + Copy>(graph: &Graph<S, u32, A>, pops: u128, want: Want) -> bool {
-    let (wanted, held) = match want {
-        Want::Unnamed(_, pops, held) | Want::Named(_, _, _, pops, held) => (pops, held),
-        _ => return true,
-    };
-    // Where no walk is made the graph stays as it was.
-    pops == wanted
-        && (pops == 0 || (1..16).all(|digit| graph.contains(&id(digit)) == held.contains(&digit)))
+/// Whether of all digits just these are held.
+fn are_held<S: Find, A: Allocator + Copy>(graph: &Graph<S, u32, A>, digits: &[u8]) -> bool {
+    for digit in 1..16u8 {
+        if graph.contains(&id(digit)) != digits.contains(&digit) {
+            return false;
+        }
+    }
+    true
 }
 
-/// What came of a call.
-#[derive(Clone, Copy, PartialEq)]
-pub enum Met {
-    Right,
-    RefusedForTheSource,
-    RefusedForMemory,
-    Wrong,
+/// Whether so many commits left the queue, and these digits are held.
+fn leaves<S: Find, A: Allocator + Copy>(graph: &Graph<S, u32, A>, pops: u128, want: Want) -> bool {
+    match want {
+        // Where no walk is made the graph stays as it was.
+        Want::Unnamed(_, wanted, held) | Want::Named(_, _, _, wanted, held) => {
+            pops == wanted && (pops == 0 || are_held(graph, held))
+        }
+        _ => true,
+    }
 }
 
 /// What came of a call that was to answer what is wanted.
@@ -164,7 +166,7 @@ fn verdict<S: Find, A: Allocator + Copy>(
     graph: &Graph<S, u32, A>,
     start: u8,
     want: Want,
-) -> Met {
+) -> Answered {
     let right = match (found, want) {
         (Ok((None, pops)), Want::Nothing) => *pops == 0,
         (Ok((Some(outcome), pops)), want) => {
@@ -172,40 +174,112 @@ fn verdict<S: Find, A: Allocator + Copy>(
         }
         (Err(Message::MissingStart(lacked)), Want::Missing) => *lacked == id(start),
         (Err(Message::ParentsOf(child)), Want::Lost(digit)) => *child == id(digit),
-        (Err(Message::ParentsOf(_)), _) => return Met::RefusedForTheSource,
-        (Err(Message::OutOfMemory), _) => return Met::RefusedForMemory,
+        (Err(Message::ParentsOf(_)), _) => return Answered::SourceFailed,
+        (Err(Message::OutOfMemory), _) => return Answered::OutOfMemory,
         _ => false,
     };
-    if right { Met::Right } else { Met::Wrong }
+    if right {
+        Answered::AsWanted
+    } else {
+        Answered::Otherwise
+    }
 }
 
 /// Makes the call of a case, and compares its answer with the one that is wanted.
-pub fn answered<S: Find, A: Allocator + Copy>(
+fn answered<S: Find, A: Allocator + Copy>(
     alloc: A,
     graph: &mut Graph<S, u32, A>,
     case: &Case,
-) -> Result<Met, AllocError> {
+) -> Result<Answered, AllocError> {
     let Case(_, names, start, how, want) = *case;
     let options = options_of(alloc, names, how)?;
     let found = counted(alloc, &id(start), graph, options);
     Ok(verdict(&found, graph, start, want))
 }
 
-/// Whether a case has the answer that is wanted, on a fresh graph and on one that another call left.
-fn is_described(alloc: Global, case: &Case) -> Result<bool, AllocError> {
-    let Case(history, names, _, how, _) = *case;
-    let bad = Turn::For(id(how.fails_for));
-    let source = Failing::new(source_of(alloc, history)?, bad, FindFault::Failed, 0);
-    let mut graph = Graph::new(alloc, source);
-    if answered(alloc, &mut graph, case)? != Met::Right {
-        return Ok(false);
+/// What comes of the call of a case.
+fn came<S: Find, A: Allocator + Copy>(
+    alloc: A,
+    graph: &mut Graph<S, u32, A>,
+    case: &Case,
+) -> Result<Came, AllocError> {
+    let answered = answered(alloc, graph, case)?;
+    Ok(came_of(answered, graph))
+}
+
+/// What came of a call that was answered so.
+pub fn came_of<S: Find, A: Allocator + Copy>(answered: Answered, graph: &Graph<S, u32, A>) -> Came {
+    Came {
+        answered,
+        faults: graph.source().faults(),
+        agrees: true,
     }
+}
+
+/// What comes of the call of a case twice.
+fn came_twice<S: Find, A: Allocator + Copy>(
+    alloc: A,
+    graph: &mut Graph<S, u32, A>,
+    case: &Case,
+) -> Result<(Came, Came), AllocError> {
+    let first = came(alloc, graph, case)?;
+    let again = came(alloc, graph, case)?;
+    Ok((first, again))
+}
+
+impl Repeats for Case {
+    fn commits(&self) -> &'static [Row<'static>] {
+        self.0
+    }
+
+    fn needs_all(&self) -> bool {
+        true
+    }
+
+    fn repeat<S: Find, A: Allocator + Copy>(
+        &self,
+        _to: Global,
+        alloc: A,
+        source: S,
+    ) -> Result<(Came, Came), AllocError> {
+        let mut graph = Graph::new(alloc, source);
+        came_twice(alloc, &mut graph, self)
+    }
+}
+
+type FailingGraph = Graph<Failing<MemorySource>, u32>;
+
+/// Describes another commit with one name more.
+fn describe_another(
+    alloc: Global,
+    graph: &mut FailingGraph,
+    names: &[(u8, &'static str)],
+) -> Result<(), AllocError> {
     let mut other = options_of(alloc, names, ALWAYS)?;
     other
         .name_by_oid
         .insert(id(14), CowSlice::Borrowed(b"other"))?;
-    let _ = describe(alloc, &id(2), &mut graph, other);
-    Ok(answered(alloc, &mut graph, case)? == Met::Right)
+    let _ = describe(alloc, &id(2), graph, other);
+    Ok(())
+}
+
+/// Whether a case has the answer that is wanted, on a fresh graph and on one that another call left.
+fn is_described_on(
+    alloc: Global,
+    graph: &mut FailingGraph,
+    case: &Case,
+) -> Result<bool, AllocError> {
+    let first = answered(alloc, graph, case)?;
+    describe_another(alloc, graph, case.1)?;
+    let again = answered(alloc, graph, case)?;
+    Ok(first == Answered::AsWanted && again == Answered::AsWanted)
+}
+
+fn is_described(alloc: Global, case: &Case) -> Result<bool, AllocError> {
+    let bad = Turn::For(id(case.3.fails_for));
+    let source = Failing::new(source_of(alloc, case.0)?, bad, FindFault::Failed, 0);
+    let mut graph = Graph::new(alloc, source);
+    is_described_on(alloc, &mut graph, case)
 }
 
 /// The number of the first case that is not answered so.

@@ -41,7 +41,7 @@ const LISTED_TWICE: &[Row<'static>] = &[
     Row(4, 10, None, &[2, 3, 2]),
 ];
 
-pub const CASES: &[Case] = &[
+pub static CASES: [Case; 4] = [
     // The walk ends at the name: what is behind it is not looked up.
     Case(
         LINE,
@@ -50,14 +50,6 @@ pub const CASES: &[Case] = &[
         PLAIN,
         Want::Named("v", 1, 2, 2, &[2, 3]),
     ),
-    Case(
-        LINE,
-        &[(2, "v")],
-        3,
-        FAILS_FOR_THE_ROOT,
-        Want::Named("v", 1, 2, 2, &[2, 3]),
-    ),
-    Case(LINE, &[(1, "v1")], 3, FAILS_FOR_THE_ROOT, Want::Lost(2)),
     // The depth is completed where the named commit is older than its parent.
     Case(
         SKEWED,
@@ -81,6 +73,18 @@ pub const CASES: &[Case] = &[
         ONE_CANDIDATE,
         Want::Named("A", 2, 4, 5, &[1, 2, 3, 4]),
     ),
+];
+
+/// Calls over a source that fails for one commit.
+static FAILING: [Case; 3] = [
+    Case(
+        LINE,
+        &[(2, "v")],
+        3,
+        FAILS_FOR_THE_ROOT,
+        Want::Named("v", 1, 2, 2, &[2, 3]),
+    ),
+    Case(LINE, &[(1, "v1")], 3, FAILS_FOR_THE_ROOT, Want::Lost(2)),
     Case(
         FORK,
         &[(3, "B")],
@@ -96,26 +100,26 @@ fn forty_parents(alloc: Global) -> Result<MemorySource, AllocError> {
     let mut parents = Vec::new(alloc);
     for n in 1..41u8 {
         parents.push(ObjectId([n; 20]))?;
-        let root = SourceCommit {
-            parents: Vec::new(alloc),
-            time: i64::from(n),
-            generation: None,
-        };
-        let _ = source.insert(ObjectId([n; 20]), root);
+        add(&mut source, ObjectId([n; 20]), Vec::new(alloc), n);
     }
-    let merge = SourceCommit {
-        parents,
-        time: 41,
-        generation: None,
-    };
-    let _ = source.insert(id(15), merge);
+    add(&mut source, id(15), parents, 41);
     Ok(source)
 }
 
-/// Whether 32 of forty names are weighed where more may be: the newest ones, all of which are as far.
-/// The smaller name is that of the older ones.
-fn are_forty_weighed(alloc: Global) -> Result<bool, AllocError> {
-    let mut graph = Graph::new(alloc, forty_parents(alloc)?);
+/// Adds a commit with these parents and this time.
+fn add(source: &mut MemorySource, id: ObjectId, parents: Vec<ObjectId>, time: u8) {
+    let _ = source.insert(
+        id,
+        SourceCommit {
+            parents,
+            time: i64::from(time),
+            generation: None,
+        },
+    );
+}
+
+/// Names of all forty, of which the smaller one is that of the older ones.
+fn forty_names(alloc: Global) -> Result<Options<'static>, AllocError> {
     let mut options = Options::new(alloc);
     options.max_candidates = usize::MAX;
     for n in 1..41u8 {
@@ -124,17 +128,28 @@ fn are_forty_weighed(alloc: Global) -> Result<bool, AllocError> {
             .name_by_oid
             .insert(ObjectId([n; 20]), CowSlice::Borrowed(name))?;
     }
-    let found = counted(alloc, &id(15), &mut graph, options);
+    Ok(options)
+}
+
+/// Whether 32 of forty names are weighed where more may be: the newest ones, all of which are as far.
+fn weighs(alloc: Global, graph: &mut Graph<MemorySource, u32>, options: Options<'static>) -> bool {
     let want = Want::Named("newer", 40, 41, 42, &[]);
-    Ok(match &found {
+    match &counted(alloc, &id(15), graph, options) {
         Ok((Some(outcome), pops)) => says(outcome, 15, want) && *pops == 42,
         _ => false,
-    })
+    }
+}
+
+fn are_forty_weighed(alloc: Global) -> Result<bool, AllocError> {
+    let options = forty_names(alloc)?;
+    let mut graph = Graph::new(alloc, forty_parents(alloc)?);
+    Ok(weighs(alloc, &mut graph, options))
 }
 
 #[test]
 fn early_ends_are_described(rt: HostRuntime) -> Result<(), Fail> {
-    assert_eq!(rt; first_wrong(rt.alloc(), CASES)?, None);
+    assert_eq!(rt; first_wrong(rt.alloc(), &CASES)?, None);
+    assert_eq!(rt; first_wrong(rt.alloc(), &FAILING)?, None);
     assert!(rt; are_forty_weighed(rt.alloc())?);
     Ok(())
 }

@@ -30,7 +30,7 @@ const CYCLE: &[Row<'static>] = &[
     Row(3, 2, None, &[1]),
 ];
 
-pub const CASES: &[Case] = &[
+pub static CASES: [Case; 12] = [
     Case(
         LINE,
         &[(1, "v1")],
@@ -89,6 +89,6 @@ pub const CASES: &[Case] = &[
 
 #[test]
 fn rows_are_described(rt: HostRuntime) -> Result<(), Fail> {
-    assert_eq!(rt; first_wrong(rt.alloc(), CASES)?, None);
+    assert_eq!(rt; first_wrong(rt.alloc(), &CASES)?, None);
     Ok(())
 }

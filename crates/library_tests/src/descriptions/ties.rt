@@ -17,7 +17,7 @@ const TIED_TURNED: &[Row<'static>] = &[
     Row(4, 10, None, &[3, 2]),
 ];
 
-pub const CASES: &[Case] = &[
+pub static CASES: [Case; 3] = [
     // Of two names at one depth it is the smaller one, whichever commit is met first.
     Case(
         TIED,
@@ -44,6 +44,6 @@ pub const CASES: &[Case] = &[
 
 #[test]
 fn ties_are_described(rt: HostRuntime) -> Result<(), Fail> {
-    assert_eq!(rt; first_wrong(rt.alloc(), CASES)?, None);
+    assert_eq!(rt; first_wrong(rt.alloc(), &CASES)?, None);
     Ok(())
 }
