@@ -17,7 +17,6 @@ use fixtures::histories::written_out;
 use gix_base::date::Time;
 use gix_base::error::Exn;
 use gix_spec::spec::parse::{Error, parse};
-use refusing::Refusing;
 use std::alloc::{AllocError, Allocator, Global};
 
 const NOW: Time = Time {
@@ -46,14 +45,14 @@ fn step_of(part: &str) -> Step<'_> {
 
 /// Which call of a row is not accepted, beside those that it marks.
 #[derive(Clone, Copy, PartialEq)]
-enum Turn {
+pub enum Turn {
     Never,
     Refuses(usize),
     WantsMemory(usize),
 }
 
 // What the delegate answers to the calls of a row.
-fn answers_of(calls: &str, turn: Turn) -> Answers {
+pub fn answers_of(calls: &str, turn: Turn) -> Answers {
     let mut answers = Answers::ACCEPTED;
     for (i, part) in calls.split("; ").enumerate() {
         let number = i.saturating_add(1);
@@ -90,35 +89,41 @@ fn add_fault(
     Ok(())
 }
 
-/// The calls of a row and how it ends, as `told_by` has them. A fault comes with what was said at the calls that were
+/// Adds the calls of a row and how it ends, as `told_by` has them. A fault comes with what was said at the calls that were
 /// refused one behind the other up to it.
-fn wanted(alloc: Global, calls: &str, turn: Turn) -> Result<Vec<u8>, AllocError> {
-    let mut line = Vec::new(alloc);
+fn add_wanted(
+    alloc: Global,
+    calls: &str,
+    turn: Turn,
+    line: &mut Vec<u8>,
+) -> Result<(), AllocError> {
     let mut refused: usize = 0;
     for (i, part) in calls.split("; ").enumerate() {
         let number = i.saturating_add(1);
-        match step_of(part) {
-            Step::Accepted(call, fault) => {
-                add_call(alloc, call, &mut line)?;
-                let last = number;
-                let first = number.saturating_sub(refused);
-                refused = 0;
-                if turn == Turn::Refuses(number) {
-                    add_fault(alloc, fault, (first, last), &mut line)?;
-                    break;
-                }
-                if turn == Turn::WantsMemory(number) {
-                    line.extend_from_slice(b"; refused P0")?;
-                    break;
-                }
-            }
-            Step::Refused(call) => {
-                add_call(alloc, call, &mut line)?;
-                refused = refused.saturating_add(1);
-            }
-            Step::Fault(fault) => add_call(alloc, fault, &mut line)?,
+        let (call, fault, is_refused) = match step_of(part) {
+            Step::Accepted(call, fault) => (call, fault, false),
+            Step::Refused(call) => (call, "", true),
+            Step::Fault(fault) => (fault, "", false),
+        };
+        add_call(alloc, call, line)?;
+        if turn == Turn::Refuses(number) {
+            return add_fault(alloc, fault, (number.saturating_sub(refused), number), line);
         }
+        if turn == Turn::WantsMemory(number) {
+            return line.extend_from_slice(b"; refused P0");
+        }
+        refused = if is_refused {
+            refused.saturating_add(1)
+        } else {
+            0
+        };
     }
+    Ok(())
+}
+
+pub fn wanted(alloc: Global, calls: &str, turn: Turn) -> Result<Vec<u8>, AllocError> {
+    let mut line = Vec::new(alloc);
+    add_wanted(alloc, calls, turn, &mut line)?;
     Ok(line)
 }
 
@@ -155,26 +160,60 @@ fn add_error(alloc: Global, error: &Error<'_>, line: &mut Vec<u8>) -> Result<(),
     add_refusal(second, line)
 }
 
+// The calls that were made, and the fault.
+fn add_answer(
+    alloc: Global,
+    calls: &[u8],
+    answer: &Result<(), Error<'_>>,
+    line: &mut Vec<u8>,
+) -> Result<(), AllocError> {
+    line.extend_from_slice(calls)?;
+    match answer {
+        Ok(()) => Ok(()),
+        Err(error) => add_error(alloc, error, line),
+    }
+}
+
+// The calls that a text makes, and its fault.
+fn add_told<A: Allocator + Copy>(
+    to: Global,
+    alloc: A,
+    answers: Answers,
+    text: &[u8],
+    line: &mut Vec<u8>,
+) -> Result<(), AllocError> {
+    let mut told = Told::new(to, answers);
+    let answer = parse(alloc, text, NOW, &mut told);
+    add_answer(to, told.calls(), &answer, line)
+}
+
 /// The calls that a text makes of a delegate with these answers, and its fault with what the delegate said. The parse
 /// has its memory from `alloc`.
-fn told_by<A: Allocator + Copy>(
+pub fn told_by<A: Allocator + Copy>(
     to: Global,
     alloc: A,
     answers: Answers,
     text: &[u8],
 ) -> Result<Vec<u8>, AllocError> {
-    let mut told = Told::new(to, answers);
-    let answer = parse(alloc, text, NOW, &mut told);
-    let mut line = told.calls().to_vec(to)?;
-    if let Err(error) = &answer {
-        add_error(to, error, &mut line)?;
-    }
+    let mut line = Vec::new(to);
+    add_told(to, alloc, answers, text, &mut line)?;
     Ok(line)
+}
+
+// Whether that is what is wanted.
+pub fn tells<A: Allocator + Copy>(
+    to: Global,
+    alloc: A,
+    answers: Answers,
+    text: &[u8],
+    want: &[u8],
+) -> Result<bool, AllocError> {
+    Ok(told_by(to, alloc, answers, text)?.as_slice() == want)
 }
 
 /// Whether a text makes these calls, where all are accepted, and ends in this fault, if any.
 pub fn makes(alloc: Global, text: &[u8], want: &[u8]) -> Result<bool, AllocError> {
-    Ok(told_by(alloc, alloc, Answers::ACCEPTED, text)?.as_slice() == want)
+    tells(alloc, alloc, Answers::ACCEPTED, text, want)
 }
 
 /// How many calls a text makes, where all are accepted.
@@ -186,8 +225,8 @@ pub fn count(alloc: Global, text: &[u8]) -> usize {
 
 // Whether what is wanted of a row comes where one more of its calls is not accepted.
 fn comes(alloc: Global, text: &[u8], calls: &str, turn: Turn) -> Result<bool, AllocError> {
-    let found = told_by(alloc, alloc, answers_of(calls, turn), text)?;
-    Ok(found == wanted(alloc, calls, turn)?)
+    let want = wanted(alloc, calls, turn)?;
+    tells(alloc, alloc, answers_of(calls, turn), text, &want)
 }
 
 // Whether what a part of a row wants comes where its call is refused, and where it wants memory.
@@ -207,69 +246,28 @@ fn part_stands(
     }
 }
 
-// Whether a text makes the calls of its row, also where any one of them is refused or wants memory.
-fn stands(alloc: Global, row: &str) -> Result<bool, AllocError> {
-    let Some((text, calls)) = row.split_once(" => ") else {
-        return Ok(false);
-    };
-    let text = written_out(alloc, text)?;
+// Whether a text makes these calls, also where any one of them is refused or wants memory.
+fn parts_stand(alloc: Global, text: &[u8], calls: &str) -> Result<bool, AllocError> {
     for (i, part) in calls.split("; ").enumerate() {
-        if !part_stands(alloc, &text, calls, (i.saturating_add(1), part))? {
+        if !part_stands(alloc, text, calls, (i.saturating_add(1), part))? {
             return Ok(false);
         }
     }
-    comes(alloc, &text, calls, Turn::Never)
+    comes(alloc, text, calls, Turn::Never)
+}
+
+// The same of the text of a row.
+fn stands(alloc: Global, row: &str) -> Result<bool, AllocError> {
+    match row.split_once(" => ") {
+        Some((text, calls)) => parts_stand(alloc, &written_out(alloc, text)?, calls),
+        None => Ok(false),
+    }
 }
 
 /// The first row whose calls are not made as it says.
 pub fn first_wrong(alloc: Global, rows: &'static str) -> Result<Option<&'static str>, AllocError> {
     for row in rows.lines() {
         if !stands(alloc, row)? {
-            return Ok(Some(row));
-        }
-    }
-    Ok(None)
-}
-
-// Whether a text has a backslash before a brace or a backslash.
-fn has_escape(text: &[u8]) -> bool {
-    text.windows(2)
-        .any(|pair| pair[0] == b'\\' && b"{}\\".contains(&pair[1]))
-}
-
-// Whether a line is a beginning of the row's calls that ends for want of memory.
-fn is_cut_short(line: &[u8], want: &[u8]) -> bool {
-    match line.strip_suffix(b"refused P0") {
-        Some(calls) => (calls.is_empty() || calls.ends_with(b"; ")) && want.starts_with(calls),
-        None => false,
-    }
-}
-
-// Whether a text is cut short where each request of the parse for memory is refused in turn, and answers its row then;
-// and whether it asks for memory just where it has an escape.
-fn survives_refusals(alloc: Global, text: &[u8], calls: &str) -> Result<bool, AllocError> {
-    let answers = answers_of(calls, Turn::Never);
-    let want = wanted(alloc, calls, Turn::Never)?;
-    for before in 0..100u64 {
-        let refusing = Refusing::new(alloc, before);
-        let first = told_by(alloc, &refusing, answers, text)?;
-        if !refusing.has_refused() {
-            return Ok((before == 0 || has_escape(text)) && first == want);
-        }
-        let again = told_by(alloc, &refusing, answers, text)?;
-        if !is_cut_short(&first, &want) || again != want {
-            return Ok(false);
-        }
-    }
-    Ok(false)
-}
-
-/// The first row whose text does not survive each refused request for memory.
-pub fn first_lost(alloc: Global, rows: &'static str) -> Result<Option<&'static str>, AllocError> {
-    for row in rows.lines() {
-        let (text, calls) = row.split_once(" => ").unwrap_or((row, ""));
-        let text = written_out(alloc, text)?;
-        if !survives_refusals(alloc, &text, calls)? {
             return Ok(Some(row));
         }
     }

@@ -1,8 +1,11 @@
 //! What `revtool` answers to lines over a commit-graph file, what it says of a file that it can't use, and what it reads of a
 //! command line.
 
-use crate::lines::{Came, Run, judged, row_of};
+use crate::lines::Run;
+use crate::memory::{Came, judged};
+use crate::rows::{Row, row_of};
 use fixtures::graph_files::{file, levelled};
+use fixtures::printed::prints;
 use refusing::Refusing;
 use revtool::{FileFault, Request, open_graph, read_graph, run_over};
 use std::alloc::{AllocError, Allocator, Global};
@@ -12,7 +15,7 @@ use std::test::Fail;
 
 /// Lines over the file of five commits, the status, and what is written. The third stands in no other line than those of the file;
 /// the octopus merge has a newer child, and an id that begins like its own.
-const ROWS: [&str; 6] = [
+static ROWS: [&str; 6] = [
     "base c5f95b31d00a42c40e7802fb583d1d3ba95e4a6d 6ec51cce1d57faa4c7a89b1bd415c748c14c8eec|spec c24f^2|list c5f9^!|list c24f^@ => 0 \
 base 6ec51cce1d57faa4c7a89b1bd415c748c14c8eec|spec c2ae463f2de8e30be91d8ecc93e9d64145174877|\
 list c5f95b31d00a42c40e7802fb583d1d3ba95e4a6d|list 6ec51cce1d57faa4c7a89b1bd415c748c14c8eec \
@@ -47,50 +50,77 @@ fn run_with<A: Allocator + Copy>(to: Global, alloc: A, text: &[u8]) -> Run {
     }
 }
 
+/// What comes of a row where the request after so many is refused, and whether there is such a request.
+fn came_with(alloc: Global, row: &Row, before: u64) -> (Came, bool) {
+    let memory = Refusing::new(alloc, before);
+    let ran = run_with(alloc, &memory, &row.text);
+    (
+        judged(&ran, (row.status, &row.written)),
+        memory.has_refused(),
+    )
+}
+
 /// Whether lines are answered as a row says, and as it says or with want of memory where each request is refused in turn.
-fn is_answered(alloc: Global, row: &str) -> Result<bool, AllocError> {
-    let row = row_of(alloc, "", row)?;
-    for number in 0..2000u64 {
-        let memory = Refusing::new(alloc, number);
-        let came = judged(
-            &run_with(alloc, &memory, &row.text),
-            (row.status, &row.written),
-        );
-        if !memory.has_refused() {
-            return Ok(came == Came::Answered);
+fn is_answered_with(alloc: Global, row: &Row) -> bool {
+    for before in 0..2000u64 {
+        let (came, has_refused) = came_with(alloc, row, before);
+        if !has_refused {
+            return came == Came::Answered;
         }
         if came == Came::Wrong {
-            return Ok(false);
+            return false;
         }
     }
-    Ok(false)
+    false
+}
+
+fn is_answered(alloc: Global, row: &str) -> Result<bool, AllocError> {
+    Ok(is_answered_with(alloc, &row_of(alloc, "", row)?))
 }
 
 /// The first row that is not answered so.
 fn first_wrong(alloc: Global) -> Result<Option<&'static str>, AllocError> {
-    for row in ROWS {
+    for row in &ROWS {
         if !is_answered(alloc, row)? {
-            return Ok(Some(row));
+            return Ok(Some(*row));
         }
     }
     Ok(None)
 }
 
-/// What is printed of a fault.
-fn said(alloc: Global, fault: &FileFault) -> Result<String, AllocError> {
-    format!(in alloc; "{fault}")
-}
+/// A place in the file, the byte that stands there in place of its own, and what is said of the file then. The last one is
+/// the root's level, which is 0.
+static CHANGED: [(usize, u8, &str); 2] = [
+    (0, b'c', "no commit-graph file"),
+    (0x4b4 + 36 + 31, 0, "levels that do not fall"),
+];
 
-/// What is said of the file where a byte of it is changed; none where it is opened.
-fn said_of_changed(alloc: Global, place: usize, byte: u8) -> Result<Option<String>, AllocError> {
+/// Whether this is said of the file where a byte of it is changed.
+fn is_said_of(alloc: Global, (place, byte, said): (usize, u8, &str)) -> Result<bool, AllocError> {
     let mut bytes = file(alloc)?;
     if let Some(at) = bytes.get_mut(place) {
         *at = byte;
     }
     match open_graph(bytes) {
-        Ok(_) => Ok(None),
-        Err(fault) => Ok(Some(said(alloc, &fault)?)),
+        Ok(_) => Ok(false),
+        Err(fault) => prints(alloc, &fault, said),
     }
+}
+
+/// What of these is not said.
+fn first_unsaid(alloc: Global) -> Result<Option<&'static str>, AllocError> {
+    for row in &CHANGED {
+        if !is_said_of(alloc, *row)? {
+            return Ok(Some(row.2));
+        }
+    }
+    Ok(None)
+}
+
+/// Whether a file that is not there is said to be so.
+fn is_missing_said(alloc: Global) -> Result<bool, AllocError> {
+    let missing = FileFault::Unreadable(io::Error::from(io::ErrorKind::NotFound));
+    prints(alloc, &missing, "entity not found")
 }
 
 /// Whether the file is read to its end, whatever its size was said to be.
@@ -108,14 +138,8 @@ fn lines_are_answered_over_a_file(rt: HostRuntime) -> Result<(), Fail> {
 
 #[test]
 fn a_file_that_is_not_used_is_named(rt: HostRuntime) -> Result<(), Fail> {
-    assert!(rt; said_of_changed(rt.alloc(), 0, b'c')?.as_deref() == Some("no commit-graph file"));
-    // The root's level is 0.
-    assert!(rt;
-        said_of_changed(rt.alloc(), 0x4b4 + 36 + 31, 0)?.as_deref()
-            == Some("levels that do not fall")
-    );
-    let missing = FileFault::Unreadable(io::Error::from(io::ErrorKind::NotFound));
-    assert!(rt; said(rt.alloc(), &missing)?.as_str() == "entity not found");
+    assert_eq!(rt; first_unsaid(rt.alloc())?, None);
+    assert!(rt; is_missing_said(rt.alloc())?);
     assert!(rt; is_read(rt.alloc(), 0)? && is_read(rt.alloc(), 5000)?);
     Ok(())
 }
@@ -130,7 +154,7 @@ fn read_as(alloc: Global, line: &str, want: Request<'_>) -> Result<bool, AllocEr
 }
 
 /// Command lines, and what they ask for.
-const REQUESTS: [(&str, Request<'static>); 8] = [
+static REQUESTS: [(&str, Request<'static>); 8] = [
     ("--commit-graph a/b", Request::AnswersOver("a/b")),
     ("--commit-graph=a=b", Request::AnswersOver("a=b")),
     ("--help", Request::Help),
@@ -143,9 +167,9 @@ const REQUESTS: [(&str, Request<'static>); 8] = [
 
 /// The first command line that is read otherwise.
 fn first_misread(alloc: Global) -> Result<Option<&'static str>, AllocError> {
-    for (line, want) in REQUESTS {
-        if !read_as(alloc, line, want)? {
-            return Ok(Some(line));
+    for (line, want) in &REQUESTS {
+        if !read_as(alloc, line, *want)? {
+            return Ok(Some(*line));
         }
     }
     Ok(None)

@@ -7,11 +7,19 @@ mod braces;
 #[cfg(test)]
 mod calls;
 #[cfg(test)]
+mod cut_short;
+#[cfg(test)]
 mod delegate;
+#[cfg(test)]
+mod failing;
 #[cfg(test)]
 mod graph_lines;
 #[cfg(test)]
 mod lines;
+#[cfg(test)]
+mod memory;
+#[cfg(test)]
+mod rows;
 #[cfg(test)]
 mod streams;
 #[cfg(test)]

@@ -2,6 +2,7 @@
 //! refused call; very long ones; printed faults and specs.
 
 use crate::calls::{count, first_wrong};
+use fixtures::printed::prints;
 use gix_base::hash::ObjectId;
 use gix_spec::spec::parse::delegate::{SiblingBranch, Traversal};
 use gix_spec::spec::parse::{Error, Fault};
@@ -155,115 +156,137 @@ fn long_texts_are_read(rt: HostRuntime) -> Result<(), Fail> {
     Ok(())
 }
 
-/// The texts that hold a debug form; a clause has the others.
+/// The texts of faults that hold a debug form; a clause has the others.
+static FAULTS: [(Fault, &str); 5] = [
+    (
+        Fault::KindRefused(Kind::RangeBetween),
+        "delegate.kind(RangeBetween) failed",
+    ),
+    (
+        Fault::KindTwice {
+            was: Kind::ExcludeReachable,
+            now: Kind::ReachableToMergeBase,
+        },
+        "cannot set spec kind more than once (was ExcludeReachable, now ReachableToMergeBase)",
+    ),
+    (
+        Fault::TraverseRefused(Traversal::NthParent(2)),
+        "delegate.traverse(NthParent(2)) failed",
+    ),
+    (
+        Fault::TraverseRefused(Traversal::NthAncestor(3)),
+        "delegate.traverse(NthAncestor(3)) failed",
+    ),
+    (Fault::IndexRefused(2), "the delegate found no index entry"),
+];
+
+// Whether a refusal for a fault prints as this text.
+fn refusal_prints(alloc: Global, fault: Fault, text: &str) -> Result<bool, AllocError> {
+    let refused = Error::Refused {
+        fault,
+        input: None,
+        first: None,
+        second: None,
+    };
+    prints(alloc, &refused, text)
+}
+
+// Whether a fault and a refusal for it print as this text.
+fn both_print(alloc: Global, fault: &Fault, text: &str) -> Result<bool, AllocError> {
+    Ok(prints(alloc, fault, text)? && refusal_prints(alloc, *fault, text)?)
+}
+
+/// The first text as which its fault is not printed.
+fn first_misprinted(alloc: Global) -> Result<Option<&'static str>, AllocError> {
+    for (fault, text) in &FAULTS {
+        if !both_print(alloc, fault, text)? {
+            return Ok(Some(*text));
+        }
+    }
+    Ok(None)
+}
+
 #[test]
 fn faults_print_their_kind_and_step(rt: HostRuntime) -> Result<(), Fail> {
-    let rows = [
-        (
-            Fault::KindRefused(Kind::RangeBetween),
-            "delegate.kind(RangeBetween) failed",
-        ),
-        (
-            Fault::KindTwice {
-                was: Kind::ExcludeReachable,
-                now: Kind::ReachableToMergeBase,
-            },
-            "cannot set spec kind more than once (was ExcludeReachable, now ReachableToMergeBase)",
-        ),
-        (
-            Fault::TraverseRefused(Traversal::NthParent(2)),
-            "delegate.traverse(NthParent(2)) failed",
-        ),
-        (
-            Fault::TraverseRefused(Traversal::NthAncestor(3)),
-            "delegate.traverse(NthAncestor(3)) failed",
-        ),
-        (Fault::IndexRefused(2), "the delegate found no index entry"),
-    ];
-    for (fault, want) in rows {
-        let refused = Error::Refused {
-            fault,
-            input: None,
-            first: None,
-            second: None,
-        };
-        assert_eq!(rt; format!(in rt.alloc(); "{fault}")?.as_str(), want);
-        assert_eq!(rt; format!(in rt.alloc(); "{refused}")?.as_str(), want);
-    }
-    let wanting = Error::OutOfMemory;
-    assert_eq!(rt;
-        format!(in rt.alloc(); "{wanting}")?.as_str(),
-        "out of memory"
-    );
+    assert_eq!(rt; first_misprinted(rt.alloc())?, None);
+    assert!(rt; prints(rt.alloc(), &Error::OutOfMemory, "out of memory")?);
     Ok(())
+}
+
+const ONE: ObjectId = ObjectId([0x11; 20]);
+
+const TWO: ObjectId = ObjectId([0x22; 20]);
+
+/// Specs, their kinds, and their texts.
+static SPECS: [(Spec, Kind, &str); 6] = [
+    (
+        Spec::Include(ONE),
+        Kind::IncludeReachable,
+        "1111111111111111111111111111111111111111",
+    ),
+    (
+        Spec::Exclude(ONE),
+        Kind::ExcludeReachable,
+        "^1111111111111111111111111111111111111111",
+    ),
+    (
+        Spec::Range { from: ONE, to: TWO },
+        Kind::RangeBetween,
+        "1111111111111111111111111111111111111111..2222222222222222222222222222222222222222",
+    ),
+    (
+        Spec::Merge {
+            theirs: ONE,
+            ours: TWO,
+        },
+        Kind::ReachableToMergeBase,
+        "1111111111111111111111111111111111111111...2222222222222222222222222222222222222222",
+    ),
+    (
+        Spec::IncludeOnlyParents(ONE),
+        Kind::IncludeReachableFromParents,
+        "1111111111111111111111111111111111111111^@",
+    ),
+    (
+        Spec::ExcludeParents(ONE),
+        Kind::ExcludeReachableFromParents,
+        "1111111111111111111111111111111111111111^!",
+    ),
+];
+
+/// The first text as which its spec is not printed, or in which no calls are found.
+fn first_unread(alloc: Global) -> Result<Option<&'static str>, AllocError> {
+    for (spec, kind, text) in &SPECS {
+        if spec.kind() != *kind
+            || !prints(alloc, spec, text)?
+            || count(alloc, text.as_bytes()) < 2
+        {
+            return Ok(Some(*text));
+        }
+    }
+    Ok(None)
 }
 
 #[test]
 fn specs_print_and_read_back(rt: HostRuntime) -> Result<(), Fail> {
-    let one = ObjectId([0x11; 20]);
-    let two = ObjectId([0x22; 20]);
-    let rows = [
-        (
-            Spec::Include(one),
-            "1111111111111111111111111111111111111111",
-        ),
-        (
-            Spec::Exclude(one),
-            "^1111111111111111111111111111111111111111",
-        ),
-        (
-            Spec::Range { from: one, to: two },
-            "1111111111111111111111111111111111111111..2222222222222222222222222222222222222222",
-        ),
-        (
-            Spec::Merge {
-                theirs: one,
-                ours: two,
-            },
-            "1111111111111111111111111111111111111111...2222222222222222222222222222222222222222",
-        ),
-        (
-            Spec::IncludeOnlyParents(one),
-            "1111111111111111111111111111111111111111^@",
-        ),
-        (
-            Spec::ExcludeParents(one),
-            "1111111111111111111111111111111111111111^!",
-        ),
-    ];
-    for (spec, want) in rows {
-        let text = format!(in rt.alloc(); "{spec}")?;
-        assert_eq!(rt; text.as_str(), want);
-        assert!(rt;
-            count(rt.alloc(), text.as_str().as_bytes()) > 1,
-            "too few calls"
-        );
-    }
-    assert_eq!(rt;
-        Spec::Merge {
-            theirs: one,
-            ours: two
-        }
-        .kind(),
-        Kind::ReachableToMergeBase
-    );
-    assert_eq!(rt; Kind::default(), Kind::IncludeReachable);
+    assert_eq!(rt; first_unread(rt.alloc())?, None);
+    assert!(rt; Kind::default() == Kind::IncludeReachable);
     Ok(())
 }
 
+/// What stands in the braces of a sibling branch, in any case, and which it is.
+static SIBLINGS: [(&str, Option<SiblingBranch>); 8] = [
+    ("u", Some(SiblingBranch::Upstream)),
+    ("U", Some(SiblingBranch::Upstream)),
+    ("UpStream", Some(SiblingBranch::Upstream)),
+    ("push", Some(SiblingBranch::Push)),
+    ("PUSH", Some(SiblingBranch::Push)),
+    ("", None),
+    ("up", None),
+    ("pushed", None),
+];
+
 #[test]
 fn sibling_branches_are_read_in_any_case(rt: HostRuntime) {
-    let rows = [
-        ("u", Some(SiblingBranch::Upstream)),
-        ("U", Some(SiblingBranch::Upstream)),
-        ("UpStream", Some(SiblingBranch::Upstream)),
-        ("push", Some(SiblingBranch::Push)),
-        ("PUSH", Some(SiblingBranch::Push)),
-        ("", None),
-        ("up", None),
-        ("pushed", None),
-    ];
-    for (text, want) in rows {
-        assert_eq!(rt; SiblingBranch::parse(text.as_bytes()), want, "{text}");
-    }
+    assert!(rt; SIBLINGS.iter().all(|(text, want)| SiblingBranch::parse(text.as_bytes()) == *want));
 }

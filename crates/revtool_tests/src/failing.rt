@@ -1,0 +1,141 @@
+//! What `revtool` does where its input fails or does not end, and where nothing can be written.
+
+use crate::lines::run_over;
+use crate::rows::CRISS_CROSS;
+use crate::streams::{Ending, FailingWriter, LineFeeds, Trickle};
+use fixtures::histories::written_out;
+use revtool::run;
+use std::alloc::{AllocError, Global};
+use std::test::Fail;
+
+const UNREAD: &[u8] = b"cannot read standard input\n";
+
+/// Whether an input that fails after so many bytes can't be read.
+fn fails_after(alloc: Global, count: usize) -> Result<bool, AllocError> {
+    let text = written_out(alloc, CRISS_CROSS)?;
+    let left = text.get(..count).unwrap_or(&text);
+    let mut input = Trickle::new(left, Ending::Failure);
+    Ok(run_over(alloc, alloc, &mut input).is(2, UNREAD))
+}
+
+/// Whether a run over so many line feeds ends with this status, and how often it read.
+fn line_feeds(alloc: Global, count: u64, status: u8) -> (bool, u64) {
+    let mut input = LineFeeds::new(count);
+    let written = if status == 2 { UNREAD } else { b"" };
+    let ends = run_over(alloc, alloc, &mut input).is(status, written);
+    (ends, input.reads())
+}
+
+/// How many line feeds there are, the status, and how often they are read: the last read that is made
+/// finds the end, or one byte more. An input without end is read no further.
+static LINE_FEEDS: [(u64, u8, u64); 4] = [
+    (0, 0, 1),
+    (16_777_215, 0, 16_777_216),
+    (16_777_216, 2, 16_777_216),
+    (u64::MAX, 2, 16_777_216),
+];
+
+/// How many bytes are read before an input fails.
+static BYTES: [usize; 3] = [0, 1, 1000];
+
+/// The first number of bytes after which an input that fails is read.
+fn first_read(alloc: Global) -> Result<Option<usize>, AllocError> {
+    for count in &BYTES {
+        if !fails_after(alloc, *count)? {
+            return Ok(Some(*count));
+        }
+    }
+    Ok(None)
+}
+
+/// The first number of line feeds that are not read so.
+fn first_misread(alloc: Global) -> Option<u64> {
+    for (count, status, reads) in &LINE_FEEDS {
+        if line_feeds(alloc, *count, *status) != (true, *reads) {
+            return Some(*count);
+        }
+    }
+    None
+}
+
+#[test]
+fn an_input_may_fail_or_not_end(rt: HostRuntime) -> Result<(), Fail> {
+    assert_eq!(rt; first_read(rt.alloc())?, None);
+    assert_eq!(rt; first_misread(rt.alloc()), None);
+    Ok(())
+}
+
+/// What is left of a run whose output fails: its status, whether the output failed, how often it was
+/// written to after that, and whether no fault was written.
+#[derive(Clone, Copy)]
+struct Unwritten {
+    status: u8,
+    has_failed: bool,
+    later: u64,
+    no_faults: bool,
+}
+
+/// The criss-cross, and many questions.
+fn many_lines(alloc: Global) -> Result<Vec<u8>, AllocError> {
+    let mut text = written_out(alloc, CRISS_CROSS)?;
+    for _ in 0..100u8 {
+        text.extend_from_slice(&written_out(alloc, "base [4] [5]|")?)?;
+    }
+    Ok(text)
+}
+
+/// The answers to them, to an output that fails at the call after that many.
+fn with_failing_output(alloc: Global, lines: &[u8], before: u64) -> Unwritten {
+    let mut input = lines;
+    let mut output = FailingWriter::new(before);
+    let mut faults = Vec::new(alloc);
+    let status = run(alloc, alloc, &mut input, &mut output, &mut faults);
+    Unwritten {
+        status,
+        has_failed: output.has_failed(),
+        later: output.later(),
+        no_faults: faults.is_empty(),
+    }
+}
+
+/// The status of a run whose faults can't be written, and whether it wrote nothing else.
+fn with_failing_faults(alloc: Global, text: &[u8]) -> (u8, bool) {
+    let mut input = text;
+    let mut output = Vec::new(alloc);
+    let mut faults = FailingWriter::new(0);
+    let status = run(alloc, alloc, &mut input, &mut output, &mut faults);
+    (status, output.is_empty())
+}
+
+/// Whether nothing was written after the call that failed, if one did, and the status says so.
+fn is_left_alone(left: Unwritten) -> bool {
+    left.status == (if left.has_failed { 2 } else { 0 }) && left.later == 0 && left.no_faults
+}
+
+/// How many calls many answers take, each of which fails in turn; none where one is not the last, or they never end.
+fn calls_of(alloc: Global, lines: &[u8]) -> Option<u64> {
+    for before in 0..100u64 {
+        let left = with_failing_output(alloc, lines, before);
+        if !is_left_alone(left) {
+            return None;
+        }
+        if !left.has_failed {
+            return Some(before);
+        }
+    }
+    None
+}
+
+fn calls_of_output(alloc: Global) -> Result<Option<u64>, AllocError> {
+    let lines = many_lines(alloc)?;
+    Ok(calls_of(alloc, &lines))
+}
+
+#[test]
+fn nothing_is_written_after_a_write_that_failed(rt: HostRuntime) -> Result<(), Fail> {
+    assert!(rt; with_failing_faults(rt.alloc(), b"\n") == (0, true));
+    assert!(rt; with_failing_faults(rt.alloc(), b"x\n") == (2, true));
+    // 8700 bytes, of which at most 1000 were taken at a time, and a flush.
+    assert!(rt; calls_of_output(rt.alloc())? > Some(9));
+    Ok(())
+}
