@@ -9,4 +9,6 @@ mod reaching;
 #[cfg(test)]
 mod resolving;
 #[cfg(test)]
+mod texts;
+#[cfg(test)]
 mod usage;

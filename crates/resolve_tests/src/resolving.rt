@@ -1,7 +1,8 @@
 //! Revision texts resolved over worked histories, where look-ups fail, and where memory is refused.
 
+use crate::texts::{AMBIGUOUS, CROSSED, Case, NAMES_FIRST, Order, ROUNDS};
 use fixtures::faults::{Answered, Asks, refusals};
-use fixtures::histories::{CRISS_CROSS, Row, id, written_out};
+use fixtures::histories::{Row, id, written_out};
 use gix_resolve::{Table, resolve, rev_parse};
 use gix_revision::date::Time;
 use gix_revision::error::Exn;
@@ -19,232 +20,8 @@ const NOW: Time = Time {
     offset: 0,
 };
 
-/// What is tried first on a name that could be digits of an id.
-#[derive(Clone, Copy)]
-enum Order {
-    /// The digits: `resolve`.
-    DigitsFirst,
-    /// The name: `rev_parse`.
-    NamesFirst,
-}
-
-/// The order, a history, names and the digits of their ids, ids of the table beside those of the history,
-/// and rows. A row is a text and what it is resolved to: a spec, or the number of a refusal, the part of
-/// the text that it names in round brackets, and what the resolver said.
-struct Case {
-    order: Order,
-    history: &'static [Row<'static>],
-    names: &'static [(&'static str, u8)],
-    more_ids: &'static [ObjectId],
-    rows: &'static str,
-}
-
-static CROSSED: Case = Case {
-    order: Order::DigitsFirst,
-    history: &CRISS_CROSS,
-    names: &[("HEAD", 4), ("main", 5), ("gone", 9)],
-    more_ids: &[],
-    rows: "\
-@ => [4]
-HEAD => [4]
-4444 => [4]
-v1-3-g4444 => [4]
-main~1 => [2]
-main^ => [2]
-main^2 => [3]
-main~0 => [5]
-main^0 => [5]
-HEAD^2~1 => [1]
-^main => ^[5]
-..main => [4]..[5]
-main.. => [5]..[4]
-HEAD...main => [4]...[5]
-main^-2 => [3]..[5]
-main~1^- => [1]..[5]
-main^@ => [5]^@
-main^! => [5]^!
-gone => [9]
-gone^@ => [9]^@
-main~3 => P24 (3) no such parent
-main~18446744073709551615 => P24 (18446744073709551615) no such parent
-main^3 => P24 (3) no such parent
-gone~0 => P24 (0) no such commit
-gone^1 => P24 (1) no such commit
-gone^0 => P25 (0) no such commit
-HEAD..main^! => P1 () kind or end given twice
-HEAD..main^- => P1 (-) kind or end given twice
-^main^@ => P1 () kind or end given twice
- => P5 no revision
-^ => P5 no revision
-^^ => P24 () no revision
-^~1 => P21
-no => P12 (no) no such name
-head => P12 (head) no such name
-6666 => P12 (6666) no object with this prefix; no such name
-6666..main => P12 (6666..main) no object with this prefix; no such name
-:/fix => P10 (fix) not supported here
-:a.txt => P11 (a.txt) not supported here
-main:a.txt => P25 (a.txt) not supported here
-main^{commit} => [5]
-main^{tree} => P25 ({tree}) not supported here
-main^{} => P25 ({}) not supported here
-gone^{commit} => P25 ({commit}) no such commit
-main^{/fix} => P10 (fix) not supported here
-main@{1} => P20 (1) not supported here
-@{-1} => P20 (-1) not supported here
-main@{u} => P20 (u) not supported here
-",
-};
-
-/// A second id begins as the first does.
-static AMBIGUOUS: Case = Case {
-    order: Order::DigitsFirst,
-    history: &CRISS_CROSS,
-    names: &[("HEAD", 4), ("main", 5)],
-    more_ids: &[ObjectId([
-        0x44, 0x44, 0, 0, 0, 0, 0, 0, 0, 0, 0, 0, 0, 0, 0, 0, 0, 0, 0, 0,
-    ])],
-    rows: "\
-4444 => P12 (4444) prefix is ambiguous; no such name
-44444 => [4]
-44440 => 4444000000000000000000000000000000000000
-main..4444 => P12 (4444) prefix is ambiguous; no such name
-",
-};
-
-/// Rounds of one, two and three commits, and one commit before a round.
-static ROUNDS: Case = Case {
-    order: Order::DigitsFirst,
-    history: &[
-        Row(1, 1, None, &[1]),
-        Row(2, 1, None, &[3]),
-        Row(3, 1, None, &[2]),
-        Row(4, 1, None, &[5]),
-        Row(5, 1, None, &[6]),
-        Row(6, 1, None, &[4]),
-        Row(7, 1, None, &[4]),
-    ],
-    names: &[],
-    more_ids: &[],
-    rows: "\
-1111~18446744073709551615 => [1]
-2222~18446744073709551614 => [2]
-2222~18446744073709551615 => [3]
-4444~18446744073709551613 => [5]
-4444~18446744073709551614 => [6]
-4444~18446744073709551615 => [4]
-7777~18446744073709551615 => [6]
-",
-};
-
-/// Names that could be digits: of an id, of another one or of none, of two ids.
-static NAMES_FIRST: Case = Case {
-    order: Order::NamesFirst,
-    history: &CRISS_CROSS,
-    names: &[
-        ("HEAD", 4),
-        ("main", 5),
-        ("gone", 9),
-        ("2222", 5),
-        ("222", 4),
-        ("[3]", 5),
-        ("[6]", 5),
-        ("1111-login", 5),
-        ("v1-2-g2222", 4),
-        ("x-g4444-more", 1),
-        ("AbCd", 4),
-        ("dead", 1),
-        ("topic-g", 3),
-        ("caf#", 2),
-    ],
-    more_ids: &[
-        ObjectId([
-            0xab, 0xcd, 0, 0, 0, 0, 0, 0, 0, 0, 0, 0, 0, 0, 0, 0, 0, 0, 0, 0,
-        ]),
-        ObjectId([
-            0x55, 0x55, 0, 0, 0, 0, 0, 0, 0, 0, 0, 0, 0, 0, 0, 0, 0, 0, 0, 0,
-        ]),
-    ],
-    rows: "\
-@ => [4]
-main => [5]
-2222 => [5]
-22222 => [2]
-222 => [4]
-[2] => [2]
-[3] => [3]
-3333 => [3]
-333 => P12 (333) no such name
-[6] => P12 ([6]) a name comes first; no object with this prefix
-[6]6 => P12 ([6]6) no such name
-6666 => P12 (6666) a name comes first; no object with this prefix
-5555 => P12 (5555) a name comes first; prefix is ambiguous
-55555 => [5]
-1111-login => [5]
-4444-login => P12 (4444-login) a name comes first; no such name
-v1-2-g2222 => [4]
-v1-3-g2222 => [2]
-v1-3-g222 => P12 (v1-3-g222) no such name
-v1-3-g5555 => P12 (v1-3-g5555) a name comes first; prefix is ambiguous
-v1-3-g6666 => P12 (v1-3-g6666) a name comes first; no object with this prefix
-v1-3-g[2] => [2]
-v1-3-g[2]2 => P12 (v1-3-g[2]2) no such name
-v1-g3333-g2222 => [2]
-any-g2222 => [2]
--g2222 => P12 (-g2222) no such name
-x-g4444-more => [1]
-y-g4444-more => P12 (y-g4444-more) a name comes first; no such name
-AbCd => [4]
-ABCD => abcd000000000000000000000000000000000000
-v1-3-gAbCd => abcd000000000000000000000000000000000000
-dead => [1]
-DEAD => P12 (DEAD) a name comes first; no object with this prefix
-topic-g => [3]
-topic-g2222 => [2]
-caf# => [2]
-caf#-1-g2222 => [2]
-#2222 => P12 (#2222) no such name
-2222~1 => [2]
-22222~1 => [1]
-2222^2 => [3]
-1111-login^ => [2]
-^2222 => ^[5]
-2222..22222 => [5]..[2]
-22222...1111-login => [2]...[5]
-..2222 => [4]..[5]
-2222^- => [2]..[5]
-22222^- => [1]..[2]
-v1-3-g2222^! => [2]^!
-[3]^@ => [3]^@
-2222@{0} => P20 (0) not supported here
-22222@{0} => P20 (0) not supported here
-66666@{0} => P12 (66666@{0}) a name comes first; no object with this prefix
-2222:a.txt => P25 (a.txt) not supported here
-main^{} => [5]
-main^{object} => [5]
-main^{commit} => [5]
-main^0 => [5]
-v1-3-g2222^{}^{object}~1 => [1]
-main^{tag} => P25 ({tag}) commits alone are known
-main^{tree} => P25 ({tree}) commits alone are known
-main^{blob} => P25 ({blob}) commits alone are known
-gone => [9]
-gone^{} => P25 ({}) no such commit
-gone^{object} => P25 ({object}) no such commit
-gone^0 => P25 (0) no such commit
-main^{/fix} => P10 (fix) not supported here
-@{-1} => P20 (-1) not supported here
- => P5 no revision
-^{} => P12 ({}) no such name
-no..2222 => P12 (no..2222) no such name
-",
-};
-
-fn table_of<A: Allocator + Copy>(alloc: A, case: &Case) -> Result<Table<A>, AllocError> {
-    let mut names = BTreeMap::new(alloc);
-    for (name, digit) in case.names {
-        names.insert(written_out(alloc, name)?, id(*digit))?;
-    }
+// The ids of the history, and those beside it.
+fn ids_of<A: Allocator + Copy>(alloc: A, case: &Case) -> Result<BTreeSet<ObjectId, A>, AllocError> {
     let mut ids = BTreeSet::new(alloc);
     for row in case.history {
         ids.insert(id(row.0))?;
@@ -252,6 +29,23 @@ fn table_of<A: Allocator + Copy>(alloc: A, case: &Case) -> Result<Table<A>, Allo
     for other in case.more_ids {
         ids.insert(*other)?;
     }
+    Ok(ids)
+}
+
+fn names_of<A: Allocator + Copy>(
+    alloc: A,
+    case: &Case,
+) -> Result<BTreeMap<Vec<u8, A>, ObjectId, A>, AllocError> {
+    let mut names = BTreeMap::new(alloc);
+    for (name, digit) in case.names {
+        names.insert(written_out(alloc, name)?, id(*digit))?;
+    }
+    Ok(names)
+}
+
+fn table_of<A: Allocator + Copy>(alloc: A, case: &Case) -> Result<Table<A>, AllocError> {
+    let names = names_of(alloc, case)?;
+    let ids = ids_of(alloc, case)?;
     Ok(Table { names, ids })
 }
 
@@ -265,11 +59,14 @@ fn add_refusal(before: &str, refusal: &Option<Exn>, line: &mut Vec<u8>) -> Resul
 }
 
 // What was answered, as rows have it.
-fn written(alloc: Global, answer: &Result<Spec, Error<'_>>) -> Result<Vec<u8>, AllocError> {
-    let mut line = Vec::new(alloc);
+fn add_answer(
+    alloc: Global,
+    answer: &Result<Spec, Error<'_>>,
+    line: &mut Vec<u8>,
+) -> Result<(), AllocError> {
     match answer {
-        Ok(spec) => line.extend_from_slice(format!(in alloc; "{spec}")?.as_bytes())?,
-        Err(Error::OutOfMemory) => line.extend_from_slice(b"P0")?,
+        Ok(spec) => line.extend_from_slice(format!(in alloc; "{spec}")?.as_bytes()),
+        Err(Error::OutOfMemory) => line.extend_from_slice(b"P0"),
         Err(
             Error::Refused {
                 fault,
@@ -285,11 +82,21 @@ fn written(alloc: Global, answer: &Result<Spec, Error<'_>>) -> Result<Vec<u8>, A
                 line.extend_from_slice(input)?;
                 line.extend_from_slice(b")")?;
             }
-            add_refusal(" ", first, &mut line)?;
-            add_refusal("; ", second, &mut line)?;
+            add_refusal(" ", first, line)?;
+            add_refusal("; ", second, line)
         }
     }
-    Ok(line)
+}
+
+// Whether that was answered.
+fn is_written(
+    alloc: Global,
+    answer: &Result<Spec, Error<'_>>,
+    want: &[u8],
+) -> Result<bool, AllocError> {
+    let mut line = Vec::new(alloc);
+    add_answer(alloc, answer, &mut line)?;
+    Ok(line.as_slice() == want)
 }
 
 fn judged(
@@ -297,7 +104,7 @@ fn judged(
     answer: &Result<Spec, Error<'_>>,
     want: &[u8],
 ) -> Result<Answered, AllocError> {
-    if written(alloc, answer)?.as_slice() == want {
+    if is_written(alloc, answer, want)? {
         return Ok(Answered::AsWanted);
     }
     Ok(match answer {
@@ -343,18 +150,30 @@ impl Asks for Wanted<'_> {
     }
 }
 
-/// The first row of a case that does not survive each fault and each refused request.
+/// Whether a text survives each fault and each refused request.
+fn survives(
+    alloc: Global,
+    case: &'static Case,
+    (text, answer): (&str, &str),
+) -> Result<bool, AllocError> {
+    let text = written_out(alloc, text)?;
+    let answer = written_out(alloc, answer)?;
+    let wanted = Wanted {
+        case,
+        text: &text,
+        answer: &answer,
+    };
+    Ok(refusals(alloc, &wanted)?.is_some())
+}
+
+/// The first row of a case that does not survive them.
 fn first_wrong(alloc: Global, case: &'static Case) -> Result<Option<&'static str>, AllocError> {
     for row in case.rows.lines() {
-        let (text, answer) = row.split_once(" => ").unwrap_or((row, "no row"));
-        let text = written_out(alloc, text)?;
-        let answer = written_out(alloc, answer)?;
-        let wanted = Wanted {
+        if !survives(
+            alloc,
             case,
-            text: &text,
-            answer: &answer,
-        };
-        if refusals(alloc, &wanted)?.is_none() {
+            row.split_once(" => ").unwrap_or((row, "no row")),
+        )? {
             return Ok(Some(row));
         }
     }
