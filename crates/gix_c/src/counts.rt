@@ -1,6 +1,6 @@
 //! What C calls to have commits counted.
 
-ghost use Rattle.std.specs.Prelude.{◌≡◌, ◌∷◌, [], ⊤, None};
+ghost use Rattle.std.specs.Prelude.{◌≡◌, ◌∷◌, ◌⊎◌, [], ⊤, None};
 ghost use Rattle.gix_merge_base.specs.Premises.{GenerationsNeverRiseFrom};
 ghost use Rattle.gix_c.specs.Answers.{ByCode, id_of};
 ghost use Rattle.gix_c.specs.Behind.{commits_of};
@@ -60,6 +60,7 @@ pub extern "C" fn gix_history_count(
     ensures size { ByCode result (HasCount (commits_of history.old) span.now count.new) ⊥
         (count.new ≡ count.old) }
     ensures kind { result ≡ NO_KIND → spec_at span.now ≡ None }
+    ensures refused { ByCode result ⊤ ⊥ ((result ≡ NO_KIND) ⊎ (result ≡ OUT_OF_MEMORY)) }
     ensures commits { commits_of history.new ≡ commits_of history.old }
     ensures named { history.new.value.named ≡ history.old.value.named }
 {

@@ -1,6 +1,6 @@
 //! What C calls to have a commit described.
 
-ghost use Rattle.std.specs.Prelude.{◌≡◌, ◌^◌, ⊤, ℕ, IfOk, OnErr, OnOk, None};
+ghost use Rattle.std.specs.Prelude.{◌≡◌, ◌^◌, ◌⊎◌, ⊤, ℕ, IfOk, OnErr, OnOk, None};
 ghost use Rattle.gix_base.specs.declared.hash.ObjectId.{ObjectId};
 ghost use Rattle.gix_revwalk.specs.Followed.{followed};
 ghost use Rattle.gix_revwalk.specs.History.{Has, IsAncestor};
@@ -137,6 +137,8 @@ pub extern "C" fn gix_history_describe(
     ensures no_commit { result ≡ NO_COMMIT → ¬ Has (commits_of history.old) (id_of commit.now) }
     ensures too_many { result ≡ TOO_MANY → AtLeast (2 ^ 32)
         (IsAncestor (followed how.now.first_parent (commits_of history.old)) (id_of commit.now)) }
+    ensures refused { ByCode result ⊤ ⊤
+        ((result ≡ NO_COMMIT) ⊎ ((result ≡ TOO_MANY) ⊎ (result ≡ OUT_OF_MEMORY))) }
     ensures kept { history.new.value ≡ history.old.value }
 {
     let Ok(options) = options_of(alloc, names, how) else {

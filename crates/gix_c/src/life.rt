@@ -1,7 +1,7 @@
 //! What C calls to make a history, to fill it and to free it.
 
 ghost use Rattle.std.specs.Borrow.{sem};
-ghost use Rattle.std.specs.Prelude.{◌≡◌, ⊤, Some, None, if◌then◌else◌};
+ghost use Rattle.std.specs.Prelude.{◌≡◌, ◌⊎◌, ⊤, Some, None, if◌then◌else◌};
 ghost use Rattle.gix_revwalk.specs.History.{Has, entry_at, same_id};
 ghost use Rattle.gix_base.specs.declared.hash.ObjectId.{ObjectId};
 ghost use Rattle.gix_c.specs.Answers.{ByCode, entry_given, id_of};
@@ -50,6 +50,7 @@ pub extern "C" fn gix_history_insert(
         then Some (entry_given parents.now time has_generation generation)
         else entry_at (commits_of history.old) q)) ⊥ (commits_of history.new ≡ commits_of history.old) }
     ensures there { result ≡ ALREADY_THERE → Has (commits_of history.old) (id_of id.now) }
+    ensures refused { ByCode result ⊤ ⊥ ((result ≡ ALREADY_THERE) ⊎ (result ≡ OUT_OF_MEMORY)) }
     ensures held { history.new.value.graph.held ≡ history.old.value.graph.held }
     ensures noted { IsNoted history.old → IsNoted history.new }
 {

@@ -1,6 +1,6 @@
 //! What C calls to have revision texts resolved, and commits listed.
 
-ghost use Rattle.std.specs.Prelude.{◌≡◌, ⊤, None, Some, slice_get};
+ghost use Rattle.std.specs.Prelude.{◌≡◌, ◌⊎◌, ⊤, None, Some, slice_get};
 ghost use Rattle.std.specs.Option.{option_map};
 ghost use Rattle.gix_resolve.specs.Resolved.{Resolved};
 ghost use Rattle.gix_resolve.specs.RevParse.{RevParsed};
@@ -205,7 +205,8 @@ pub extern "C" fn gix_history_list(
 ) -> i32
     ensures page { ByCode result (HasPage (commits_of history.old) span.now
         (option_map id_of (slice_get after.now 0)) out.old out.new count.new) ⊥ ⊤ }
-    ensures refused { ByCode result ⊤ ⊤ ((out.new ≡ out.old) × (count.new ≡ count.old)) }
+    ensures unwritten { ByCode result ⊤ ⊤ ((out.new ≡ out.old) × (count.new ≡ count.old)) }
+    ensures refused { ByCode result ⊤ ⊥ ((result ≡ NO_KIND) ⊎ (result ≡ OUT_OF_MEMORY)) }
     ensures kind { result ≡ NO_KIND → spec_at span.now ≡ None }
     ensures commits { commits_of history.new ≡ commits_of history.old }
     ensures named { history.new.value.named ≡ history.old.value.named }
