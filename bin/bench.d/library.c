@@ -1,7 +1,8 @@
-/* Times the library for C over the `commit` lines of standard input: library ID ID
+/* Times the library for C over the `commit` lines of standard input, or over git's commit-graph file of as many: library ID ID [FILE]
  *
- * Prints in seconds of the processor: the putting in of all commits, parted by their number; the merge bases of the two commits, asked for the
- * first time; and the same question again, on the average of so many as take a fifth of a second. */
+ * Prints in seconds of the processor: the putting in of all commits, or the opening of the file once its bytes are read, parted by their number;
+ * the merge bases of the two commits, asked for the first time; and the same question again, on the average of so many as take a fifth of a
+ * second. */
 #define _POSIX_C_SOURCE 199309L
 #include "gix_revision.h"
 
@@ -61,12 +62,31 @@ static void ask(gix_history *history, const gix_id *first, const gix_id *other) 
     expect(gix_history_merge_bases(history, first, other, 1, out, 64, &count) >= GIX_OK, "the question is refused");
 }
 
+static void put_in(gix_history **history, const commit *commits, size_t count) {
+    expect(gix_history_new(history) == GIX_OK, "no memory");
+    for (size_t i = 0; i < count; i++)
+        expect(gix_history_insert(*history, &commits[i].id, commits[i].parents, commits[i].parents_len, commits[i].time, false, 0) == GIX_OK,
+               "a commit is refused");
+}
+
+/* Reads a file whole. */
+static uint8_t *bytes_of(const char *path, size_t *len) {
+    FILE *file = fopen(path, "rb");
+    expect(file && fseek(file, 0, SEEK_END) == 0, "the file can't be read");
+    *len = (size_t)ftell(file);
+    rewind(file);
+    uint8_t *bytes = malloc(*len ? *len : 1);
+    expect(bytes && fread(bytes, 1, *len, file) == *len, "the file can't be read");
+    fclose(file);
+    return bytes;
+}
+
 int main(int argc, char **argv) {
     commit *commits = NULL;
     size_t count = 0;
     char line[1024];
     gix_history *history;
-    expect(argc == 3, "wants two ids");
+    expect(argc == 3 || argc == 4, "wants two ids, and no more than a file");
     gix_id first = id_of(argv[1]), other = id_of(argv[2]);
     while (fgets(line, sizeof line, stdin)) {
         if (strncmp(line, "commit ", 7) != 0)
@@ -77,11 +97,13 @@ int main(int argc, char **argv) {
         commits[count++] = commit_of(line);
     }
     expect(count > 0, "there are no commits");
-    expect(gix_history_new(&history) == GIX_OK, "no memory");
+    size_t len = 0;
+    uint8_t *bytes = argc == 4 ? bytes_of(argv[3], &len) : NULL;
     double start = now();
-    for (size_t i = 0; i < count; i++)
-        expect(gix_history_insert(history, &commits[i].id, commits[i].parents, commits[i].parents_len, commits[i].time, false, 0) == GIX_OK,
-               "a commit is refused");
+    if (bytes)
+        expect(gix_history_open(bytes, len, &history) == GIX_OK, "the file is refused");
+    else
+        put_in(&history, commits, count);
     double filled = now();
     ask(history, &first, &other);
     double asked = now();
@@ -93,5 +115,6 @@ int main(int argc, char **argv) {
     printf("%.9f %.9f %.9f\n", (filled - start) / (double)count, asked - filled, (now() - asked) / (double)again);
     gix_history_free(history);
     free(commits);
+    free(bytes);
     return 0;
 }
