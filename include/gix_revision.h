@@ -37,7 +37,7 @@ enum {
     GIX_NO_KIND = -6,       /* the kind of a gix_span is none of those below */
     GIX_NO_GRAPH = -7,      /* the bytes are no commit-graph file that is read */
     GIX_NO_LEVELS = -8,     /* a commit of the file has no level, or a parent no lesser one */
-    GIX_FAULT = 100         /* 101 to 127: the text is refused, by fault 1 to 27 */
+    GIX_FAULT = 100         /* 101 to 127: the text is refused, by fault 1 to 27 (docs/LINES.md) */
 };
 
 /* The 20 bytes of an id. */
