@@ -10,35 +10,11 @@ use Rattle.gix_revwalk.specs.History.{same_id, is_one_of}
 use Rattle.gix_revwalk.proofs.Ids.{same_id-true, same_id-itself}
 use Rattle.gix_revwalk.proofs.Places.{same_id-sym}
 use Rattle.gix_revwalk.proofs.Members.{one_of-cons_cases}
+use Rattle.gix_merge_base.proofs.Counting.{same_sum, less_sum}
 use Rattle.gix_merge_base.specs.Counting.{times}
 use Rattle.gix_merge_base.specs.Marks.{MarkSet, level}
 use Rattle.gix_resolve.specs.ReachSides.{hides}
 use Rattle.gix_resolve.specs.ReachWalk.{Tells, count_unhidden}
-
-same_sum : (f g : ObjectId → ℕ) → ((c : ObjectId) → g c ≡ f c) → (q : List ObjectId) → sum_by g q ≡ sum_by f q
-same_sum f g e [] = refl
-same_sum f g e (x ∷ xs) = let a = sum_by-cons f x xs in let b = sum_by-cons g x xs in let i = same_sum f g e xs in let s = e x in omega arith
-
--- what stands for one at id and now for nothing
-less_sum : (id : ObjectId) (f g : ObjectId → ℕ) → f id ≡ 1 → g id ≡ 0 → ((c : ObjectId) → same_id id c ≡ false → g c ≡ f c) → (q : List ObjectId) → sum_by g q + times id q ≡ sum_by f q
-less_sum id f g one none e [] = refl
-less_sum id f g one none e (x ∷ xs) =
-    let a = sum_by-cons f x xs in
-    let b = sum_by-cons g x xs in
-    let t = sum_by-cons (λ y. level (same_id id y)) x xs in
-    let i = less_sum id f g one none e xs in
-    elim (same_id id x) as (λ s. same_id id x ≡ s → sum_by g (x ∷ xs) + times id (x ∷ xs) ≡ sum_by f (x ∷ xs)) [
-      | true ↦ λ same.
-          let is = same_id-true id x same in
-          let fx : f x ≡ 1 = subst (λ z. f z ≡ 1) is one in
-          let gx : g x ≡ 0 = subst (λ z. g z ≡ 0) is none in
-          let lx : level (same_id id x) ≡ 1 = ap level same in
-          omega arith
-      | false ↦ λ apart.
-          let lx : level (same_id id x) ≡ 0 = ap level apart in
-          let fg = e x apart in
-          omega arith
-    ] refl
 
 -- what changes at id alone, where that does not stand
 off_sum : (id : ObjectId) (f g : ObjectId → ℕ) → ((c : ObjectId) → same_id id c ≡ false → g c ≡ f c) → (q : List ObjectId) → times id q ≡ 0 → sum_by g q ≡ sum_by f q

@@ -1,5 +1,5 @@
 -- Handing marks to commits that may be open, of which hidden ones need none.
-use Rattle.std.proofs.Common.{◌≡◌, ℕ, Bool, true, false, cond, refl, ap, sym, subst, ◌∙◌, List, [], ◌∷◌, ◌++◌, ◌⊎◌, inl, inr, ◌||◌, ◌&&◌, not, IsTrue, ◌+◌, ◌≤◌, ◌<◌, length, arith, take, get_or, add-one, is_some}
+use Rattle.std.proofs.Common.{◌≡◌, ℕ, Bool, true, false, cond, refl, ap, sym, subst, ◌∙◌, List, [], ◌∷◌, ◌++◌, ◌⊎◌, inl, inr, IsTrue, ◌+◌, ◌≤◌, ◌<◌, length, arith, take, get_or, add-one, is_some}
 use Rattle.std.specs.List.{filter}
 use Rattle.std.proofs.Math.Seq.{take-suc}
 use Rattle.std.proofs.lemmas.List.{length-map}
@@ -10,55 +10,15 @@ use Rattle.gix_revwalk.specs.Number.{place_in}
 use Rattle.gix_revwalk.specs.declared.numbers.Number.{Number}
 use Rattle.gix_revwalk.proofs.Ids.{same_id-true, same_id-itself}
 use Rattle.gix_revwalk.proofs.Members.{one_of-left, one_of-right, one_of-cases, one_of-head, one_of-tail, one_of-cons_cases, one_of-single}
-use Rattle.gix_merge_base.specs.Marks.{MarkSet, HasMarksOf, joined, has_marks, marks_in, level}
+use Rattle.gix_merge_base.specs.Marks.{MarkSet, HasMarksOf, joined, has_marks, marks_in}
 use Rattle.gix_merge_base.specs.PaintSteps.{total}
 use Rattle.gix_merge_base.proofs.Painting.{below-itself, below-trans, or_either, and_both, and_pair}
-use Rattle.gix_merge_base.proofs.Handing.{below-joined, marks_grow}
+use Rattle.gix_merge_base.proofs.Handing.{below-joined, marks_grow, marks_more, total_no_less, total_more}
 use Rattle.gix_merge_base.specs.PaintQueue.{id_at, ids_at}
 use Rattle.gix_merge_base.proofs.Known.{one_of-filter, filter-one_of}
 use Rattle.gix_merge_base.proofs.Numbered.{id-of-item}
 use Rattle.gix_resolve.specs.ReachSides.{hides, Gives}
 use Rattle.gix_resolve.specs.ReachWalk.{Enters}
-
-no_less : (w a : Bool) → level a ≤ level (w || a)
-no_less true true = omega arith
-no_less true false = omega arith
-no_less false a = omega arith
-
-one_more : (w a : Bool) → (not w || a) ≡ false → level a + 1 ≤ level (w || a)
-one_more true true h = cc
-one_more true false h = omega arith
-one_more false a h = cc
-
-and_false : (x y : Bool) → (x && y) ≡ false → (x ≡ false) ⊎ (y ≡ false)
-and_false true y h = inr h
-and_false false y h = inl refl
-
-marks_more : (w a : MarkSet) → has_marks a w ≡ false → marks_in a + 1 ≤ marks_in (joined w a)
-marks_more w a h =
-    let x = no_less w.one a.one in
-    let y = no_less w.two a.two in
-    let z = no_less w.stale a.stale in
-    elim (and_false (not w.one || a.one) ((not w.two || a.two) && (not w.stale || a.stale)) h) as (λ _. marks_in a + 1 ≤ marks_in (joined w a)) [
-      | inl e ↦ let k = one_more w.one a.one e in omega arith
-      | inr e ↦ elim (and_false (not w.two || a.two) (not w.stale || a.stale) e) as (λ _. marks_in a + 1 ≤ marks_in (joined w a)) [
-        | inl d ↦ let k = one_more w.two a.two d in omega arith
-        | inr d ↦ let k = one_more w.stale a.stale d in omega arith
-      ]
-    ]
-
-total_no_less : (ids : List ObjectId) (m m' : ObjectId → MarkSet) → ((c : ObjectId) → marks_in (m c) ≤ marks_in (m' c)) → total ids m ≤ total ids m'
-total_no_less [] m m' k = omega arith
-total_no_less (x ∷ xs) m m' k = let a = k x in let b = total_no_less xs m m' k in omega arith
-
-total_more : (ids : List ObjectId) (m m' : ObjectId → MarkSet) (p : ObjectId) → ((c : ObjectId) → marks_in (m c) ≤ marks_in (m' c)) → marks_in (m p) + 1 ≤ marks_in (m' p)
-    → IsTrue (is_one_of ids p) → total ids m + 1 ≤ total ids m'
-total_more [] m m' p k more h = cc
-total_more (x ∷ xs) m m' p k more h =
-    elim (one_of-cons_cases x xs p h) as (λ _. total (x ∷ xs) m + 1 ≤ total (x ∷ xs) m') [
-      | inl is ↦ let a : marks_in (m x) + 1 ≤ marks_in (m' x) = subst (λ z. marks_in (m z) + 1 ≤ marks_in (m' z)) is more in let b = total_no_less xs m m' k in omega arith
-      | inr r ↦ let a = k x in let b = total_more xs m m' p k more r in omega arith
-    ]
 
 -- what is hidden stays so
 pub hides-grown : (both : Bool) (a b : MarkSet) → HasMarksOf a b → IsTrue (hides both a) → IsTrue (hides both b)

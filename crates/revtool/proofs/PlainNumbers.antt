@@ -1,5 +1,5 @@
 -- A text that is a number is UTF-8, and begins with no plus.
-use Rattle.std.proofs.Common.{arith, eqb-true, refl, ◌≡◌, ◌≢◌, ℕ, zero, suc, Bool, true, false, List, [], ◌∷◌, length, ◌<◌, ◌==◌}
+use Rattle.std.proofs.Common.{arith, eqb-true, refl, ◌≡◌, ◌≢◌, ℕ, zero, suc, Bool, true, false, List, [], ◌∷◌, ◌<◌, ◌==◌}
 use Rattle.std.specs.Prelude.{drop, slice_index, if◌then◌else◌}
 use Rattle.std.specs.Str.{IsAscii, IsUtf8}
 use Rattle.std.specs.Str.Parse.{IsNumeral}

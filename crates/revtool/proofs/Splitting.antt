@@ -1,7 +1,6 @@
 -- A line and the first space in it.
 use Rattle.std.proofs.Common.{arith, ◌≡◌, ℕ, ◌+◌, ◌-◌, List, [], ◌∷◌, length, Some, None, ap, sym, ◌∙◌}
 use Rattle.std.specs.Prelude.{take, drop}
-use Rattle.std.specs.List.{slice_split}
 use Rattle.bstr.specs.Find.{IsFirstByte, is_byte}
 use Rattle.revtool.specs.Fields.{fields_of, is_space}
 use Rattle.std.proofs.lemmas.Bool.{false_from_ne_true}
