@@ -16,18 +16,6 @@ use Rattle.gix_merge_base.specs.Marks.{MarkSet, level}
 use Rattle.gix_resolve.specs.ReachSides.{hides}
 use Rattle.gix_resolve.specs.ReachWalk.{Tells, count_unhidden}
 
--- what changes at id alone, where that does not stand
-off_sum : (id : ObjectId) (f g : ObjectId → ℕ) → ((c : ObjectId) → same_id id c ≡ false → g c ≡ f c) → (q : List ObjectId) → times id q ≡ 0 → sum_by g q ≡ sum_by f q
-off_sum id f g e [] none = refl
-off_sum id f g e (x ∷ xs) none =
-    let a = sum_by-cons f x xs in
-    let b = sum_by-cons g x xs in
-    let t = sum_by-cons (λ y. level (same_id id y)) x xs in
-    elim (same_id id x) as (λ s. same_id id x ≡ s → sum_by g (x ∷ xs) ≡ sum_by f (x ∷ xs)) [
-      | true ↦ λ same. let lx : level (same_id id x) ≡ 1 = ap level same in absurd (omega arith)
-      | false ↦ λ apart. let lx : level (same_id id x) ≡ 0 = ap level apart in let i = off_sum id f g e xs (omega arith) in let fg = e x apart in omega arith
-    ] refl
-
 -- how often what stands nowhere stands
 pub times_some : (c : ObjectId) (q : List ObjectId) → 1 ≤ times c q → IsTrue (is_one_of q c)
 times_some c [] k = absurd (omega arith)
@@ -60,93 +48,120 @@ module _ (both : Bool) (m m' : ObjectId → MarkSet) (n n' : ObjectId → ℕ) (
   apart : (c : ObjectId) → same_id id c ≡ false → counted m' c ≡ counted m c
   apart c e = ap (λ z. level (not (hides both z))) (off c e)
 
-  -- it was not open
-  pub tells_pushed : (o : ℕ) → n id ≡ 0 → k ≡ 1 → IsPermutation (id ∷ q) q' → Tells both m n q o → Tells both m' n' q' (cond (hides both w) o (o + 1))
-  tells_pushed o none one perm tells = record {
-    unhidden =
-        let old = tells.unhidden in
-        let own = tells.times id in
-        let pushed = sum_by_pushed (counted m') id q q' perm in
-        let same = off_sum id (counted m) (counted m') apart q (omega arith) in
-        elim (hides both w) as (λ b. hides both w ≡ b → cond b o (o + 1) ≡ count_unhidden both m' q') [
-          | true ↦ λ e. let l : counted m' id ≡ 0 = ap (λ z. level (not (hides both z))) at_id ∙ ap (λ b. level (not b)) e in omega arith
-          | false ↦ λ e. let l : counted m' id ≡ 1 = ap (λ z. level (not (hides both z))) at_id ∙ ap (λ b. level (not b)) e in omega arith
-        ] refl;
-    times = λ c.
-        let pushed = sum_by_pushed (λ x. level (same_id c x)) id q q' perm in
-        let old = tells.times c in
-        elim (same_id id c) as (λ s. same_id id c ≡ s → n' c ≡ cond s k (n c) → n' c ≡ times c q') [
-          | true ↦ λ same is.
-              let eq = same_id-true id c same in
-              let at : n c ≡ n id = ap n (sym eq) in
-              let l : level (same_id c id) ≡ 1 = ap (λ z. level (same_id c z)) eq ∙ ap level (same_id-itself c) in
-              omega arith
-          | false ↦ λ differ is.
-              let l : level (same_id c id) ≡ 0 = ap level (same_id-sym c id ∙ differ) in
-              omega arith
-        ] refl (queued c);
-  }
-
-  -- it was open
-  pub tells_stays : (o : ℕ) → k ≡ n id → (IsTrue (hides both (m id)) → IsTrue (hides both w)) → Tells both m n q o → Tells both m' n' q (cond (hides both w) (cond (hides both (m id)) o (o - n id)) o)
-  tells_stays o same_k stays tells = record {
-    unhidden =
-        let old = tells.unhidden in
-        let own = tells.times id in
-        elim (hides both w) as (λ b. hides both w ≡ b → cond b (cond (hides both (m id)) o (o - n id)) o ≡ count_unhidden both m' q) [
-          | false ↦ λ now.
-              let was = before (hides both (m id)) now stays refl in
-              let same = same_sum (counted m) (counted m') (level_at 1 (ap (λ b. level (not b)) was) (ap (λ b. level (not b)) now)) q in
-              omega arith
-          | true ↦ λ now. elim (hides both (m id)) as (λ b. hides both (m id) ≡ b → cond b o (o - n id) ≡ count_unhidden both m' q) [
-            | true ↦ λ was. let same = same_sum (counted m) (counted m') (level_at 0 (ap (λ b. level (not b)) was) (ap (λ b. level (not b)) now)) q in omega arith
-            | false ↦ λ was.
-                let less = less_sum id (counted m) (counted m') (ap (λ b. level (not b)) was) (ap (λ z. level (not (hides both z))) at_id ∙ ap (λ b. level (not b)) now) apart q in
-                omega arith
-          ] refl
-        ] refl;
-    times = λ c. queued c ∙ elim (same_id id c) as (λ s. same_id id c ≡ s → cond s k (n c) ≡ n c) [
-      | true ↦ λ e. same_k ∙ ap n (same_id-true id c e)
+  -- the marks hide it
+  module _ (free : hides both (m id) ≡ false) (hidden : hides both w ≡ true) where
+    elsewhere : (c : ObjectId) → hides both (m' c) ≡ false → same_id id c ≡ false
+    elsewhere c shown = elim (same_id id c) as (λ s. same_id id c ≡ s → s ≡ false) [
+      | true ↦ λ e. absurd (true≢false (sym hidden ∙ sym (ap (hides both) (marks c ∙ ap (λ b. cond b w (m c)) e)) ∙ shown))
       | false ↦ λ e. refl
-    ] refl ∙ tells.times c;
-  }
-    where
-      before : (b : Bool) → hides both w ≡ false → (IsTrue (hides both (m id)) → IsTrue (hides both w)) → hides both (m id) ≡ b → hides both (m id) ≡ false
-      before true now stays e = absurd (true≢false (sym (stays e) ∙ now))
-      before false now stays e = e
+    ] refl
 
-      level_at : (l : ℕ) → counted m id ≡ l → level (not (hides both w)) ≡ l → (c : ObjectId) → counted m' c ≡ counted m c
-      level_at l a b c = elim (same_id id c) as (λ s. same_id id c ≡ s → counted m' c ≡ counted m c) [
-        | true ↦ λ e. subst (λ z. counted m' z ≡ counted m z) (same_id-true id c e) (ap (λ z. level (not (hides both z))) at_id ∙ b ∙ sym a)
-        | false ↦ λ e. apart c e
-      ] refl
+    pub tells_hidden : (o : ℕ) → IsPermutation (id ∷ q) q' ⊎ ((1 ≤ n id) × (q' ≡ q)) → Tells both m n q o → Tells both m' n' q' (o - n id)
+    tells_hidden o puts tells = record {
+      unhidden =
+          let old = tells.unhidden in
+          let own = tells.times id free in
+          let none : counted m' id ≡ 0 = ap (λ z. level (not (hides both z))) at_id ∙ ap (λ b. level (not b)) hidden in
+          let less = less_sum id (counted m) (counted m') (ap (λ b. level (not b)) free) none apart q in
+          elim puts as (λ _. o - n id ≡ count_unhidden both m' q') [
+            | inl perm ↦ let pushed = sum_by_pushed (counted m') id q q' perm in omega arith
+            | inr same ↦ let l : count_unhidden both m' q' ≡ count_unhidden both m' q = ap (count_unhidden both m') same.1 in omega arith
+          ];
+      times = λ c shown.
+          let differ = elsewhere c shown in
+          let had = tells.times c (sym (ap (hides both) (off c differ)) ∙ shown) in
+          let is : n' c ≡ n c = queued c ∙ ap (λ b. cond b k (n c)) differ in
+          elim puts as (λ _. n' c ≡ times c q') [
+            | inl perm ↦
+                let pushed = sum_by_pushed (λ x. level (same_id c x)) id q q' perm in
+                let l : level (same_id c id) ≡ 0 = ap level (same_id-sym c id ∙ differ) in
+                omega arith
+            | inr same ↦ is ∙ had ∙ sym (ap (times c) same.1)
+          ];
+    }
 
-  -- whichever it is
-  pub tells_entered : (o : ℕ) → ((n id ≡ 0) × (k ≡ 1) × IsPermutation (id ∷ q) q') ⊎ ((1 ≤ n id) × (k ≡ n id) × (q' ≡ q)) → (IsTrue (hides both (m id)) → IsTrue (hides both w)) → Tells both m n q o
-      → Tells both m' n' q' (cond (n id == 0) (cond (hides both w) o (o + 1)) (cond (hides both w) (cond (hides both (m id)) o (o - n id)) o))
-  tells_entered o (inl new) stays tells =
-      let test : (n id == 0) ≡ true = ap (λ z. z == 0) new.0 in
-      rw test (tells_pushed o new.0 new.1 new.2 tells)
-  tells_entered o (inr old) stays tells =
-      let test : (n id == 0) ≡ false = nonzero (n id) old.0 in
-      rw (test, old.2) (tells_stays o old.1 stays tells)
+  -- they do not
+  module _ (free : hides both (m id) ≡ false) (shown : hides both w ≡ false) where
+    level_at : (c : ObjectId) → counted m' c ≡ counted m c
+    level_at c = elim (same_id id c) as (λ s. same_id id c ≡ s → counted m' c ≡ counted m c) [
+      | true ↦ λ e. subst (λ z. counted m' z ≡ counted m z) (same_id-true id c e) (ap (λ z. level (not (hides both z))) at_id ∙ ap (λ b. level (not b)) (shown ∙ sym free))
+      | false ↦ λ e. apart c e
+    ] refl
 
--- one leaves
+    -- nor did those that it had
+    before : (c : ObjectId) → hides both (m' c) ≡ false → hides both (m c) ≡ false
+    before c now = elim (same_id id c) as (λ s. same_id id c ≡ s → hides both (m c) ≡ false) [
+      | true ↦ λ e. subst (λ z. hides both (m z) ≡ false) (same_id-true id c e) free
+      | false ↦ λ e. sym (ap (hides both) (off c e)) ∙ now
+    ] refl
+
+    pub tells_shown : (o : ℕ) → ((n id ≡ 0) × (k ≡ 1) × IsPermutation (id ∷ q) q') ⊎ ((1 ≤ n id) × (k ≡ n id) × (q' ≡ q)) → Tells both m n q o
+        → Tells both m' n' q' (cond (n id == 0) (o + 1) o)
+    tells_shown o (inl new) tells =
+        let test : (n id == 0) ≡ true = ap (λ z. z == 0) new.0 in
+        rw test (record {
+          unhidden =
+              let old = tells.unhidden in
+              let pushed = sum_by_pushed (counted m') id q q' new.2 in
+              let same = same_sum (counted m) (counted m') level_at q in
+              let l : counted m' id ≡ 1 = ap (λ z. level (not (hides both z))) at_id ∙ ap (λ b. level (not b)) shown in
+              omega arith;
+          times = λ c now.
+              let pushed = sum_by_pushed (λ x. level (same_id c x)) id q q' new.2 in
+              let had = tells.times c (before c now) in
+              let none = new.0 in
+              let one = new.1 in
+              elim (same_id id c) as (λ s. same_id id c ≡ s → n' c ≡ cond s k (n c) → n' c ≡ times c q') [
+                | true ↦ λ same is.
+                    let eq = same_id-true id c same in
+                    let at : n c ≡ n id = ap n (sym eq) in
+                    let l : level (same_id c id) ≡ 1 = ap (λ z. level (same_id c z)) eq ∙ ap level (same_id-itself c) in
+                    omega arith
+                | false ↦ λ differ is.
+                    let l : level (same_id c id) ≡ 0 = ap level (same_id-sym c id ∙ differ) in
+                    omega arith
+              ] refl (queued c);
+        })
+    tells_shown o (inr old) tells =
+        let test : (n id == 0) ≡ false = nonzero (n id) old.0 in
+        rw (test, old.2) (record {
+          unhidden = tells.unhidden ∙ sym (same_sum (counted m) (counted m') level_at q);
+          times = λ c now. queued c ∙ elim (same_id id c) as (λ s. same_id id c ≡ s → cond s k (n c) ≡ n c) [
+            | true ↦ λ e. old.1 ∙ ap n (same_id-true id c e)
+            | false ↦ λ e. refl
+          ] refl ∙ tells.times c (before c now);
+        })
+
+-- a hidden one leaves
+pub tells_left : (both : Bool) (m : ObjectId → MarkSet) (n : ObjectId → ℕ) (q q' : List ObjectId) (id : ObjectId) (o : ℕ) → hides both (m id) ≡ true → IsPermutation q (id ∷ q') → Tells both m n q o → Tells both m n q' o
+tells_left both m n q q' id o hidden perm tells = record {
+  unhidden =
+      let old = tells.unhidden in
+      let gone = sum_by_popped (λ x. level (not (hides both (m x)))) id q q' perm in
+      let l : level (not (hides both (m id))) ≡ 0 = ap (λ z. level (not z)) hidden in
+      omega arith;
+  times = λ c shown.
+      let left = sum_by_popped (λ x. level (same_id c x)) id q q' perm in
+      let had = tells.times c shown in
+      elim (same_id c id) as (λ s. same_id c id ≡ s → n c ≡ times c q') [
+        | true ↦ λ e. absurd (true≢false (sym hidden ∙ ap (λ z. hides both (m z)) (sym (same_id-true c id e)) ∙ shown))
+        | false ↦ λ e. let none : level (same_id c id) ≡ 0 = ap level e in omega arith
+      ] refl;
+}
+
+-- one that is not leaves
 pub tells_popped : (both : Bool) (m m' : ObjectId → MarkSet) (n n' : ObjectId → ℕ) (q q' : List ObjectId) (id : ObjectId) (o : ℕ)
-    → ((c : ObjectId) → m' c ≡ m c) → ((c : ObjectId) → n' c ≡ cond (same_id id c) (n id - 1) (n c)) → IsPermutation q (id ∷ q')
-    → Tells both m n q o → Tells both m' n' q' (cond (hides both (m id)) o (o - 1))
-tells_popped both m m' n n' q q' id o marks queued perm tells =
+    → ((c : ObjectId) → m' c ≡ m c) → ((c : ObjectId) → n' c ≡ cond (same_id id c) (n id - 1) (n c)) → hides both (m id) ≡ false → IsPermutation q (id ∷ q')
+    → Tells both m n q o → Tells both m' n' q' (o - 1)
+tells_popped both m m' n n' q q' id o marks queued free perm tells =
     let old = tells.unhidden in
     let gone = sum_by_popped (λ x. level (not (hides both (m x)))) id q q' perm in
     let same = same_sum (λ x. level (not (hides both (m x)))) (λ x. level (not (hides both (m' x)))) (λ c. ap (λ (z : MarkSet). level (not (hides both z))) (marks c)) q' in
     record {
-      unhidden = elim (hides both (m id)) as (λ b. hides both (m id) ≡ b → cond b o (o - 1) ≡ count_unhidden both m' q') [
-        | true ↦ λ e. let l : level (not (hides both (m id))) ≡ 0 = ap (λ z. level (not z)) e in omega arith
-        | false ↦ λ e. let l : level (not (hides both (m id))) ≡ 1 = ap (λ z. level (not z)) e in omega arith
-      ] refl;
-      times = λ c.
+      unhidden = let l : level (not (hides both (m id))) ≡ 1 = ap (λ z. level (not z)) free in omega arith;
+      times = λ c shown.
           let left = sum_by_popped (λ x. level (same_id c x)) id q q' perm in
-          let had = tells.times c in
+          let had = tells.times c (sym (ap (hides both) (marks c)) ∙ shown) in
           elim (same_id id c) as (λ s. same_id id c ≡ s → n' c ≡ cond s (n id - 1) (n c) → n' c ≡ times c q') [
             | true ↦ λ e is.
                 let eq = same_id-true id c e in
@@ -163,7 +178,7 @@ tells_popped both m m' n n' q q' id o marks queued perm tells =
 pub tells_same : (both : Bool) (m m' : ObjectId → MarkSet) (n n' : ObjectId → ℕ) (q q' : List ObjectId) (o : ℕ) → ((c : ObjectId) → m' c ≡ m c) → ((c : ObjectId) → n' c ≡ n c) → q' ≡ q → Tells both m n q o → Tells both m' n' q' o
 tells_same both m m' n n' q q' o marks queued is tells = rw is record {
   unhidden = tells.unhidden ∙ sym (same_sum (λ x. level (not (hides both (m x)))) (λ x. level (not (hides both (m' x)))) (λ c. ap (λ (z : MarkSet). level (not (hides both z))) (marks c)) q);
-  times = λ c. queued c ∙ tells.times c;
+  times = λ c shown. queued c ∙ tells.times c (sym (ap (hides both) (marks c)) ∙ shown);
 }
 
 -- where nothing that is open can be shown
@@ -182,4 +197,4 @@ all_hidden both m (x ∷ xs) none c k =
 
 -- none is open, and none is counted
 pub tells_none : (both : Bool) (m : ObjectId → MarkSet) (n : ObjectId → ℕ) → ((c : ObjectId) → n c ≡ 0) → Tells both m n [] 0
-tells_none both m n none = record { unhidden = refl; times = none }
+tells_none both m n none = record { unhidden = refl; times = λ c shown. none c }

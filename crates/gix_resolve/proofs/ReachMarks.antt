@@ -1,5 +1,5 @@
 -- What a walk has marked is what it has met, over the steps of the walk.
-use Rattle.std.proofs.Common.{inl, inr, ◌≡◌, true, false, cond, refl, ap, sym, subst, ◌∙◌, List, [], ◌∷◌, ◌++◌, ◌||◌, ◌<◌, is_some, Option, Some, IsTrue, Bool, true≢false}
+use Rattle.std.proofs.Common.{inl, inr, ◌≡◌, true, false, cond, refl, ap, sym, subst, ◌∙◌, List, [], ◌∷◌, ◌++◌, ◌||◌, ◌<◌, is_some, not, Option, Some, IsTrue, Bool, true≢false}
 use Rattle.std.specs.List.{AllByRecursion, IsDistinct}
 use Rattle.std.proofs.lemmas.Map.Keys.{IsDistinct-head, IsDistinct-tail, IsDistinct-cons}
 use Rattle.gix_base.specs.declared.hash.ObjectId.{ObjectId}
@@ -38,6 +38,10 @@ distinct-push (x ∷ xs) id once new =
     IsDistinct-cons same_id x (xs ++ id ∷ [])
     (all-push (λ y. same_id x y ≡ false) xs id (IsDistinct-head same_id x xs once) (same_id-sym x id ∙ parts.0))
     (distinct-push xs id (IsDistinct-tail same_id x xs once) parts.1)
+
+pub turned : (a b : Bool) → b ≡ not a → a ≡ not b
+turned true b e = sym (ap not e)
+turned false b e = sym (ap not e)
 
 module _ {S A : Type 0} (both : Bool) (m n : Graphed S (Commit Flags A)) (ns : List Number) (x : Number) (w : Mark Flags) (lt : place_in x < held_len m) (at : AreMet both m ns) (given : Marks m (place_in x) w n) where
   abbrev id : ObjectId
@@ -102,6 +106,11 @@ module _ {S A : Type 0} (both : Bool) (m n : Graphed S (Commit Flags A)) (ns : L
         ] refl);
         once = subst (IsDistinct same_id) (sym same.1) at.once;
       }
+
+  -- whichever it is, of a commit that was not hidden
+  pub marked-given : (b : Bool) → b ≡ not (is_some (mark_at m id)) → hides both (marks_at m id) ≡ false → AreMet both n (cond b (ns ++ x ∷ []) ns)
+  marked-given true test free = marked-push (turned (is_some (mark_at m id)) true test)
+  marked-given false test free = marked-again (λ _. (turned (is_some (mark_at m id)) false test, free))
 
 -- what was met stays so where more is held that no walk has marked
 pub marked-grown : {S A : Type 0} (both : Bool) (m n : Graphed S (Commit Flags A)) (ns : List Number) → Grows m n → ((q : ObjectId) → mark_at n q ≡ mark_at m q) → AreMet both m ns → AreMet both n ns

@@ -1,5 +1,5 @@
 -- An open commit leaves: what the walk keeps stays right. And where a walk begins.
-use Rattle.std.proofs.Common.{true≢false, ◌⊎◌, ◌≡◌, ℕ, Bool, true, cond, refl, ap, sym, subst, ◌∙◌, List, [], ◌∷◌, inl, inr, IsTrue, ◌<◌, ◌≤◌, ◌-◌, min, is_some, Option, Some, None, arith}
+use Rattle.std.proofs.Common.{true≢false, ◌⊎◌, ◌≡◌, ℕ, Bool, true, false, cond, refl, ap, sym, subst, ◌∙◌, List, [], ◌∷◌, inl, inr, IsTrue, ◌<◌, ◌≤◌, ◌-◌, min, is_some, Option, Some, None, arith}
 use Rattle.std.specs.Option.{unwrap_or}
 use Rattle.std.specs.List.{AllByRecursion}
 use Rattle.std.specs.List.Sorted.{IsPermutation}
@@ -21,7 +21,7 @@ use Rattle.gix_merge_base.proofs.Numbered.{held-permutation, ids-popped, same-ma
 use Rattle.gix_resolve.specs.ReachSides.{hides, IsOver}
 use Rattle.gix_resolve.specs.ReachWalk.{AreMet, AreKeyed, IsRight}
 use Rattle.gix_resolve.specs.declared.reach.walk.Walk.{Walk}
-use Rattle.gix_resolve.proofs.ReachCounts.{tells_popped, tells_none, all_hidden}
+use Rattle.gix_resolve.proofs.ReachCounts.{tells_left, tells_popped, tells_none, all_hidden}
 use Rattle.gix_resolve.proofs.ReachEnter.{keyed-same, held-same}
 use Rattle.gix_resolve.proofs.ReachMarks.{marked-again}
 
@@ -58,7 +58,20 @@ module _ {S A B : Type 0} (h : History) (old : Graphed S (Commit Flags A)) (gene
   pub popped_key : generation ≡ generation_of h (id_at old (place_in number))
   popped_key = (held-permutation (λ p. p.0 ≡ generation_of h (id_at old (place_in p.1))) walk.front ((generation, number) ∷ rest) taken right.keyed).0
 
-  module _ (new : Graphed S (Commit Flags A)) (a : Mark Flags) (k : ℕ) (had : a ≡ mark_or old (id_at old (place_in number))) (given : Marks old (place_in number) (record { marks = a.marks; queued = k }) new) where
+  -- a hidden one leaves
+  pub left_queue : IsPermutation (queued_ids old walk.front) (id_at old (place_in number) ∷ queued_ids old rest)
+  left_queue = ids-popped old old refl generation number walk.front rest taken
+
+  pub right_left : hides walk.both (marks_at old (id_at old (place_in number))) ≡ true → (next : Walk B) → next.both ≡ walk.both → next.met.items ≡ walk.met.items → next.front ≡ rest → next.unhidden ≡ walk.unhidden → IsRight h old next
+  right_left hidden next same_both met front count = record {
+    met = subst (λ b. AreMet b old next.met.items) (sym same_both) (subst (AreMet walk.both old) (sym met) right.met);
+    held = subst (AreHeld old) (sym front) (held-permutation (λ p. place_in p.1 < held_len old) walk.front ((generation, number) ∷ rest) taken right.held).1;
+    keyed = subst (AreKeyed h old) (sym front) (held-permutation (λ p. p.0 ≡ generation_of h (id_at old (place_in p.1))) walk.front ((generation, number) ∷ rest) taken right.keyed).1;
+    tells = rw (same_both, count, front) (tells_left walk.both (marks_at old) (queued_at old) (queued_ids old walk.front) (queued_ids old rest) (id_at old (place_in number)) walk.unhidden hidden left_queue right.tells);
+  }
+
+  -- one leaves that is not hidden
+  module _ (new : Graphed S (Commit Flags A)) (a : Mark Flags) (k : ℕ) (had : a ≡ mark_or old (id_at old (place_in number))) (free : hides walk.both (marks_at old (id_at old (place_in number))) ≡ false) (given : Marks old (place_in number) (record { marks = a.marks; queued = k }) new) where
     pub popped_marks : (c : ObjectId) → marks_at new c ≡ marks_at old c
     popped_marks = same-marks (marks_at old) (marks_at new) (id_at old (place_in number)) (marks_of a.marks) (ap (λ (z : Mark Flags). marks_of z.marks) had) (given-marks old new (place_in number) (record { marks = a.marks; queued = k }) popped_inside given)
 
@@ -70,19 +83,19 @@ module _ {S A B : Type 0} (h : History) (old : Graphed S (Commit Flags A)) (gene
         let id = id_at old (place_in number) in
         let gone = sum_by_popped (λ x. level (same_id id x)) id (queued_ids old walk.front) (queued_ids new rest) popped_queue in
         let one : level (same_id id id) ≡ 1 = ap level (same_id-itself id) in
-        let tells = right.tells.times id in
+        let tells = right.tells.times id free in
         marked-again walk.both old new walk.met.items number (record { marks = a.marks; queued = k }) popped_inside right.met given
-        (λ hid. (queued-marked (mark_at old id) (omega arith), ap (λ (z : Mark Flags). hides walk.both (marks_of z.marks)) (sym had) ∙ hid))
+        (λ shown. (queued-marked (mark_at old id) (omega arith), free))
 
-    pub right_popped : k ≡ a.queued - 1 → (next : Walk B) → next.both ≡ walk.both → next.met.items ≡ walk.met.items → next.front ≡ rest → next.unhidden ≡ cond (hides walk.both (marks_of a.marks)) walk.unhidden (walk.unhidden - 1) → IsRight h new next
+    pub right_popped : k ≡ a.queued - 1 → (next : Walk B) → next.both ≡ walk.both → next.met.items ≡ walk.met.items → next.front ≡ rest → next.unhidden ≡ walk.unhidden - 1 → IsRight h new next
     right_popped less next same_both met front count = record {
       met = subst (λ b. AreMet b new next.met.items) (sym same_both) (subst (AreMet walk.both new) (sym met) popped_met);
       held = held-same old new given.ids next.front (subst (AreHeld old) (sym front) (held-permutation (λ p. place_in p.1 < held_len old) walk.front ((generation, number) ∷ rest) taken right.held).1);
       keyed = keyed-same h old new given.ids next.front (subst (AreKeyed h old) (sym front) (held-permutation (λ p. p.0 ≡ generation_of h (id_at old (place_in p.1))) walk.front ((generation, number) ∷ rest) taken right.keyed).1);
-      tells = rw (same_both, count, front, ap (λ (z : Mark Flags). marks_of z.marks) had)
+      tells = rw (same_both, count, front)
           (tells_popped walk.both (marks_at old) (marks_at new) (queued_at old) (queued_at new) (queued_ids old walk.front) (queued_ids new rest) (id_at old (place_in number)) walk.unhidden popped_marks
           (λ c. given-queued old new (place_in number) (record { marks = a.marks; queued = k }) popped_inside given c ∙ ap (λ z. cond (same_id (id_at old (place_in number)) c) z (queued_at old c)) (less ∙ ap (λ (z : Mark Flags). z.queued - 1) had))
-          popped_queue right.tells);
+          free popped_queue right.tells);
     }
 
 -- where nothing is marked

@@ -1,5 +1,5 @@
 -- A walk from two sides, over the numbers of a graph.
-use Rattle.std.specs.Prelude.{◌≡◌, ◌≤◌, ℕ, Bool, List, IsTrue, is_some, not, true, false, length, ◌==◌, ◌+◌, ◌-◌, cond, ◌∷◌, ◌⊎◌}
+use Rattle.std.specs.Prelude.{◌≡◌, ◌≤◌, ℕ, Bool, List, IsTrue, is_some, not, true, false, length, ◌+◌, cond, ◌∷◌, ◌⊎◌}
 use Rattle.std.specs.List.{IsDistinct, AllByRecursion, sum_by}
 use Rattle.std.specs.List.Sorted.{IsPermutation}
 use Rattle.gix_base.specs.declared.hash.ObjectId.{ObjectId}
@@ -8,10 +8,9 @@ use Rattle.gix_revwalk.specs.Graph.{Graphed}
 use Rattle.gix_revwalk.specs.Data.{mark_at}
 use Rattle.gix_revwalk.specs.Number.{place_in}
 use Rattle.gix_revwalk.specs.declared.graph.commit.Commit.{Commit}
-use Rattle.gix_revwalk.specs.declared.numbers.Mark.{Mark}
 use Rattle.gix_revwalk.specs.declared.numbers.Number.{Number}
 use Rattle.gix_merge_base.specs.Counting.{times}
-use Rattle.gix_merge_base.specs.Marks.{MarkSet, marks_of, level, joined}
+use Rattle.gix_merge_base.specs.Marks.{MarkSet, level, joined}
 use Rattle.gix_merge_base.specs.PaintQueue.{id_at, ids_at, AreIn, AreHeld, marks_at, queued_at, queued_ids}
 use Rattle.gix_merge_base.specs.declared.merge_base.flags.Flags.{Flags}
 use Rattle.gix_resolve.specs.ReachSides.{hides}
@@ -33,22 +32,19 @@ AreKeyed h g ps = AllByRecursion (λ p. p.0 ≡ generation_of h (id_at g (place_
 abbrev pub count_unhidden : Bool → (ObjectId → MarkSet) → List ObjectId → ℕ
 count_unhidden both m q = sum_by (λ x. level (not (hides both (m x)))) q
 
--- n is how often each commit stands in q, and k how many are of one that is not hidden
+-- n is how often each commit that is not hidden stands in q, and k how many are of such a one
 pub record Tells (both : Bool) (m : ObjectId → MarkSet) (n : ObjectId → ℕ) (q : List ObjectId) (k : ℕ) : Type 0 where
   pub unhidden : k ≡ count_unhidden both m q
-  pub times : (c : ObjectId) → n c ≡ times c q
-
--- the count once a commit that had `a` has the marks w and is open
-abbrev pub unhidden_then : Bool → ℕ → Mark Flags → Flags → ℕ
-unhidden_then both k a w =
-    cond (a.queued == 0)
-    (cond (hides both (marks_of w)) k (k + 1))
-    (cond (hides both (marks_of w)) (cond (hides both (marks_of a.marks)) k (k - a.queued)) k)
+  pub times : (c : ObjectId) → hides both (m c) ≡ false → n c ≡ times c q
 
 -- the number was put among ps under its key, unless it stood there n times
 abbrev pub Opens : ℕ → ℕ → Number → (ps rs : List (ℕ × Number)) → Type 0
 Opens n key number ps rs =
     ((n ≡ 0) × IsPermutation ((key, number) ∷ ps) rs) ⊎ ((1 ≤ n) × (rs ≡ ps))
+
+-- the number was put among ps under its key, or stood there, n times
+abbrev pub Reopens : ℕ → ℕ → Number → (ps rs : List (ℕ × Number)) → Type 0
+Reopens n key number ps rs = IsPermutation ((key, number) ∷ ps) rs ⊎ ((1 ≤ n) × (rs ≡ ps))
 
 -- what a walk keeps beside the marks of its graph is right
 pub record IsRight {S A B : Type 0} (h : History) (g : Graphed S (Commit Flags A)) (w : Walk B) : Type 0 where

@@ -1,18 +1,19 @@
 //! Handing marks from commit to commit.
 
-ghost use Rattle.std.specs.Prelude.{◌≡◌, ◌<◌, ◌∷◌, [], OnOk, IfOk, IsTrue, not, is_some, ◌&&◌};
+ghost use Rattle.std.specs.Prelude.{◌≡◌, ◌==◌, ◌<◌, ◌+◌, ◌∷◌, ◌++◌, [], OnOk, IfOk, IsTrue, not, is_some, cond, false};
+ghost use Rattle.std.specs.Option.{unwrap_or};
 ghost use Rattle.gix_base.specs.declared.hash.ObjectId.{ObjectId};
-ghost use Rattle.gix_revwalk.specs.Data.{Marks, mark_at};
+ghost use Rattle.gix_revwalk.specs.Data.{mark_at};
 ghost use Rattle.gix_revwalk.specs.Faults.{is_source_fault};
 ghost use Rattle.gix_revwalk.specs.Graph.{held_len, held_ids};
 ghost use Rattle.gix_revwalk.specs.GraphAfter.{GraphAfter};
 ghost use Rattle.gix_revwalk.specs.History.{Has, entry_at, parents_in, generation_of, is_one_of};
 ghost use Rattle.gix_revwalk.specs.Number.{place_in};
 ghost use Rattle.gix_revwalk.specs.Walks.{HoldsMore};
-ghost use Rattle.gix_merge_base.specs.Marks.{marks_of};
-ghost use Rattle.gix_merge_base.specs.PaintQueue.{id_at, ids_at, AreIn, marks_at, queued_ids, mark_or};
+ghost use Rattle.gix_merge_base.specs.Marks.{marks_of, joined as joined_marks};
+ghost use Rattle.gix_merge_base.specs.PaintQueue.{id_at, ids_at, AreIn, marks_at, queued_ids, mark_or, no_mark};
 ghost use Rattle.gix_resolve.specs.ReachSides.{hides, Gives};
-ghost use Rattle.gix_resolve.specs.ReachWalk.{AreMet, IsRight, SameSides, Opens, Enters, unhidden_then};
+ghost use Rattle.gix_resolve.specs.ReachWalk.{IsRight, SameSides, Opens, Reopens, Enters};
 
 use crate::reach::front::Front;
 use crate::reach::sides::{is_full, is_hidden, joined};
@@ -23,6 +24,19 @@ use gix_revision::merge_base::Flags;
 use gix_revwalk::numbers::{self, Mark, Number};
 use std::alloc::{AllocError, Allocator};
 
+/// A mark; none where there is none.
+fn mark_in(known: Option<Mark<Flags>>) -> Mark<Flags>
+    ensures { result ≡ unwrap_or known no_mark }
+{
+    match known {
+        Some(mark) => mark,
+        None => Mark {
+            marks: Flags::empty(),
+            queued: 0,
+        },
+    }
+}
+
 /// What the walk gave a commit; no marks where it gave it nothing.
 pub(crate) fn mark_of<S: Find, A: Allocator + Copy>(
     graph: &Graph<S, Commit<Flags, A>, A>,
@@ -31,13 +45,7 @@ pub(crate) fn mark_of<S: Find, A: Allocator + Copy>(
     requires { place_in number < held_len graph.now }
     ensures { result ≡ mark_or graph.now (id_at graph.now (place_in number)) }
 {
-    match numbers::mark_of(graph, number) {
-        Some(mark) => mark,
-        None => Mark {
-            marks: Flags::empty(),
-            queued: 0,
-        },
-    }
+    mark_in(numbers::mark_of(graph, number))
 }
 
 /// The generation of a commit; an absent one counts as the greatest.
@@ -53,8 +61,27 @@ fn generation_at<S: Find, A: Allocator + Copy>(
         .unwrap_or(u32::MAX)
 }
 
-/// Puts a commit among the open ones, unless it is open.
-fn open_one<S: Find, A: Allocator + Copy>(
+/// Puts a commit that is hidden among the open ones. Where generations do not tell them apart it stands there
+/// again, before those that are not hidden.
+fn open_hidden<S: Find, A: Allocator + Copy>(
+    number: Number,
+    queued: u32,
+    front: &mut Front<A>,
+    graph: &Graph<S, Commit<Flags, A>, A>,
+) -> Result<(), AllocError>
+    requires { place_in number < held_len graph.now }
+    ensures { OnOk result (Reopens queued
+        (generation_of (S.history graph.now.source) (id_at graph.now (place_in number))) number front.old front.new) }
+{
+    let generation = generation_at(graph, number);
+    if queued != 0 && generation != u32::MAX {
+        return Ok(());
+    }
+    front.insert(true, generation, number)
+}
+
+/// Puts a commit that is not hidden among the open ones, unless it is open.
+fn open_shown<S: Find, A: Allocator + Copy>(
     number: Number,
     queued: u32,
     front: &mut Front<A>,
@@ -67,80 +94,41 @@ fn open_one<S: Find, A: Allocator + Copy>(
     if queued != 0 {
         return Ok(());
     }
-    front.insert(generation_at(graph, number), number)
+    front.insert(false, generation_at(graph, number), number)
 }
 
-/// How many of the open ones are not hidden, once a commit that had `old` has the marks `new` and
-/// is open.
-fn unhidden_after(
-    both: bool,
-    unhidden: usize,
-    old: Mark<Flags>,
-    new: Flags,
-) -> Result<usize, AllocError>
-    ensures { IfOk result (λ k. k ≡ unhidden_then both unhidden old new) }
+/// How many of the open ones are not hidden, once one that is not, and stood among them so often, is open.
+fn unhidden_with(unhidden: usize, queued: u32) -> Result<usize, AllocError>
+    ensures { IfOk result (λ k. k ≡ cond (queued == 0) (unhidden + 1) unhidden) }
 {
-    if old.queued == 0 {
-        if is_hidden(both, new) {
-            return Ok(unhidden);
-        }
-        // The count is full only where memory is.
-        match unhidden.checked_add(1) {
-            Some(more) => Ok(more),
-            None => Err(AllocError),
-        }
-    } else if is_hidden(both, new) && !is_hidden(both, old.marks) {
-        Ok(unhidden.saturating_sub(old.queued as usize))
-    } else {
-        Ok(unhidden)
+    if queued != 0 {
+        return Ok(unhidden);
+    }
+    // The count is full only where memory is.
+    match unhidden.checked_add(1) {
+        Some(more) => Ok(more),
+        None => Err(AllocError),
     }
 }
 
-/// Whether the walk has not marked a commit.
-fn is_unmarked<S: Find, A: Allocator + Copy>(
-    graph: &Graph<S, Commit<Flags, A>, A>,
+/// Puts a commit among those that are met, where it had no mark.
+fn meet<A: Allocator>(
+    unmarked: bool,
     number: Number,
-) -> bool
-    requires { place_in number < held_len graph.now }
-    ensures { result ≡ not (is_some (mark_at graph.now (id_at graph.now (place_in number)))) }
-{
-    numbers::mark_of(graph, number).is_none()
-}
-
-/// Whether a commit is met now: it had no mark, and is not hidden by its first.
-fn is_met(unmarked: bool, hidden: bool) -> bool
-    ensures { result ≡ (unmarked && not hidden) }
-{
-    unmarked && !hidden
-}
-
-/// Marks a commit. It is met where it had no mark, unless it is hidden at once: then it is never
-/// wanted.
-fn give<S: Find, A: Allocator + Copy>(
-    both: bool,
-    number: Number,
-    mark: Mark<Flags>,
     met: &mut Vec<Number, A>,
-    graph: &mut Graph<S, Commit<Flags, A>, A>,
 ) -> Result<(), AllocError>
-    requires number { place_in number < held_len graph.old }
-    requires met { AreMet both graph.old met.old.items }
-    requires grown { IsTrue (hides both (marks_at graph.old (id_at graph.old (place_in number))))
-        → IsTrue (hides both (marks_of mark.marks)) }
-    ensures given { OnOk result (Marks graph.old (place_in number) mark graph.new) }
-    ensures met { OnOk result (AreMet both graph.new met.new.items) }
-    ensures ids { held_ids graph.new ≡ held_ids graph.old }
-    ensures source { graph.new.source ≡ graph.old.source }
+    ensures { OnOk result (met.new.items
+        ≡ cond unmarked (met.old.items ++ number ∷ []) met.old.items) }
 {
-    if is_met(is_unmarked(graph, number), is_hidden(both, mark.marks)) {
-        met.push(number)?;
+    if !unmarked {
+        return Ok(());
     }
-    numbers::set_mark(graph, number, mark);
+    met.push(number)?;
     Ok(())
 }
 
-/// Puts marks beside those that a commit has, which lacks one of them, and opens it.
-fn enter<S: Find, A: Allocator + Copy>(
+/// Puts marks beside those of a commit that was not hidden and is so then, and opens it.
+fn hide<S: Find, A: Allocator + Copy>(
     number: Number,
     old: Mark<Flags>,
     marks: Flags,
@@ -149,6 +137,8 @@ fn enter<S: Find, A: Allocator + Copy>(
 ) -> Result<(), AllocError>
     requires number { place_in number < held_len graph.old }
     requires had { old ≡ mark_or graph.old (id_at graph.old (place_in number)) }
+    requires shown { hides walk.old.both (marks_of old.marks) ≡ false }
+    requires hidden { IsTrue (hides walk.old.both (joined_marks (marks_of marks) (marks_of old.marks))) }
     requires right { IsRight (S.history graph.old.source) graph.old walk.old }
     ensures right { OnOk result (IsRight (S.history graph.old.source) graph.new walk.new) }
     ensures entered { OnOk result (Enters (marks_of marks) (id_at graph.old (place_in number))
@@ -159,16 +149,42 @@ fn enter<S: Find, A: Allocator + Copy>(
     ensures source { graph.new.source ≡ graph.old.source }
 {
     let new = joined(marks, old.marks);
-    open_one(number, old.queued, &mut walk.front, graph)?;
-    walk.unhidden = unhidden_after(walk.both, walk.unhidden, old, new)?;
+    open_hidden(number, old.queued, &mut walk.front, graph)?;
+    walk.unhidden = walk.unhidden.saturating_sub(old.queued as usize);
+    let queued = old.queued;
+    numbers::set_mark(graph, number, Mark { marks: new, queued });
+    Ok(())
+}
+
+/// Puts marks beside those of a commit that is not hidden then, and opens it. It is met where it had no mark.
+fn show<S: Find, A: Allocator + Copy>(
+    number: Number,
+    unmarked: bool,
+    old: Mark<Flags>,
+    marks: Flags,
+    walk: &mut Walk<A>,
+    graph: &mut Graph<S, Commit<Flags, A>, A>,
+) -> Result<(), AllocError>
+    requires number { place_in number < held_len graph.old }
+    requires had { old ≡ mark_or graph.old (id_at graph.old (place_in number)) }
+    requires unmarked { unmarked ≡ not (is_some (mark_at graph.old (id_at graph.old (place_in number)))) }
+    requires before { hides walk.old.both (marks_of old.marks) ≡ false }
+    requires shown { hides walk.old.both (joined_marks (marks_of marks) (marks_of old.marks)) ≡ false }
+    requires right { IsRight (S.history graph.old.source) graph.old walk.old }
+    ensures right { OnOk result (IsRight (S.history graph.old.source) graph.new walk.new) }
+    ensures entered { OnOk result (Enters (marks_of marks) (id_at graph.old (place_in number))
+        (marks_at graph.old) (queued_ids graph.old walk.old.front)
+        (marks_at graph.new) (queued_ids graph.new walk.new.front)) }
+    ensures sides { SameSides walk.old walk.new }
+    ensures ids { held_ids graph.new ≡ held_ids graph.old }
+    ensures source { graph.new.source ≡ graph.old.source }
+{
+    let new = joined(marks, old.marks);
+    open_shown(number, old.queued, &mut walk.front, graph)?;
+    walk.unhidden = unhidden_with(walk.unhidden, old.queued)?;
+    meet(unmarked, number, &mut walk.met)?;
     let queued = old.queued.max(1);
-    give(
-        walk.both,
-        number,
-        Mark { marks: new, queued },
-        &mut walk.met,
-        graph,
-    )?;
+    numbers::set_mark(graph, number, Mark { marks: new, queued });
     Ok(())
 }
 
@@ -191,11 +207,16 @@ pub(crate) fn hand<S: Find, A: Allocator + Copy>(
     ensures ids { held_ids graph.new ≡ held_ids graph.old }
     ensures source { graph.new.source ≡ graph.old.source }
 {
-    let old = mark_of(graph, number);
+    let known = numbers::mark_of(graph, number);
+    let old = mark_in(known);
     if is_full(walk.both, old.marks, marks) {
         return Ok(());
     }
-    enter(number, old, marks, walk, graph)?;
+    if is_hidden(walk.both, joined(marks, old.marks)) {
+        hide(number, old, marks, walk, graph)?;
+        return Ok(());
+    }
+    show(number, known.is_none(), old, marks, walk, graph)?;
     Ok(())
 }
 

@@ -5,7 +5,7 @@
 //! can be wanted and each of them has a smaller generation than what was taken and could be: nothing
 //! that is wanted lies below them, if no generation rises from child to parent.
 
-ghost use Rattle.std.specs.Prelude.{◌≡◌, ◌<◌, ◌-◌, ◌∷◌, ◌++◌, [], cond, min, OnOk, IfOk, IsNone, IsSome, IfSome};
+ghost use Rattle.std.specs.Prelude.{◌≡◌, ◌<◌, ◌∷◌, ◌++◌, [], OnOk, IfOk, IsNone, IsSome, IfSome};
 ghost use Rattle.gix_base.specs.declared.hash.ObjectId.{ObjectId};
 ghost use Rattle.gix_revwalk.specs.Faults.{is_source_fault};
 ghost use Rattle.gix_revwalk.specs.Graph.{held_len, held_ids};
@@ -15,7 +15,7 @@ ghost use Rattle.gix_revwalk.specs.Number.{place_in};
 ghost use Rattle.gix_revwalk.specs.Walks.{HoldsMore};
 ghost use Rattle.gix_merge_base.specs.Marks.{marks_of};
 ghost use Rattle.gix_merge_base.specs.PaintQueue.{id_at, marks_at, queued_ids};
-ghost use Rattle.gix_resolve.specs.ReachSides.{hides, Gives, Walked, IsOver, Takes, Sees};
+ghost use Rattle.gix_resolve.specs.ReachSides.{Gives, Walked, IsOver, Takes, Sees};
 ghost use Rattle.gix_resolve.specs.ReachWalk.{AreMet, IsRight, SameSides};
 ghost use Rattle.gix_resolve.specs.Taken.{TakesOnly};
 
@@ -99,8 +99,7 @@ fn begin_all<S: Find, A: Allocator + Copy>(
     Ok(())
 }
 
-/// Begins a walk from two sides, the second one last: where no generations are known that one is
-/// followed first.
+/// Begins a walk from two sides.
 fn start<S: Find, A: Allocator + Copy>(
     alloc: A,
     first: &[ObjectId],
@@ -127,29 +126,6 @@ fn start<S: Find, A: Allocator + Copy>(
     begin_all(alloc, first, Flags::COMMIT1, &mut walk, graph)?;
     begin_all(alloc, second, Flags::COMMIT2, &mut walk, graph)?;
     Ok(walk)
-}
-
-/// How many of the open ones are not hidden, once one with these marks has left.
-fn unhidden_without(both: bool, unhidden: usize, marks: Flags) -> usize
-    ensures { result ≡ cond (hides both (marks_of marks)) unhidden (unhidden - 1) }
-{
-    if is_hidden(both, marks) {
-        unhidden
-    } else {
-        unhidden.saturating_sub(1)
-    }
-}
-
-/// The least generation of those that were taken while they were not hidden, once one with these
-/// marks is taken.
-fn least_with(both: bool, least: u64, marks: Flags, generation: u64) -> u64
-    ensures { result ≡ cond (hides both (marks_of marks)) least (min least generation) }
-{
-    if is_hidden(both, marks) {
-        least
-    } else {
-        least.min(generation)
-    }
 }
 
 /// Takes an open commit of a greatest generation, with its marks; `None` where the walk is over.
@@ -180,8 +156,11 @@ fn next<S: Find, A: Allocator + Copy>(
         return None;
     }
     let old = mark_of(graph, number);
-    walk.unhidden = unhidden_without(walk.both, walk.unhidden, old.marks);
-    walk.least = least_with(walk.both, walk.least, old.marks, generation);
+    if is_hidden(walk.both, old.marks) {
+        return Some((number, old.marks));
+    }
+    walk.unhidden = walk.unhidden.saturating_sub(1);
+    walk.least = walk.least.min(generation);
     let queued = old.queued.saturating_sub(1);
     numbers::set_mark(
         graph,
