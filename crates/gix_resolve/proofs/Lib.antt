@@ -33,6 +33,7 @@ pub mod ReachEnter
 pub mod ReachNext
 pub mod ReachSteps
 pub mod ReachShown
+pub mod ReachNewest
 pub mod ReachCounted
 pub mod ReachTaken
 pub mod Newest

@@ -1,5 +1,5 @@
 -- What a walk has marked is what it has listed, over the steps of the walk.
-use Rattle.std.proofs.Common.{◌≡◌, ℕ, true, false, cond, refl, ap, sym, subst, ◌∙◌, List, [], ◌∷◌, ◌++◌, ◌||◌, ◌<◌, length, get_or, is_some, Option, Some, IsTrue, Bool, arith}
+use Rattle.std.proofs.Common.{◌≡◌, ℕ, true, false, cond, refl, ap, sym, subst, ◌∙◌, List, [], ◌∷◌, ◌++◌, ◌||◌, ◌<◌, length, map, get_or, is_some, Option, Some, IsTrue, Bool, arith}
 use Rattle.gix_base.specs.declared.hash.ObjectId.{ObjectId}
 use Rattle.gix_revwalk.specs.History.{is_one_of, same_id}
 use Rattle.gix_revwalk.specs.Graph.{Graphed, held_len, held_ids}
@@ -13,6 +13,7 @@ use Rattle.std.proofs.lemmas.List.Folds.{list_any-append}
 use Rattle.gix_revwalk.proofs.Ids.{same_id-true}
 use Rattle.gix_revwalk.proofs.Places.{same_id-sym}
 use Rattle.gix_revwalk.proofs.Members.{one_of-right, one_of-head, or_none}
+use Rattle.gix_merge_base.specs.Front.{KeepsNumbers}
 use Rattle.gix_merge_base.specs.PaintQueue.{id_at, ids_at, AreIn}
 use Rattle.gix_resolve.specs.ListWalk.{AreMarked}
 use Rattle.gix_merge_base.proofs.Numbered.{named-id, same-len}
@@ -52,6 +53,21 @@ pub marked-grown : {S D A : Type 0} (m n : Graphed S (Commit D A)) (ns : List Nu
 marked-grown m n ns grows same at =
     let grown = listed-grown m n grows ns at.inside in
     (record { inside = grown.0; marks = λ q. ap is_some (same q) ∙ at.marks q ∙ ap (λ l. is_one_of l q) (sym grown.1) }, grown.1)
+
+-- numbers stay those of the same commits where more is held, and then the same ids are
+pub numbers-kept : {S T : Type 0} (a b c : Graphed S T) → Grows a b → held_ids c ≡ held_ids b → KeepsNumbers a c
+numbers-kept a b c grows same = λ ns all.
+    let first = listed-grown a b grows ns all in
+    let next = listed-same b c same ns first.0 in
+    (next.0, next.1 ∙ first.1)
+
+-- where one call that keeps them follows another
+pub numbers-then : {S T : Type 0} (a b c : Graphed S T) → KeepsNumbers a b → KeepsNumbers b c → KeepsNumbers a c
+numbers-then a b c p q = λ ns all. let first = p ns all in let next = q ns first.0 in (next.0, next.1 ∙ first.1)
+
+-- and where the same is held
+pub numbers-held : {S T : Type 0} (m n : Graphed S T) → n.held ≡ m.held → KeepsNumbers m n
+numbers-held m n e = listed-same m n (ap (map (λ x. x.0)) e)
 
 -- each number of a list is one of the graph, also where the same ids are held
 pub in-loop : {S T : Type 0} (m n : Graphed S T) → held_ids n ≡ held_ids m → (ns : List Number) (i : ℕ) (d : Number) → AreIn m ns → i < length ns → place_in (get_or ns i d) < held_len n

@@ -1,15 +1,22 @@
 -- The members of the sets that specs mean, as lists.
-use Rattle.std.proofs.Common.{◌≡◌, true, false, refl, sym, subst, ◌∙◌, List, [], ◌∷◌, ◌++◌, inl, inr, is_some, Option, Some, None, Result, Ok, Err, IfOk, IsTrue, true≢false}
+use Rattle.std.proofs.Common.{◌≡◌, ◌==◌, ◌<◌, ℕ, length, true, false, refl, ap, sym, subst, ◌∙◌, List, [], ◌∷◌, ◌++◌, inl, inr, is_some, Option, Some, None, Result, Ok, Err, IfOk, IsTrue, true≢false, arith}
 use Rattle.std.specs.List.{AllByRecursion, IsDistinct}
+use Rattle.std.proofs.lemmas.List.{map-append, nil_from_length}
 use Rattle.std.proofs.lemmas.Map.Keys.{IsDistinct-head, IsDistinct-tail, IsDistinct-cons}
 use Rattle.gix_base.specs.declared.hash.ObjectId.{ObjectId}
 use Rattle.gix_revwalk.specs.History.{History, Entry, Has, entry_at, parents_in, same_id, is_one_of, IsAncestor, IsAncestorOfOne}
 use Rattle.gix_revwalk.specs.Sizes.{Lists}
 use Rattle.gix_revwalk.proofs.Ids.{same_id-true}
 use Rattle.gix_revwalk.proofs.Members.{nothing, one_is_distinct, one_of-left, one_of-right, one_of-cases, one_of-head, one_of-tail, one_of-single}
+use Rattle.gix_revwalk.specs.Graph.{Graphed, held_len}
+use Rattle.gix_revwalk.specs.Number.{place_in}
+use Rattle.gix_revwalk.specs.declared.numbers.Number.{Number}
+use Rattle.gix_merge_base.specs.Front.{KeepsNumbers}
+use Rattle.gix_merge_base.specs.PaintQueue.{id_at, ids_at}
 use Rattle.gix_spec.specs.declared.spec.Spec.{Spec}
 use Rattle.gix_spec.specs.declared.spec.Spec.TheVariants.{Include, Exclude, Range, Merge, IncludeOnlyParents, ExcludeParents}
 use Rattle.gix_resolve.specs.ListMeaning.{IsMeant}
+use Rattle.gix_resolve.specs.ListWalk.{AreJust}
 use Rattle.gix_resolve.specs.Reachable.{IsBeyond}
 
 -- the ancestors of one commit
@@ -59,7 +66,7 @@ pub lists-not_alone : (h : History) (a : ObjectId) (xs : List ObjectId) → xs �
 lists-not_alone h a xs is lacks = rw is (lists-none (IsMeant h (ExcludeParents a)) (λ c q. true≢false (sym q.0 ∙ lacks)))
 
 -- two lists that share nothing, one behind the other
-all-append : (P : ObjectId → Type 0) (xs ys : List ObjectId) → AllByRecursion P xs → AllByRecursion P ys → AllByRecursion P (xs ++ ys)
+all-append : {X : Type 0} (P : X → Type 0) (xs ys : List X) → AllByRecursion P xs → AllByRecursion P ys → AllByRecursion P (xs ++ ys)
 all-append P [] ys a b = b
 all-append P (x ∷ xs) ys a b = (a.0, all-append P xs ys a.1 b)
 
@@ -94,3 +101,35 @@ lists-merge h a b xs ys zs is left right = rw is (
     from : (c : ObjectId) → IsMeant h (Merge a b) c → IsTrue (is_one_of (xs ++ ys) c)
     from c (inl k) = one_of-left xs ys c ((left.1 c).1 (as-one h a c k.0, λ q. k.1 (of-one h b c q)))
     from c (inr k) = one_of-right xs ys c ((right.1 c).1 (as-one h b c k.0, λ q. k.1 (of-one h a c q)))
+
+-- the same by the numbers of a graph: none, one, and those of two walks of which the second kept the numbers of the first
+module _ {S T : Type 0} where
+  pub just-none : (g : Graphed S T) (P : ObjectId → Type 0) (ns : List Number) → ns ≡ [] → Lists [] P → AreJust g ns P
+  just-none g P ns is lists = subst (λ l. AreJust g l P) (sym is) (tt, lists)
+
+  pub just-one : (g : Graphed S T) (h : History) (a : ObjectId) (n : Number) (ns : List Number) → ns ≡ n ∷ [] → place_in n < held_len g → id_at g (place_in n) ≡ a → Has h a → AreJust g ns (IsMeant h (ExcludeParents a))
+  just-one g h a n ns is within at has =
+      subst (λ l. AreJust g l (IsMeant h (ExcludeParents a))) (sym is) ((within, tt), lists-alone h a (ids_at g (n ∷ [])) (ap (λ z. z ∷ []) at) has)
+
+  pub just-merge : (h : History) (a b : ObjectId) (m n : Graphed S T) (xs ys zs : List Number) → zs ≡ xs ++ ys → KeepsNumbers m n → AreJust m xs (IsBeyond h (b ∷ []) (a ∷ [])) → AreJust n ys (IsBeyond h (a ∷ []) (b ∷ []))
+      → AreJust n zs (IsMeant h (Merge a b))
+  just-merge h a b m n xs ys zs is keeps left right =
+      let kept = keeps xs left.0 in
+      subst (λ l. AreJust n l (IsMeant h (Merge a b))) (sym is) (
+        all-append (λ (k : Number). place_in k < held_len n) xs ys kept.0 right.0,
+        lists-merge h a b (ids_at n xs) (ids_at n ys) (ids_at n (xs ++ ys)) (map-append (λ (k : Number). id_at n (place_in k)) xs ys) (subst (λ l. Lists l (IsBeyond h (b ∷ []) (a ∷ []))) (sym kept.1) left.1) right.1,
+      )
+
+  -- of none there are no ids
+  pub none-listed : (g : Graphed S T) (P : ObjectId → Type 0) (ns : List Number) (ids : List ObjectId) → ns ≡ [] → ids ≡ [] → AreJust g ns P → Lists ids P
+  none-listed g P ns ids none empty just = subst (λ l. Lists l P) (sym empty) (subst (λ l. Lists (ids_at g l) P) none just.1)
+
+-- whether there is one
+zero_from : (n : ℕ) → (n == 0) ≡ true → n ≡ 0
+zero_from n e = grind arith
+
+pub no_items : {X : Type 0} (xs : List X) (n : ℕ) → n ≡ length xs → (n == 0) ≡ true → xs ≡ []
+no_items xs n is none = nil_from_length xs (sym is ∙ zero_from n none)
+
+pub some_items : {X : Type 0} (xs : List X) (n : ℕ) → n ≡ length xs → (n == 0) ≡ false → xs ≡ [] → ⊥
+some_items xs n is some none = true≢false (sym (ap (λ k. k == 0) (is ∙ ap length none)) ∙ some)

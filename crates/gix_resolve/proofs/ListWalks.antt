@@ -1,5 +1,5 @@
 -- The walk that lists ancestors beyond those that are listed, over lists of ids.
-use Rattle.std.proofs.Common.{◌≡◌, ℕ, true, false, cond, refl, ap, sym, subst, ◌∙◌, List, [], ◌∷◌, ◌++◌, inl, inr, ◌<◌, ◌+◌, ◌-◌, take, drop, length, get_or, is_some, append_assoc, IsTrue, ◌↔◌, arith, true≢false, Some}
+use Rattle.std.proofs.Common.{◌≡◌, ℕ, zero, suc, true, false, cond, refl, ap, sym, subst, ◌∙◌, List, [], ◌∷◌, ◌++◌, inl, inr, ◌<◌, ◌+◌, ◌-◌, take, drop, length, get_or, is_some, append_assoc, IsTrue, ◌↔◌, arith, true≢false, Some}
 use Rattle.std.specs.List.{IsDistinct, filter, AllByRecursion}
 use Rattle.std.proofs.lemmas.Map.Keys.{IsDistinct-head, IsDistinct-tail}
 use Rattle.std.proofs.lemmas.List.{append-nil}
@@ -14,12 +14,12 @@ use Rattle.gix_revwalk.specs.Number.{place_in}
 use Rattle.std.specs.Option.{unwrap_or}
 use Rattle.gix_revwalk.specs.Numbers.{named}
 use Rattle.gix_revwalk.specs.declared.numbers.Number.{Number}
-use Rattle.gix_merge_base.specs.PaintQueue.{id_at, ids_at}
+use Rattle.gix_merge_base.specs.PaintQueue.{id_at, ids_at, AreIn}
 use Rattle.gix_merge_base.proofs.Numbered.{id-of-item}
 use Rattle.gix_revwalk.proofs.Members.{nothing, one_of-left, one_of-right, one_of-cases, one_of-cons_cases, take_next}
 use Rattle.gix_revwalk.proofs.Ids.{same_id-equal}
 use Rattle.gix_revwalk.proofs.Walk.{Walked, visits_all, walk_goes, walk_ends}
-use Rattle.gix_resolve.specs.ListWalk.{AreClosed, Adds}
+use Rattle.gix_resolve.specs.ListWalk.{AreClosed, Adds, AreJust}
 
 -- a list to which only commits are added is one that visits them
 pub added-visited : (h : History) (xs : List ObjectId) (p : ObjectId) → Has h p → added xs p ≡ visited h xs p
@@ -226,9 +226,14 @@ lists_beyond h hidden shown xs ys first second at =
     distinct_behind [] more once = once
     distinct_behind (x ∷ xs) more once = distinct_behind xs more (IsDistinct-tail same_id x (xs ++ more) once)
 
--- the ids behind a place
-pub behind : {S T : Type 0} (g : Graphed S T) (ns read : List Number) (k n : ℕ) → read ≡ ns → k ≡ n → ids_at g (take (length read - k) (drop k read)) ≡ drop n (ids_at g ns)
-behind g ns read k n same at =
-    ap (ids_at g) (take_all (length read - k) (drop k read) (omega (arith, length-drop k read)))
-    ∙ sym (drop-map (λ (x : Number). id_at g (place_in x)) k read)
-    ∙ ap (λ l. drop k (ids_at g l)) same ∙ ap (λ i. drop i (ids_at g ns)) at
+-- the numbers behind a place
+in_behind : {S T : Type 0} (g : Graphed S T) (k : ℕ) (ns : List Number) → AreIn g ns → AreIn g (drop k ns)
+in_behind g zero ns all = all
+in_behind g (suc k) [] all = tt
+in_behind g (suc k) (x ∷ ns) all = in_behind g k ns all.1
+
+pub just_behind : {S T : Type 0} (g : Graphed S T) (P : ObjectId → Type 0) (ns read copy : List Number) (k : ℕ) → read ≡ ns → copy ≡ take (length read - k) (drop k read) → AreIn g ns → Lists (drop k (ids_at g ns)) P
+    → AreJust g copy P
+just_behind g P ns read copy k same copied inside lists =
+    let all : copy ≡ drop k ns = copied ∙ take_all (length read - k) (drop k read) (omega (arith, length-drop k read)) ∙ ap (drop k) same in
+    subst (λ l. AreJust g l P) (sym all) (in_behind g k ns inside, subst (λ l. Lists l P) (drop-map (λ (x : Number). id_at g (place_in x)) k ns) lists)

@@ -7,6 +7,7 @@ use Rattle.gix_revwalk.specs.Graph.{Graphed}
 use Rattle.gix_revwalk.specs.Data.{mark_at}
 use Rattle.gix_revwalk.specs.declared.graph.commit.Commit.{Commit}
 use Rattle.gix_revwalk.specs.declared.numbers.Number.{Number}
+use Rattle.gix_revwalk.specs.Sizes.{Lists}
 use Rattle.gix_merge_base.specs.PaintQueue.{ids_at, AreIn}
 
 -- the walk has marked just the commits with the numbers ns
@@ -25,3 +26,7 @@ abbrev pub Adds : History → (starts xs ys : List ObjectId) → Type 0
 Adds h starts xs ys =
     (more : List ObjectId) × (ys ≡ xs ++ more)
     × ((c : ObjectId) → IsTrue (is_one_of more c) ↔ (IsAncestorOfOne h starts c × (¬ IsTrue (is_one_of xs c))))
+
+-- ns are numbers of the graph, and those of just the members of a set, each once
+abbrev pub AreJust : {S T : Type 0} → Graphed S T → List Number → (ObjectId → Type 0) → Type 0
+AreJust g ns P = AreIn g ns × Lists (ids_at g ns) P

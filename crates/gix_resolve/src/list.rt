@@ -14,8 +14,9 @@ mod newest;
 mod walk;
 
 use crate::list::count::count_members;
-use crate::list::members::members;
-pub use crate::list::newest::newest_first;
+use crate::list::members::member_ids;
+pub(crate) use crate::list::newest::newest_of;
+pub use crate::list::newest::{commits_newest_first, newest_first};
 use gix_revision::graph::{self, Commit, Find, Graph};
 use gix_revision::hash::ObjectId;
 use gix_revision::merge_base::Flags;
@@ -86,7 +87,7 @@ pub fn commits<S: Find, A: Allocator + Copy>(
     ensures exclude { IsTrue (is_exclude spec.now)
         → IsOkAnd result (λ ids. ids.items ≡ []) × (graph.new ≡ graph.old) }
 {
-    let mut ids = members(alloc, *spec, graph)?;
+    let mut ids = member_ids(alloc, *spec, graph)?;
     ids.sort_unstable();
     Ok(ids)
 }

@@ -1,13 +1,15 @@
 //! What some commits reach and some others do not, listed or counted by a walk that ends early where
 //! generations are known: git-rev-list, "Description".
 
-ghost use Rattle.std.specs.Prelude.{◌≡◌, ◌∷◌, ◌++◌, [], IfOk, true};
+ghost use Rattle.std.specs.Prelude.{◌≡◌, ◌∷◌, ◌++◌, [], IfOk, IsTrue, true};
+ghost use Rattle.gix_base.specs.declared.hash.ObjectId.{ObjectId};
 ghost use Rattle.gix_revwalk.specs.Faults.{count_after, is_source_fault};
 ghost use Rattle.gix_revwalk.specs.Graph.{KeepsHeld};
 ghost use Rattle.gix_revwalk.specs.GraphAfter.{GraphAfter};
-ghost use Rattle.gix_revwalk.specs.History.{IsAncestorOfOne};
-ghost use Rattle.gix_revwalk.specs.Sizes.{HasSize, AtMost};
+ghost use Rattle.gix_revwalk.specs.History.{IsAncestorOfOne, is_one_of};
+ghost use Rattle.gix_revwalk.specs.Sizes.{HasSize, AtMost, Lists};
 ghost use Rattle.gix_revwalk.specs.Walks.{HoldsMore};
+ghost use Rattle.gix_merge_base.specs.Keys.{IsInOrder};
 ghost use Rattle.gix_merge_base.specs.Premises.{GenerationsNeverRiseFrom};
 ghost use Rattle.gix_spec.specs.declared.spec.Spec.TheVariants.{Range};
 ghost use Rattle.gix_resolve.specs.ListErrors.{is_list_source_fault};
@@ -19,11 +21,13 @@ ghost use Rattle.gix_resolve.specs.Taken.{TakesOnly};
 mod count;
 mod front;
 mod hand;
+mod newest;
 mod sides;
 mod walk;
 
 use crate::list::ListError;
 use crate::reach::count::{counted, listed};
+use crate::reach::newest::newest_listed;
 use gix_revision::graph::{self, Commit, Find, Graph};
 use gix_revision::hash::ObjectId;
 use gix_revision::merge_base::Flags;
@@ -67,6 +71,47 @@ pub fn reachable<S: Find, A: Allocator + Copy>(
 {
     let mut ids = listed(alloc, include, exclude, graph)?;
     ids.sort_unstable();
+    Ok(ids)
+}
+
+/// What [`reachable`] lists, each once, in the order of [`newest_first`](crate::newest_first): git-rev-list,
+/// "Commit Ordering". No id is sorted or looked up: the numbers of the walk tell where each stands.
+///
+/// The premise is that of [`reachable`]; where a generation rises, the answer has all that is asked for, and
+/// beside it nothing but what `include` reaches.
+///
+/// What the graph held it still holds, refused or not; the data beside it may have changed. What it
+/// newly holds is reached from one of the ids.
+///
+/// # Errors
+///
+/// As [`commits`](crate::commits).
+pub fn reachable_newest_first<S: Find, A: Allocator + Copy>(
+    alloc: A,
+    include: &[ObjectId],
+    exclude: &[ObjectId],
+    graph: &mut Graph<S, Commit<Flags, A>, A>,
+) -> Result<Vec<ObjectId, A>, ListError>
+    ensures reached { GenerationsNeverRiseFrom (S.history graph.old.source) (include.now ++ exclude.now)
+        → IfOk result (λ ids. Lists ids.items
+        (IsBeyond (S.history graph.old.source) exclude.now include.now)) }
+
+    // Whatever generations are.
+    ensures every { IfOk result (λ ids. (c : ObjectId)
+        → IsBeyond (S.history graph.old.source) exclude.now include.now c
+        → IsTrue (is_one_of ids.items c)) }
+    ensures shown { IfOk result (λ ids. (c : ObjectId) → IsTrue (is_one_of ids.items c)
+        → IsAncestorOfOne (S.history graph.old.source) include.now c) }
+    ensures order { IfOk result (λ ids. IsInOrder (S.history graph.old.source) ids.items) }
+
+    ensures history { S.history graph.new.source ≡ S.history graph.old.source }
+    ensures count { S.fault_count graph.new.source
+        ≡ count_after (is_list_source_fault result) (S.fault_count graph.old.source) }
+    ensures held { KeepsHeld graph.old graph.new }
+    ensures taken { TakesOnly (IsAncestorOfOne (S.history graph.old.source)
+        (include.now ++ exclude.now)) graph.old graph.new }
+{
+    let ids = newest_listed(alloc, include, exclude, graph)?;
     Ok(ids)
 }
 

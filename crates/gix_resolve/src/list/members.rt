@@ -1,4 +1,4 @@
-//! The members of the set that a spec means, in no order.
+//! The members of the set that a spec means, in no order: their numbers, or their ids.
 
 ghost use Rattle.std.specs.Prelude.{◌≡◌, IfOk, IsOkAnd, IsTrue, [], ◌∷◌};
 ghost use Rattle.gix_revwalk.specs.Faults.{is_source_fault};
@@ -9,34 +9,35 @@ ghost use Rattle.gix_revwalk.specs.Walks.{HoldsMore};
 ghost use Rattle.gix_spec.specs.declared.spec.Spec.TheVariants.{Merge};
 ghost use Rattle.gix_spec.specs.declared.spec.Spec.TheVariants.{IncludeOnlyParents, ExcludeParents};
 ghost use Rattle.gix_resolve.specs.ListMeaning.{IsMeant};
+ghost use Rattle.gix_resolve.specs.ListWalk.{AreJust};
 ghost use Rattle.gix_resolve.specs.Taken.{TakesOnly, IsLookedAt, is_exclude};
 
-use crate::list::walk::ancestors_beyond;
+use crate::list::walk::{ancestors_beyond, ids_of};
 use gix_revision::graph::{self, Commit, Find, Graph};
 use gix_revision::hash::ObjectId;
 use gix_revision::merge_base::Flags;
 use gix_revision::spec::Spec;
-use gix_revwalk::numbers;
+use gix_revwalk::numbers::{self, Number};
 use std::alloc::Allocator;
 
-/// The ancestors of just one of the two, each once.
+/// The numbers of the ancestors of just one of the two, each once.
 fn ancestors_of_just_one<S: Find, A: Allocator + Copy>(
     alloc: A,
     theirs: ObjectId,
     ours: ObjectId,
     graph: &mut Graph<S, Commit<Flags, A>, A>,
-) -> Result<Vec<ObjectId, A>, graph::Error>
-    ensures meant { IfOk result (λ ids. Lists ids.items
+) -> Result<Vec<Number, A>, graph::Error>
+    ensures meant { IfOk result (λ numbers. AreJust graph.new numbers.items
         (IsMeant (S.history graph.old.source) (Merge theirs ours))) }
     ensures taken { TakesOnly (IsLookedAt (S.history graph.old.source) (Merge theirs ours))
         graph.old graph.new }
     ensures after { GraphAfter S.history S.fault_count is_source_fault graph.old graph.new result }
 {
     let marks = Flags::default();
-    let mut ids = ancestors_beyond(alloc, &[ours], &[theirs], marks, graph)?;
+    let mut numbers = ancestors_beyond(alloc, &[ours], &[theirs], marks, graph)?;
     let others = ancestors_beyond(alloc, &[theirs], &[ours], marks, graph)?;
-    ids.extend_from_slice(&others)?;
-    Ok(ids)
+    numbers.extend_from_slice(&others)?;
+    Ok(numbers)
 }
 
 /// The parents of a commit, also those that the source lacks; none where it lacks the commit.
@@ -56,13 +57,13 @@ pub(crate) fn parents_of<S: Find, A: Allocator + Copy>(
     Ok(numbers::value(graph, number).parents().to_vec(alloc)?)
 }
 
-/// The ancestors of the parents of a commit, each once.
+/// The numbers of the ancestors of the parents of a commit, each once.
 fn ancestors_of_parents<S: Find, A: Allocator + Copy>(
     alloc: A,
     id: ObjectId,
     graph: &mut Graph<S, Commit<Flags, A>, A>,
-) -> Result<Vec<ObjectId, A>, graph::Error>
-    ensures meant { IfOk result (λ ids. Lists ids.items
+) -> Result<Vec<Number, A>, graph::Error>
+    ensures meant { IfOk result (λ numbers. AreJust graph.new numbers.items
         (IsMeant (S.history graph.old.source) (IncludeOnlyParents id))) }
     ensures taken { TakesOnly (IsLookedAt (S.history graph.old.source) (IncludeOnlyParents id))
         graph.old graph.new }
@@ -72,28 +73,53 @@ fn ancestors_of_parents<S: Find, A: Allocator + Copy>(
     ancestors_beyond(alloc, &[], &parents, Flags::default(), graph)
 }
 
-/// The commit alone, where the source has it.
+/// The number of the commit alone, where the source has it.
 fn alone<S: Find, A: Allocator + Copy>(
     alloc: A,
     id: ObjectId,
     graph: &mut Graph<S, Commit<Flags, A>, A>,
-) -> Result<Vec<ObjectId, A>, graph::Error>
-    ensures meant { IfOk result (λ ids. Lists ids.items
+) -> Result<Vec<Number, A>, graph::Error>
+    ensures meant { IfOk result (λ numbers. AreJust graph.new numbers.items
         (IsMeant (S.history graph.old.source) (ExcludeParents id))) }
     ensures taken { TakesOnly (IsLookedAt (S.history graph.old.source) (ExcludeParents id))
         graph.old graph.new }
     ensures after { GraphAfter S.history S.fault_count is_source_fault graph.old graph.new result }
 {
-    let Some(_) = numbers::take(graph, alloc, id, Flags::default())? else {
+    let Some(number) = numbers::take(graph, alloc, id, Flags::default())? else {
         return Ok(Vec::new(alloc));
     };
-    let mut ids = Vec::new(alloc);
-    ids.push(id)?;
-    Ok(ids)
+    let mut numbers = Vec::new(alloc);
+    numbers.push(number)?;
+    Ok(numbers)
 }
 
-/// The commits that a spec means, each once.
+/// The numbers of the commits that a spec means, each once.
 pub(crate) fn members<S: Find, A: Allocator + Copy>(
+    alloc: A,
+    spec: Spec,
+    graph: &mut Graph<S, Commit<Flags, A>, A>,
+) -> Result<Vec<Number, A>, graph::Error>
+    ensures meant { IfOk result (λ numbers. AreJust graph.new numbers.items
+        (IsMeant (S.history graph.old.source) spec)) }
+    ensures taken { TakesOnly (IsLookedAt (S.history graph.old.source) spec)
+        graph.old graph.new }
+    ensures exclude { IsTrue (is_exclude spec)
+        → IsOkAnd result (λ numbers. numbers.items ≡ []) × (graph.new ≡ graph.old) }
+    ensures after { GraphAfter S.history S.fault_count is_source_fault graph.old graph.new result }
+{
+    let marks = Flags::default();
+    match spec {
+        Spec::Include(id) => ancestors_beyond(alloc, &[], &[id], marks, graph),
+        Spec::Exclude(_) => Ok(Vec::new(alloc)),
+        Spec::Range { from, to } => ancestors_beyond(alloc, &[from], &[to], marks, graph),
+        Spec::Merge { theirs, ours } => ancestors_of_just_one(alloc, theirs, ours, graph),
+        Spec::IncludeOnlyParents(id) => ancestors_of_parents(alloc, id, graph),
+        Spec::ExcludeParents(id) => alone(alloc, id, graph),
+    }
+}
+
+/// Their ids, in no order.
+pub(crate) fn member_ids<S: Find, A: Allocator + Copy>(
     alloc: A,
     spec: Spec,
     graph: &mut Graph<S, Commit<Flags, A>, A>,
@@ -106,13 +132,10 @@ pub(crate) fn members<S: Find, A: Allocator + Copy>(
         → IsOkAnd result (λ ids. ids.items ≡ []) × (graph.new ≡ graph.old) }
     ensures after { GraphAfter S.history S.fault_count is_source_fault graph.old graph.new result }
 {
-    let marks = Flags::default();
-    match spec {
-        Spec::Include(id) => ancestors_beyond(alloc, &[], &[id], marks, graph),
-        Spec::Exclude(_) => Ok(Vec::new(alloc)),
-        Spec::Range { from, to } => ancestors_beyond(alloc, &[from], &[to], marks, graph),
-        Spec::Merge { theirs, ours } => ancestors_of_just_one(alloc, theirs, ours, graph),
-        Spec::IncludeOnlyParents(id) => ancestors_of_parents(alloc, id, graph),
-        Spec::ExcludeParents(id) => alone(alloc, id, graph),
+    let numbers = members(alloc, spec, graph)?;
+    // Without one no memory is wanted: `^a` is always answered.
+    if numbers.is_empty() {
+        return Ok(Vec::new(alloc));
     }
+    Ok(ids_of(alloc, &numbers, graph)?)
 }

@@ -1,23 +1,31 @@
 //! Commits in the order in which git shows a history: what is new comes first.
 
-ghost use Rattle.std.specs.Prelude.{◌≡◌, ◌↔◌, [], ◌∷◌, IfOk, OnOk, IsTrue, map};
+ghost use Rattle.std.specs.Prelude.{◌≡◌, ◌↔◌, [], ◌∷◌, IfOk, IsOkAnd, OnOk, IsTrue, map};
 ghost use Rattle.std.specs.List.{filter_map};
+ghost use Rattle.std.specs.List.Sorted.{IsPermutation, IsSorted};
 ghost use Rattle.gix_base.specs.declared.hash.ObjectId.{ObjectId};
 ghost use Rattle.gix_revwalk.specs.Faults.{count_after, is_source_fault};
 ghost use Rattle.gix_revwalk.specs.Graph.{KeepsHeld};
 ghost use Rattle.gix_revwalk.specs.GraphAfter.{GraphAfter};
 ghost use Rattle.gix_revwalk.specs.History.{Has, is_one_of};
+ghost use Rattle.gix_revwalk.specs.Sizes.{Lists};
 ghost use Rattle.gix_revwalk.specs.Walks.{HoldsMore};
 ghost use Rattle.gix_merge_base.specs.Candidates.{turned_at, id_in};
 ghost use Rattle.gix_merge_base.specs.GenThenTime.{key_of};
-ghost use Rattle.gix_merge_base.specs.Keys.{IsInOrder};
+ghost use Rattle.gix_merge_base.specs.Keys.{IsInOrder, choice};
+ghost use Rattle.gix_merge_base.specs.PaintQueue.{ids_at, AreIn};
 ghost use Rattle.gix_resolve.specs.ListErrors.{is_list_source_fault};
+ghost use Rattle.gix_resolve.specs.ListMeaning.{IsMeant};
+ghost use Rattle.gix_resolve.specs.Newest.{turned_for};
+ghost use Rattle.gix_resolve.specs.Taken.{TakesOnly, IsLookedAt, is_exclude};
 
 use crate::list::ListError;
+use crate::list::members::members;
 use gix_revision::graph::{self, Commit, Find, Graph};
 use gix_revision::hash::ObjectId;
 use gix_revision::merge_base::{Flags, GenThenTime};
-use gix_revwalk::numbers;
+use gix_revision::spec::Spec;
+use gix_revwalk::numbers::{self, Number};
 use std::alloc::{AllocError, Allocator};
 use std::cmp::Reverse;
 
@@ -84,6 +92,95 @@ fn ids_of<A: Allocator + Copy>(alloc: A, all: &[Turned]) -> Result<Vec<ObjectId,
         ids.push(*id)?;
     }
     Ok(ids)
+}
+
+/// What decides where each of the commits with these numbers stands.
+fn turned_of<S: Find, A: Allocator + Copy>(
+    alloc: A,
+    numbers: &[Number],
+    graph: &Graph<S, Commit<Flags, A>, A>,
+) -> Result<Vec<Turned, A>, AllocError>
+    requires { AreIn graph.now numbers.now }
+    ensures { IfOk result (λ all. all.items
+        ≡ map (turned_for (S.history graph.now.source)) (ids_at graph.now numbers.now)) }
+{
+    let mut all = Vec::with_capacity(alloc, numbers.len())?;
+    for number in numbers {
+        let commit = numbers::value(graph, *number);
+        all.push(turned_by(commit, numbers::id_of(graph, *number)))?;
+    }
+    Ok(all)
+}
+
+/// The ids of the commits with these numbers, the newest first. No id is looked up.
+///
+/// A walk meets commits nearly in this order, and a stable sort goes by the runs that are in order.
+pub(crate) fn newest_of<S: Find, A: Allocator + Copy>(
+    alloc: A,
+    numbers: &[Number],
+    graph: &Graph<S, Commit<Flags, A>, A>,
+) -> Result<Vec<ObjectId, A>, AllocError>
+    requires { AreIn graph.now numbers.now }
+    ensures order { IfOk result (λ ids. IsSorted (choice (S.history graph.now.source)) ids.items) }
+    ensures same { IfOk result (λ ids. IsPermutation (ids_at graph.now numbers.now) ids.items) }
+{
+    let mut all = turned_of(alloc, numbers, graph)?;
+    all.sort()?;
+    ids_of(alloc, &all)
+}
+
+/// As [`commits_newest_first`].
+fn newest_members<S: Find, A: Allocator + Copy>(
+    alloc: A,
+    spec: Spec,
+    graph: &mut Graph<S, Commit<Flags, A>, A>,
+) -> Result<Vec<ObjectId, A>, graph::Error>
+    ensures meant { IfOk result (λ ids. Lists ids.items
+        (IsMeant (S.history graph.old.source) spec)) }
+    ensures order { IfOk result (λ ids. IsInOrder (S.history graph.old.source) ids.items) }
+    ensures taken { TakesOnly (IsLookedAt (S.history graph.old.source) spec)
+        graph.old graph.new }
+    ensures exclude { IsTrue (is_exclude spec)
+        → IsOkAnd result (λ ids. ids.items ≡ []) × (graph.new ≡ graph.old) }
+    ensures after { GraphAfter S.history S.fault_count is_source_fault graph.old graph.new result }
+{
+    let numbers = members(alloc, spec, graph)?;
+    // Without one no memory is wanted: `^a` is always answered.
+    if numbers.is_empty() {
+        return Ok(Vec::new(alloc));
+    }
+    Ok(newest_of(alloc, &numbers, graph)?)
+}
+
+/// What [`commits`](crate::commits) lists, each once, in the order of [`newest_first`]: git-rev-list,
+/// "Commit Ordering". No id is sorted or looked up: the numbers of the walk tell where each stands.
+///
+/// What the graph held it still holds, refused or not; the data beside it may have changed. What it
+/// newly holds is reached from the ids of the spec. `^a` means no commit: it is always answered, by
+/// the empty list, and the graph is as it was.
+///
+/// # Errors
+///
+/// As [`commits`](crate::commits).
+pub fn commits_newest_first<S: Find, A: Allocator + Copy>(
+    alloc: A,
+    spec: &Spec,
+    graph: &mut Graph<S, Commit<Flags, A>, A>,
+) -> Result<Vec<ObjectId, A>, ListError>
+    ensures meant { IfOk result
+        (λ ids. Lists ids.items (IsMeant (S.history graph.old.source) spec.now)) }
+    ensures order { IfOk result (λ ids. IsInOrder (S.history graph.old.source) ids.items) }
+    ensures history { S.history graph.new.source ≡ S.history graph.old.source }
+    ensures count { S.fault_count graph.new.source
+        ≡ count_after (is_list_source_fault result) (S.fault_count graph.old.source) }
+    ensures held { KeepsHeld graph.old graph.new }
+    ensures taken { TakesOnly (IsLookedAt (S.history graph.old.source) spec.now)
+        graph.old graph.new }
+    ensures exclude { IsTrue (is_exclude spec.now)
+        → IsOkAnd result (λ ids. ids.items ≡ []) × (graph.new ≡ graph.old) }
+{
+    let found = newest_members(alloc, *spec, graph)?;
+    Ok(found)
 }
 
 /// As [`newest_first`].

@@ -1,16 +1,16 @@
 use Rattle.std.proofs.Common.{ap, ◌∙◌, ◌++◌}
-use Rattle.gix_resolve.proofs.ListMembers.{lists-merge}
+use Rattle.gix_resolve.proofs.ListMembers.{just-merge}
 use Rattle.gix_resolve.proofs.ListTaken.{only_swapped, only_either}
 use Rattle.gix_resolve.proofs.list.members.ancestors_of_just_one.Goals as goal
 
 pub returns-clause-meant : goal.returns-clause-meant
 returns-clause-meant g c =
     let right = rw c.ancestors_beyond.ensures.after.same_history at c.in_ok-others.ensures.beyond in
-    lists-merge (g.S.Find.history c.args.graph.now.source) c.args.theirs c.args.ours c.in_ok-ids.ids.items c.in_ok-others.others.items _
-    (c.in_ok-extend_from_slice.ensures.items ∙ ap (λ l. c.in_ok-ids.ids.items ++ l) c.deref.ensures.value) c.in_ok-ids.ensures.beyond right
+    just-merge (g.S.Find.history c.args.graph.now.source) c.args.theirs c.args.ours c.ancestors_beyond.new.graph c.ancestors_beyond-2.new.graph c.in_ok-numbers.numbers.items c.in_ok-others.others.items _
+    (c.in_ok-extend_from_slice.ensures.items ∙ ap (λ l. c.in_ok-numbers.numbers.items ++ l) c.deref.ensures.value) c.in_ok-others.ensures.numbers c.in_ok-numbers.ensures.beyond right
 
-pub returns-in_err-ids-clause-taken : goal.returns-in_err-ids-clause-taken
-returns-in_err-ids-clause-taken g c =
+pub returns-in_err-numbers-clause-taken : goal.returns-in_err-numbers-clause-taken
+returns-in_err-numbers-clause-taken g c =
     only_swapped (g.S.Find.history c.args.graph.now.source) c.args.theirs c.args.ours c.args.graph.now c.ancestors_beyond.new.graph c.ancestors_beyond.ensures.taken
 
 pub returns-in_err-others-clause-taken : goal.returns-in_err-others-clause-taken

@@ -1,11 +1,11 @@
 use Rattle.std.proofs.Common.{◌≡◌, ap, subst, sym, ◌∙◌, map}
-use Rattle.std.specs.List.{dedup}
+use Rattle.std.specs.List.{dedup, filter_map}
 use Rattle.std.specs.List.Sorted.{IsPermutation}
 use Rattle.std.proofs.lemmas.List.Filters.{dedup_is}
 use Rattle.gix_revwalk.specs.History.{is_one_of, same_id}
-use Rattle.gix_merge_base.specs.Candidates.{id_in}
+use Rattle.gix_merge_base.specs.Candidates.{id_in, turned_at}
 use Rattle.gix_merge_base.proofs.Sorting.{found_same}
-use Rattle.gix_resolve.proofs.Newest.{ids_rise, once_in_order, one_of-dedup}
+use Rattle.gix_resolve.proofs.Newest.{are_turned, ids_rise, once_in_order, one_of-dedup}
 use Rattle.gix_resolve.proofs.list.newest.in_order.Goals as goal
 
 pub returns-clause-order : goal.returns-clause-order
@@ -15,7 +15,7 @@ returns-clause-order g c =
     let perm = subst (λ l. IsPermutation l sorted) c.in_ok-all.ensures.turned c.sort_unstable.ensures.permutation in
     let is : c.in_ok-found.found.items ≡ map id_in sorted = c.in_ok-found.ensures ∙ ap (map id_in) c.deref.ensures.value in
     let kept : c.dedup.new.self.items ≡ dedup same_id c.in_ok-found.found.items = dedup_is same_id _ _ c.dedup.ensures.filtered in
-    rw (kept, is) (once_in_order h (map id_in sorted) (ids_rise h c.args.ids.now sorted perm c.sort_unstable.ensures.sorted))
+    rw (kept, is) (once_in_order h (map id_in sorted) (ids_rise h (filter_map (turned_at h) c.args.ids.now) sorted (are_turned h c.args.ids.now) perm c.sort_unstable.ensures.sorted))
 
 pub returns-clause-same : goal.returns-clause-same
 returns-clause-same g c d =

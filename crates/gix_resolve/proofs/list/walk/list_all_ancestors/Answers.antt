@@ -3,7 +3,9 @@ use Rattle.std.proofs.lemmas.List.{take_all}
 use Rattle.gix_merge_base.specs.PaintQueue.{ids_at}
 use Rattle.gix_resolve.specs.ListWalk.{Adds}
 use Rattle.gix_resolve.proofs.ListWalks.{adds_none, adds_next}
+use Rattle.gix_merge_base.proofs.Listed.{listed-same}
 use Rattle.gix_resolve.proofs.ListAfter.{after_same, after_then}
+use Rattle.gix_resolve.proofs.ListMarks.{numbers-then}
 use Rattle.gix_resolve.proofs.ListTaken.{only_same, only_more}
 use Rattle.gix_resolve.proofs.list.walk.list_all_ancestors.Goals as goal
 
@@ -12,6 +14,7 @@ loop-id-init g c = record {
   marked = c.requires.marked;
   closed = c.requires.closed;
   adds = adds_none _ (ids_at c.args.graph.now c.args.listed.now.items);
+  numbers = listed-same c.args.graph.now c.args.graph.now refl;
   after = after_same c.args.graph.now c.args.graph.now _ refl refl refl;
   taken = only_same _ c.args.graph.now c.args.graph.now refl;
 }
@@ -30,6 +33,7 @@ loop-id-preserved g c =
       closed = closed;
       adds = adds_next h c.args.ids.now (ids_at c.args.graph.now c.args.listed.now.items) (ids_at c.loop-id.graph c.loop-id.listed.items) (ids_at c.list_ancestors.new.graph c.list_ancestors.new.listed.items)
           c.loop-id.id-index _ c.loop-id-test.true c.loop-id.invariant.adds adds;
+      numbers = numbers-then c.args.graph.now c.loop-id.graph c.list_ancestors.new.graph c.loop-id.invariant.numbers c.in_ok-list_ancestors.ensures.numbers;
       after = after_then c.args.graph.now c.loop-id.graph c.list_ancestors.new.graph _ c.loop-id.invariant.after c.in_ok-list_ancestors.ensures.after;
       taken = only_more h c.args.ids.now (ids_at c.args.graph.now c.args.listed.now.items) (ids_at c.loop-id.graph c.loop-id.listed.items) c.loop-id.id-index _ c.args.graph.now c.loop-id.graph c.list_ancestors.new.graph
           c.loop-id-test.true c.loop-id.invariant.adds c.loop-id.invariant.taken (rw same at c.list_ancestors.ensures.taken);

@@ -6,6 +6,7 @@ use Rattle.gix_revwalk.proofs.Walk.{fewer_left, walk_bounded}
 use Rattle.gix_merge_base.specs.PaintQueue.{id_at, ids_at}
 use Rattle.gix_resolve.proofs.ListWalks.{adding_begins, adding_goes, adding_ends}
 use Rattle.gix_resolve.proofs.ListAfter.{after_then}
+use Rattle.gix_resolve.proofs.ListMarks.{numbers-then}
 use Rattle.gix_resolve.proofs.ListTaken.{only_start, only_goes}
 use Rattle.gix_resolve.proofs.list.walk.list_ancestors.Goals as goal
 
@@ -17,6 +18,7 @@ loop-i-init g c =
     record {
       marked = c.in_ok-list_id.ensures.marked;
       adding = adding_begins h c.args.id xs (ids_at c.list_id.new.graph c.list_id.new.listed.items) c.len-i.result c.requires.closed c.in_ok-list_id.ensures.visited (omega (arith, c.len-i.ensures, len));
+      numbers = c.in_ok-list_id.ensures.numbers;
       after = c.in_ok-list_id.ensures.after;
       taken = only_start h xs c.args.id c.args.graph.now c.list_id.new.graph c.list_id.ensures.taken;
     }
@@ -37,6 +39,7 @@ loop-i-preserved g c =
     record {
       marked = c.in_ok-list_parents.ensures.marked;
       adding = adding_goes h c.args.id xs c.loop-i.graph c.loop-i.listed.items c.loop-i.i c.index-next.result.now (ids_at c.list_parents.new.graph c.list_parents.new.listed.items) c.loop-i.invariant.adding (omega arith) c.index-next.ensures visited;
+      numbers = numbers-then c.args.graph.now c.loop-i.graph c.list_parents.new.graph c.loop-i.invariant.numbers c.in_ok-list_parents.ensures.numbers;
       after = after_then c.args.graph.now c.loop-i.graph c.list_parents.new.graph _ c.loop-i.invariant.after c.in_ok-list_parents.ensures.after;
       taken = only_goes h c.args.id xs c.args.graph.now c.loop-i.graph c.loop-i.listed.items c.loop-i.i c.index-next.result.now c.list_parents.new.graph c.loop-i.invariant.adding (omega arith) c.index-next.ensures
           c.loop-i.invariant.taken (rw c.loop-i.invariant.after.same_history at c.list_parents.ensures.taken);

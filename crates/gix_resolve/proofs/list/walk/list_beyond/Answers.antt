@@ -6,6 +6,7 @@ use Rattle.gix_revwalk.specs.Number.{place_in}
 use Rattle.gix_revwalk.specs.declared.numbers.Number.{Number}
 use Rattle.gix_merge_base.specs.PaintQueue.{id_at, ids_at}
 use Rattle.gix_resolve.specs.ListWalk.{AreClosed}
+use Rattle.gix_resolve.proofs.ListMarks.{numbers-held, numbers-then}
 use Rattle.gix_resolve.proofs.ListWalks.{closed_none, lists_beyond}
 use Rattle.gix_resolve.proofs.ListTaken.{only_hidden, only_shown}
 use Rattle.gix_resolve.proofs.list.walk.list_beyond.Goals as goal
@@ -65,3 +66,11 @@ returns-clause-taken g c =
     let same_mid : g.S.Find.history c.list_all_ancestors.new.graph.source ≡ h = c.list_all_ancestors.ensures.after.same_history ∙ same in
     only_shown h c.args.hidden.now c.args.shown.now xs c.args.graph.now c.begin_walk.new.graph c.list_all_ancestors.new.graph c.list_all_ancestors-2.new.graph c.begin_walk.ensures.held
     (rw (same, c.new-numbers.ensures.items) at c.list_all_ancestors.ensures.taken) (rw (same, c.new-numbers.ensures.items) at c.in_ok-list_all_ancestors.ensures.adds) (rw same_mid at c.list_all_ancestors-2.ensures.taken)
+
+pub returns-clause-numbers : goal.returns-clause-numbers
+returns-clause-numbers g c =
+    let begun = c.begin_walk.new.graph in
+    let mid = c.list_all_ancestors.new.graph in
+    let new = c.list_all_ancestors-2.new.graph in
+    numbers-then c.args.graph.now begun new (numbers-held c.args.graph.now begun c.begin_walk.ensures.held)
+    (numbers-then begun mid new c.in_ok-list_all_ancestors.ensures.numbers c.in_ok-list_all_ancestors-2.ensures.numbers)

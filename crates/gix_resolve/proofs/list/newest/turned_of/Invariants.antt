@@ -1,0 +1,7 @@
+use Rattle.std.proofs.Common.{◌≡◌, map, take}
+use Rattle.gix_merge_base.specs.PaintQueue.{ids_at}
+use Rattle.gix_resolve.specs.Newest.{turned_for}
+use Rattle.gix_resolve.proofs.list.newest.turned_of.Given as goal
+
+abbrev pub invariant-loop-number : goal.invariant-loop-number
+invariant-loop-number g l = l.all.items ≡ map (turned_for (g.S.Find.history l.graph.source)) (take l.number-index (ids_at l.graph l.numbers))
