@@ -8,6 +8,7 @@ mod met;
 mod options;
 mod outcome;
 mod queries;
+mod tally;
 mod walk;
 
 pub use format::Format;

@@ -20,10 +20,11 @@ ghost use Rattle.gix_describe.specs.Order.{HoldsFirst, IsTied};
 ghost use Rattle.gix_describe.specs.Outcomes.{names_of};
 ghost use Rattle.gix_describe.specs.Searches.{along, RestsBy, TakesBy, AdmitsBy, IsEndedBy, IsFullBy, CompletesBy, CompletesTakenBy, IsCompleteBy, IsHeldAtFaultBy, AsksBy};
 
-use crate::describe::handing::{Hand, bit_of, count_late, hand_on, is_settled, mark, marks_of};
+use crate::describe::handing::{Hand, count_late, hand_on, is_settled, mark, marks_of};
 use crate::describe::key::Key;
 use crate::describe::met::{Met, Queue, take_in};
 use crate::describe::options::Names;
+use crate::describe::tally::{Lacking, Uncounted, bit_of};
 use gix_base::error::Message;
 use gix_base::hash::ObjectId;
 use gix_revwalk::graph::{Find, Graph};
@@ -213,9 +214,8 @@ impl<A: Allocator + Copy> Walk<A> {
         let hand = Hand {
             marks,
             first_parent: search.first_parent,
-            place: None,
         };
-        let mut uncounted = 0;
+        let mut uncounted = Uncounted;
         hand_on(
             alloc,
             met,
@@ -351,21 +351,24 @@ impl<A: Allocator + Copy> Walk<A> {
         }
         let marks = marks_of(met, graph);
         let late = 1 - bit_of(marks, place);
-        *lacking = lacking.saturating_sub(late as usize);
+        let mut left = Lacking {
+            place,
+            count: lacking.saturating_sub(late as usize),
+        };
         let hand = Hand {
             marks,
             first_parent: search.first_parent,
-            place: Some(place),
         };
         hand_on(
             alloc,
             met,
             hand,
             &mut self.row,
-            lacking,
+            &mut left,
             &mut self.queue,
             graph,
         )?;
+        *lacking = left.count;
         Ok((count + late, false))
     }
 
