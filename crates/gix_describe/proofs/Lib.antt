@@ -23,6 +23,7 @@ pub mod LookedUp
 pub mod WalkQueue
 pub mod Lacking
 pub mod WalkSteps
+pub mod Sieve
 pub mod Choosing
 pub mod PopsCounted
 pub mod OrderWalks

@@ -18,12 +18,14 @@ ghost use Rattle.gix_describe.specs.Lacking.{lacks, lacking_in};
 ghost use Rattle.gix_describe.specs.Numbered.{IsNumbered, KeepsNumbers};
 ghost use Rattle.gix_describe.specs.Order.{HoldsFirst, IsTied};
 ghost use Rattle.gix_describe.specs.Outcomes.{names_of};
+ghost use Rattle.gix_describe.specs.Sieve.{LetsPass};
 ghost use Rattle.gix_describe.specs.Searches.{along, RestsBy, TakesBy, AdmitsBy, IsEndedBy, IsFullBy, CompletesBy, CompletesTakenBy, IsCompleteBy, IsHeldAtFaultBy, AsksBy};
 
 use crate::describe::handing::{Hand, count_late, hand_on, is_settled, mark, marks_of};
 use crate::describe::key::Key;
 use crate::describe::met::{Met, Queue, take_in};
 use crate::describe::options::Names;
+use crate::describe::sieve::{Sieve, has_name};
 use crate::describe::tally::{Lacking, Uncounted, bit_of};
 use gix_base::error::Message;
 use gix_base::hash::ObjectId;
@@ -155,11 +157,13 @@ impl<A: Allocator + Copy> Walk<A> {
         &mut self,
         next: (Key, Met),
         names: &Names<'name, A>,
+        sieve: &Sieve,
         search: Search,
         graph: &mut Graph<S, u32, A>,
     ) -> Result<Option<Met>, Message>
         requires some { 0 < search.cap }
         requires cap { search.cap ≤ 32 }
+        requires sieve { LetsPass sieve.now.words (names_of names.now.entries) }
         requires taken { TakesBy (S.history graph.old.source) search (names_of names.now.entries) next self.old graph.old }
         ensures admitted { IfOk result (λ r. MatchOption r
             (IsFullBy (S.history graph.old.source) search (names_of names.now.entries) self.new graph.new)
@@ -169,7 +173,7 @@ impl<A: Allocator + Copy> Walk<A> {
         ensures source { graph.new.source ≡ graph.old.source }
     {
         let (key, met) = next;
-        if !names.contains_key(&met.id) {
+        if !has_name(names, sieve, &met.id) {
             return Ok(Some(met));
         }
         if self.candidates.len() < search.cap {
@@ -234,11 +238,13 @@ impl<A: Allocator + Copy> Walk<A> {
         &mut self,
         alloc: A,
         names: &Names<'name, A>,
+        sieve: &Sieve,
         search: Search,
         graph: &mut Graph<S, u32, A>,
     ) -> Result<bool, Message>
         requires some { 0 < search.cap }
         requires cap { search.cap ≤ 32 }
+        requires sieve { LetsPass sieve.now.words (names_of names.now.entries) }
         requires unnamed { name_at (names_of names.now.entries) search.start ≡ None }
         requires rests { RestsBy (S.history graph.old.source) search (names_of names.now.entries) self.old graph.old }
         ensures ended { IfOk result (λ full. MatchBool full
@@ -248,7 +254,7 @@ impl<A: Allocator + Copy> Walk<A> {
         ensures asked { AsksBy S.history S.fault_count search graph.old.source graph.new.source (refusal result) }
     {
         while let Some(next) = self.next() {
-            let Some(met) = self.admit(next, names, search, graph)? else {
+            let Some(met) = self.admit(next, names, sieve, search, graph)? else {
                 return Ok(true);
             };
             let settled = self.pass(alloc, &met, names, search, graph)?;
@@ -453,7 +459,8 @@ pub(crate) fn find_name<'name, S: Find, A: Allocator + Copy>(
     ensures asked { AsksBy S.history S.fault_count search graph.old.source graph.new.source (refusal result) }
 {
     let mut walk = Walk::begin(alloc, search, graph)?;
-    let full = walk.run(alloc, names, search, graph)?;
+    let sieve = Sieve::of(names);
+    let full = walk.run(alloc, names, &sieve, search, graph)?;
     let Some(place) = walk.chosen(names) else {
         return Ok(Found {
             best: None,
