@@ -8,6 +8,7 @@ mod met;
 mod options;
 mod outcome;
 mod queries;
+mod queue;
 mod sieve;
 mod tally;
 mod walk;

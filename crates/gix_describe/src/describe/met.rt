@@ -1,6 +1,6 @@
 //! Commits that a walk meets, as the source has them.
 
-ghost use Rattle.std.specs.Prelude.{◌≡◌, ◌&&◌, IfOk, IfSome, OnErr, OnOk, Some, None, is_some, cond, false, map};
+ghost use Rattle.std.specs.Prelude.{◌≡◌, ◌&&◌, IfOk, IfSome, OnErr, OnOk, Some, None, is_some, cond, false, map, min};
 ghost use Rattle.gix_revwalk.specs.Followed.{followed};
 ghost use Rattle.gix_revwalk.specs.Pasts.{link_id};
 ghost use Rattle.gix_revwalk.specs.History.{History, entry_at, parents_in, same_id};
@@ -15,24 +15,27 @@ ghost use Rattle.gix_describe.specs.HandRefusals.{hand_refusal};
 ghost use Rattle.gix_describe.specs.Handing.{IsMet};
 ghost use Rattle.gix_describe.specs.Numbered.{IsNumbered, KeepsNumbers};
 
-use crate::describe::key::Key;
 use gix_base::error::Message;
 use gix_base::hash::ObjectId;
 use gix_revwalk::graph::{self, Find, Graph};
 use gix_revwalk::numbers::{self, Link, Number};
-use gix_revwalk::queue::PriorityQueue;
 use std::alloc::Allocator;
 
-/// A commit that is met: its id, and its number and its spot in the graph.
+/// A commit that is met: its id, its number in the graph, and a guess at its spot there.
 #[derive(Clone, Copy)]
 pub(crate) struct Met {
     pub(crate) id: ObjectId,
     pub(crate) number: Number,
-    pub(crate) spot: usize,
+    pub(crate) spot: u32,
 }
 
-/// The commits that are met and not yet popped, by their keys.
-pub(crate) type Queue<A> = PriorityQueue<Key, Met, A>;
+/// A guess at a spot, in 32 bits.
+#[inline(always)]
+fn guess_at(spot: usize) -> u32
+    ensures { result ≡ min spot 4294967295 }
+{
+    spot.min(u32::MAX as usize) as u32
+}
 
 /// Why a look-up for a child is refused.
 fn refused_for(error: graph::Error, child: ObjectId) -> Message
@@ -79,7 +82,7 @@ fn parents_for<S: Find, A: Allocator + Copy>(
     ensures asked { (h : History) → Asks S.history S.fault_count (IsHandRefused h met.now.id)
         graph.old.source graph.new.source (refusal result) }
 {
-    match numbers::parents_near(graph, alloc, &met.id, met.spot, row) {
+    match numbers::parents_near(graph, alloc, &met.id, met.spot as usize, row) {
         Ok(()) => Ok(()),
         Err(error) => Err(refused_for(error, met.id)),
     }
@@ -146,6 +149,7 @@ fn ask_in<S: Find, A: Allocator + Copy>(
     let Ok((number, spot)) = numbers::add_near(graph, id, spot, marks) else {
         return Err(Message::OutOfMemory);
     };
+    let spot = guess_at(spot);
     Ok(Some((time, Met { id, number, spot })))
 }
 
@@ -188,6 +192,7 @@ pub(crate) fn take_in<S: Find, A: Allocator + Copy>(
         return Err(Message::OutOfMemory);
     };
     if let Some((time, number, spot)) = told {
+        let spot = guess_at(spot);
         return Ok(Some((time, Met { id, number, spot })));
     }
     ask_in(alloc, id, child, marks, first_parent, graph)

@@ -23,15 +23,15 @@ ghost use Rattle.gix_describe.specs.Searches.{along, RestsBy, TakesBy, AdmitsBy,
 
 use crate::describe::handing::{Hand, count_late, hand_on, is_settled, mark, marks_of};
 use crate::describe::key::Key;
-use crate::describe::met::{Met, Queue, take_in};
+use crate::describe::met::{Met, take_in};
 use crate::describe::options::Names;
+use crate::describe::queue::Queue;
 use crate::describe::sieve::{Sieve, has_name};
 use crate::describe::tally::{Lacking, Uncounted, bit_of};
 use gix_base::error::Message;
 use gix_base::hash::ObjectId;
 use gix_revwalk::graph::{Find, Graph};
 use gix_revwalk::numbers::{self, Link};
-use gix_revwalk::queue::PriorityQueue;
 use std::alloc::Allocator;
 use std::cmp::Ordering;
 
@@ -97,7 +97,7 @@ impl<A: Allocator + Copy> Walk<A> {
         else {
             return Err(Message::MissingStart(start));
         };
-        let mut queue = PriorityQueue::new(alloc);
+        let mut queue = Queue::new(alloc);
         let key = Key {
             time: i64::MAX,
             id: start,

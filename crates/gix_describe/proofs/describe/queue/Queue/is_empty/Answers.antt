@@ -1,0 +1,7 @@
+use Rattle.std.proofs.Common.{◌==◌, ◌∙◌, ap, sym}
+use Rattle.std.proofs.lemmas.List.{length-map}
+use Rattle.gix_describe.specs.Queued.{entry_of}
+use Rattle.gix_describe.proofs.describe.queue.Queue.is_empty.Goals as goal
+
+pub returns : goal.returns
+returns g c = c.is_empty.ensures ∙ ap (λ n. n == 0) (sym (length-map c.args.self.now.places entry_of))
