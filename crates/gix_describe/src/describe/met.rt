@@ -164,20 +164,20 @@ fn ask_in<S: Find, A: Allocator + Copy>(
 #[inline(always)]
 pub(crate) fn take_in<S: Find, A: Allocator + Copy>(
     alloc: A,
-    id: ObjectId,
+    id: &ObjectId,
     guess: usize,
-    child: ObjectId,
+    child: &ObjectId,
     marks: u32,
     first_parent: bool,
     graph: &mut Graph<S, u32, A>,
 ) -> Result<Option<(i64, Met)>, Message>
-    requires new { number_at graph.old id ≡ None }
+    requires new { number_at graph.old id.now ≡ None }
     ensures has { IfOk result (λ found. is_some found
-        ≡ is_some (entry_at (followed first_parent (S.history graph.old.source)) id)) }
+        ≡ is_some (entry_at (followed first_parent (S.history graph.old.source)) id.now)) }
     ensures found { IfOk result (λ found. IfSome found
-        (IsMet (followed first_parent (S.history graph.old.source)) id)) }
+        (IsMet (followed first_parent (S.history graph.old.source)) id.now)) }
     ensures held { IfOk result (λ found. (q : ObjectId) → held_at graph.new q
-        ≡ cond (is_some found && same_id id q) (Some marks) (held_at graph.old q)) }
+        ≡ cond (is_some found && same_id id.now q) (Some marks) (held_at graph.old q)) }
     ensures number { IfOk result (λ found. IfSome found (λ m. IsNumbered graph.new m.1)) }
     ensures numbers { OnOk result (KeepsNumbers graph.old graph.new) }
     ensures noted { OnOk result ((q : ObjectId) → noted_at graph.new q ≡ noted_at graph.old q) }
@@ -185,15 +185,20 @@ pub(crate) fn take_in<S: Find, A: Allocator + Copy>(
         (λ _. (q : ObjectId) → held_at graph.old q ≡ None → noted_at graph.new q ≡ false)) }
     ensures kept { OnErr result (graph.new.held ≡ graph.old.held) }
     ensures asked { Asks S.history S.fault_count
-        (IsHandRefused (followed first_parent (S.history graph.old.source)) child)
+        (IsHandRefused (followed first_parent (S.history graph.old.source)) child.now)
         graph.old.source graph.new.source (refusal result) }
 {
-    let Ok(told) = numbers::hold_told(graph, id, guess, marks) else {
+    let Ok(told) = numbers::hold_told(graph, *id, guess, marks) else {
         return Err(Message::OutOfMemory);
     };
     if let Some((time, number, spot)) = told {
         let spot = guess_at(spot);
-        return Ok(Some((time, Met { id, number, spot })));
+        let met = Met {
+            id: *id,
+            number,
+            spot,
+        };
+        return Ok(Some((time, met)));
     }
-    ask_in(alloc, id, child, marks, first_parent, graph)
+    ask_in(alloc, *id, *child, marks, first_parent, graph)
 }

@@ -87,9 +87,9 @@ impl<A: Allocator + Copy> Walk<A> {
         let start = search.start;
         let Some((_, met)) = take_in(
             alloc,
-            start,
+            &start,
             numbers::NOWHERE,
-            start,
+            &start,
             0,
             search.first_parent,
             graph,
