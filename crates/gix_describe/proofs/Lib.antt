@@ -20,6 +20,7 @@ pub mod Handing
 pub mod Numbering
 pub mod Marking
 pub mod LookedUp
+pub mod Queued
 pub mod WalkQueue
 pub mod Lacking
 pub mod WalkSteps

@@ -4,4 +4,4 @@ use Rattle.gix_describe.specs.Queued.{entry_of}
 use Rattle.gix_describe.proofs.describe.queue.Queue.is_empty.Goals as goal
 
 pub returns : goal.returns
-returns g c = c.is_empty.ensures ∙ ap (λ n. n == 0) (sym (length-map c.args.self.now.places entry_of))
+returns g c = rw (← c.self.view_is) (c.is_empty.ensures ∙ ap (λ n. n == 0) (sym (length-map c.self.inside.places entry_of)))
