@@ -151,39 +151,39 @@ impl<A: Allocator + Copy> Walk<A> {
         Ok(())
     }
 
-    /// A popped commit becomes a candidate where it is named. Where there is no room for it, it goes
-    /// back to the queue: `None`.
+    /// A popped commit becomes a candidate where it is named: `true`. Where there is no room for it, it goes
+    /// back to the queue: `false`.
     fn admit<'name, S: Find>(
         &mut self,
-        next: (Key, Met),
+        key: Key,
+        met: &Met,
         names: &Names<'name, A>,
         sieve: &Sieve,
         search: Search,
         graph: &mut Graph<S, u32, A>,
-    ) -> Result<Option<Met>, Message>
+    ) -> Result<bool, Message>
         requires some { 0 < search.cap }
         requires cap { search.cap ≤ 32 }
         requires sieve { LetsPass sieve.now.words (names_of names.now.entries) }
-        requires taken { TakesBy (S.history graph.old.source) search (names_of names.now.entries) next self.old graph.old }
-        ensures admitted { IfOk result (λ r. MatchOption r
-            (IsFullBy (S.history graph.old.source) search (names_of names.now.entries) self.new graph.new)
-            (λ met. AdmitsBy (S.history graph.old.source) search (names_of names.now.entries) met self.new graph.new)) }
+        requires taken { TakesBy (S.history graph.old.source) search (names_of names.now.entries) (key, met.now) self.old graph.old }
+        ensures admitted { IfOk result (λ admitted. MatchBool admitted
+            (AdmitsBy (S.history graph.old.source) search (names_of names.now.entries) met.now self.new graph.new)
+            (IsFullBy (S.history graph.old.source) search (names_of names.now.entries) self.new graph.new)) }
         ensures refused { IfErr result (λ e. e ≡ Message.OutOfMemory) }
         ensures seen { self.new.seen ≡ self.old.seen }
         ensures source { graph.new.source ≡ graph.old.source }
     {
-        let (key, met) = next;
         if !has_name(names, sieve, &met.id) {
-            return Ok(Some(met));
+            return Ok(true);
         }
         if self.candidates.len() < search.cap {
-            self.take_up(&met, graph)?;
-            return Ok(Some(met));
+            self.take_up(met, graph)?;
+            return Ok(true);
         }
-        if self.queue.insert(key, met).is_err() {
+        if self.queue.insert(key, *met).is_err() {
             return Err(Message::OutOfMemory);
         }
-        Ok(None)
+        Ok(false)
     }
 
     /// A popped commit is counted, and its parents are met. Where all that is left lies below each
@@ -254,9 +254,11 @@ impl<A: Allocator + Copy> Walk<A> {
         ensures asked { AsksBy S.history S.fault_count search graph.old.source graph.new.source (refusal result) }
     {
         while let Some(next) = self.next() {
-            let Some(met) = self.admit(next, names, sieve, search, graph)? else {
+            let (key, met) = next;
+            let admitted = self.admit(key, &met, names, sieve, search, graph)?;
+            if !admitted {
                 return Ok(true);
-            };
+            }
             let settled = self.pass(alloc, &met, names, search, graph)?;
             if settled {
                 return Ok(false);
