@@ -68,7 +68,7 @@ impl Sieve {
     }
 
     /// Each of the names passes, and of the other ids a few.
-    fn through<'name, A: Allocator>(names: &Names<'name, A>) -> Sieve
+    fn of_few<'name, A: Allocator>(names: &Names<'name, A>) -> Sieve
         ensures { LetsPass result.words (names_of names.now.entries) }
     {
         let mut sieve = Sieve { words: [0u64; 64] };
@@ -87,7 +87,7 @@ impl Sieve {
                 words: [u64::MAX; 64],
             };
         }
-        Sieve::through(names)
+        Sieve::of_few(names)
     }
 }
 

@@ -4,7 +4,7 @@ use Rattle.gix_revwalk.specs.History.{is_one_of}
 use Rattle.gix_describe.specs.Outcomes.{names_of}
 use Rattle.gix_describe.specs.Sieve.{bit_in}
 use Rattle.gix_describe.specs.Trace.{is_named}
-use Rattle.gix_describe.proofs.describe.sieve.Sieve.through.Given as goal
+use Rattle.gix_describe.proofs.describe.sieve.Sieve.of_few.Given as goal
 
 abbrev pub invariant-loop-id : goal.invariant-loop-id
 invariant-loop-id g l = (c : ObjectId) → IsTrue (is_named (names_of l.names.entries) c) → (bit_in l.sieve.words c ≡ 1) ⊎ (is_one_of l.id-iterator c ≡ true)

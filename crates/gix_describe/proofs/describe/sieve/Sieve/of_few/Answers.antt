@@ -4,7 +4,7 @@ use Rattle.std.proofs.lemmas.Map.Iter.{rest_all, rest_more}
 use Rattle.gix_revwalk.specs.History.{is_one_of}
 use Rattle.gix_describe.proofs.Sieve.{one_less}
 use Rattle.gix_describe.proofs.WalkSteps.{names_is}
-use Rattle.gix_describe.proofs.describe.sieve.Sieve.through.Goals as goal
+use Rattle.gix_describe.proofs.describe.sieve.Sieve.of_few.Goals as goal
 
 pub loop-id-init : goal.loop-id-init
 loop-id-init g c = λ q named. inr (sym (c.keys.ensures.has q) ∙ sym (names_is c.args.names.now.entries q _ refl) ∙ named)
