@@ -1,6 +1,6 @@
 -- A file's history with newer commits behind it, to which one is put that both lack.
-use Rattle.std.proofs.Common.{◌≡◌, [], ◌∷◌, ◌++◌, Option, Some, None, is_some, cond, Bool, true, false, IsTrue, refl, sym, ap, ◌∙◌}
-use Rattle.std.specs.Prelude.{Result, Ok, Err, OnOk, OnErr, IfErr}
+use Rattle.std.proofs.Common.{◌≡◌, [], ◌∷◌, ◌++◌, Option, Some, None, is_some, cond, true, false, refl, sym, ap, ◌∙◌}
+use Rattle.std.specs.Prelude.{Result, Ok, Err, OnOk, IfErr}
 use Rattle.gix_base.specs.declared.hash.ObjectId.{ObjectId}
 use Rattle.std.proofs.lemmas.List.{append-nil}
 use Rattle.gix_revwalk.proofs.Ids.{same_id-true, same_id-itself}

@@ -11,12 +11,12 @@ use Rattle.gix_revwalk.proofs.Ids.{same_id-true, same_id-itself}
 use Rattle.gix_merge_base.specs.Marks.{MarkSet, level}
 use Rattle.gix_merge_base.specs.Counting.{times, unstale, Counts, CountsUnmet}
 
-same_sum : (f g : ObjectId → ℕ) → ((c : ObjectId) → g c ≡ f c) → (q : List ObjectId) → sum_by g q ≡ sum_by f q
+pub same_sum : (f g : ObjectId → ℕ) → ((c : ObjectId) → g c ≡ f c) → (q : List ObjectId) → sum_by g q ≡ sum_by f q
 same_sum f g e [] = refl
 same_sum f g e (x ∷ xs) = let a = sum_by-cons f x xs in let b = sum_by-cons g x xs in let i = same_sum f g e xs in let s = e x in omega arith
 
 -- what stands for one at id and now for nothing
-less_sum : (id : ObjectId) (f g : ObjectId → ℕ) → f id ≡ 1 → g id ≡ 0 → ((c : ObjectId) → same_id id c ≡ false → g c ≡ f c) → (q : List ObjectId) → sum_by g q + times id q ≡ sum_by f q
+pub less_sum : (id : ObjectId) (f g : ObjectId → ℕ) → f id ≡ 1 → g id ≡ 0 → ((c : ObjectId) → same_id id c ≡ false → g c ≡ f c) → (q : List ObjectId) → sum_by g q + times id q ≡ sum_by f q
 less_sum id f g one none e [] = refl
 less_sum id f g one none e (x ∷ xs) =
     let a = sum_by-cons f x xs in

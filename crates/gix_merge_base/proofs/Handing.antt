@@ -45,7 +45,7 @@ and_false : (x y : Bool) → (x && y) ≡ false → (x ≡ false) ⊎ (y ≡ fal
 and_false true y h = inr h
 and_false false y h = inl refl
 
-marks_more : (w a : MarkSet) → has_marks a w ≡ false → marks_in a + 1 ≤ marks_in (joined w a)
+pub marks_more : (w a : MarkSet) → has_marks a w ≡ false → marks_in a + 1 ≤ marks_in (joined w a)
 marks_more w a h =
     let x = no_less w.one a.one in
     let y = no_less w.two a.two in
@@ -59,11 +59,11 @@ marks_more w a h =
     ]
 
 -- marks that grow at each id, and by one at p
-total_no_less : (ids : List ObjectId) (m m' : ObjectId → MarkSet) → ((c : ObjectId) → marks_in (m c) ≤ marks_in (m' c)) → total ids m ≤ total ids m'
+pub total_no_less : (ids : List ObjectId) (m m' : ObjectId → MarkSet) → ((c : ObjectId) → marks_in (m c) ≤ marks_in (m' c)) → total ids m ≤ total ids m'
 total_no_less [] m m' k = omega arith
 total_no_less (x ∷ xs) m m' k = let a = k x in let b = total_no_less xs m m' k in omega arith
 
-total_more : (ids : List ObjectId) (m m' : ObjectId → MarkSet) (p : ObjectId) → ((c : ObjectId) → marks_in (m c) ≤ marks_in (m' c)) → marks_in (m p) + 1 ≤ marks_in (m' p)
+pub total_more : (ids : List ObjectId) (m m' : ObjectId → MarkSet) (p : ObjectId) → ((c : ObjectId) → marks_in (m c) ≤ marks_in (m' c)) → marks_in (m p) + 1 ≤ marks_in (m' p)
     → IsTrue (is_one_of ids p) → total ids m + 1 ≤ total ids m'
 total_more [] m m' p k more h = cc
 total_more (x ∷ xs) m m' p k more h =

@@ -21,7 +21,7 @@ use Rattle.gix_revwalk.proofs.Members.{one_of-filter, one_of-filtered, distinct_
 use Rattle.gix_merge_base.proofs.Choice.{choice_total, choice-same, candidate_cmp, greater_first}
 
 -- the order tells ids apart as their bytes do
-choice_ties : (h : History) (x y : ObjectId) → same_id x y ≡ eq_by_cmp (choice h) x y
+pub choice_ties : (h : History) (x y : ObjectId) → same_id x y ≡ eq_by_cmp (choice h) x y
 choice_ties h x y =
     elim (same_id x y) as (λ b. same_id x y ≡ b → b ≡ eq_by_cmp (choice h) x y) [
       | true ↦ λ e. sym (ap (λ z. is_eq (choice h x z)) (sym (same_id-true x y e)) ∙ ap is_eq (tied_itself (choice_total h) x))

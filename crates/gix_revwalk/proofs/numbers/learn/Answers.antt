@@ -1,4 +1,4 @@
-use Rattle.std.proofs.Common.{rules, w64, ◌≡◌, ap, sym, is_some}
+use Rattle.std.proofs.Common.{rules, w64, ap, sym, is_some}
 use Rattle.std.specs.Int.RustNames.{FitsSigned as SFits}
 use Rattle.std.proofs.lemmas.Int.{to_z-of_z}
 use Rattle.gix_revwalk.specs.History.{parents_in, time_in}

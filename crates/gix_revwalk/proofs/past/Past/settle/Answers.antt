@@ -1,4 +1,4 @@
-use Rattle.std.proofs.Common.{◌≡◌, ◌∙◌, ap, cond, Some}
+use Rattle.std.proofs.Common.{◌∙◌, ap, cond, Some}
 use Rattle.gix_revwalk.specs.History.{same_id}
 use Rattle.gix_revwalk.specs.Number.{place_in}
 use Rattle.gix_revwalk.proofs.past.Past.settle.Goals as goal
