@@ -47,3 +47,6 @@ alone_first k p ps none =
 pub none_in : {X : Type 0} (xs : List X) → (length xs == 0) ≡ true → xs ≡ []
 none_in [] e = refl
 none_in (x ∷ xs) e = absurd (let n : length (x ∷ xs) ≡ 0 = grind arith in omega arith)
+
+pub not_empty : {X : Type 0} (x : X) (xs : List X) → false ≡ (length (x ∷ xs) == 0)
+not_empty x xs = grind arith

@@ -34,7 +34,7 @@ one_less words more id c left rest is own others (inr comes) = elim (same_id c i
 
 -- what does not pass has no name
 pub kept_back : (names : Names) (c : ObjectId) (n : ℕ) → (is_named names c ≡ true → n ≡ 1) → (n == 1) ≡ false → false ≡ is_named names c
-kept_back names c n passes no = elim (is_named names c) as (λ b. is_named names c ≡ b → false ≡ b) [
-  | true ↦ λ e. absurd (let yes : (n == 1) ≡ true = ap (λ k. k == 1) (passes e) in let f : true ≡ false = sym yes ∙ no in cc)
+kept_back names c n passes kept = elim (is_named names c) as (λ b. is_named names c ≡ b → false ≡ b) [
+  | true ↦ λ e. absurd (let yes : (n == 1) ≡ true = ap (λ k. k == 1) (passes e) in let f : true ≡ false = sym yes ∙ kept in cc)
   | false ↦ λ e. refl
 ] refl

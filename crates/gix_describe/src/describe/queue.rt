@@ -142,7 +142,7 @@ impl<A: Allocator> Queue<A> {
     pub(crate) fn is_empty(&self) -> bool
         ensures { result ≡ (length self.now == 0) }
     {
-        if self.alone.is_some() {
+        if let Some(_) = self.alone {
             return false;
         }
         self.places.is_empty()

@@ -72,7 +72,8 @@ impl Sieve {
         ensures { LetsPass result.words (names_of names.now.entries) }
     {
         let mut sieve = Sieve { words: [0u64; 64] };
-        for id in names.keys() {
+        let mut ids = names.keys();
+        while let Some(id) = ids.next() {
             sieve.let_pass(id);
         }
         sieve

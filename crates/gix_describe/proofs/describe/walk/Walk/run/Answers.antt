@@ -31,7 +31,7 @@ pub admit-requires-clause-sieve : goal.admit-requires-clause-sieve
 admit-requires-clause-sieve g c = c.requires.sieve
 
 pub pass-requires-clause-admitted : goal.pass-requires-clause-admitted
-pass-requires-clause-admitted g c = rw c.admit.ensures.source (rw c.if-not-admitted.false at c.in_ok-admitted.ensures.admitted)
+pass-requires-clause-admitted g c = rw (c.if-not-admitted.false, ← c.admit.ensures.source) at c.in_ok-admitted.ensures.admitted
 
 pub loop-next-preserved : goal.loop-next-preserved
 loop-next-preserved g c =
