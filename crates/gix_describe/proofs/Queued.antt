@@ -1,5 +1,5 @@
 -- Commits that enter and leave a queue, by the entries that it keeps.
-use Rattle.std.proofs.Common.{◌≡◌, ◌==◌, ℕ, true, false, refl, ap, sym, subst, List, [], ◌∷◌, map, length, arith}
+use Rattle.std.proofs.Common.{◌≡◌, ◌==◌, true, false, refl, ap, sym, subst, List, [], ◌∷◌, map, length, arith}
 use Rattle.std.specs.List.Sorted.{IsPermutation}
 use Rattle.std.specs.Ordering.{nat_cmp, int_cmp, ordering_then, ordering_reverse, is_lt}
 use Rattle.std.specs.Cmp.Lexicographic.{slice_cmp}

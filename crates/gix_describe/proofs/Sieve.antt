@@ -1,5 +1,5 @@
 -- Bits of ids that are set one after another.
-use Rattle.std.proofs.Common.{◌≡◌, ◌==◌, ◌<◌, ◌%◌, ℕ, true, false, refl, ap, sym, subst, ◌∙◌, List, ◌∷◌, ◌||◌, ◌⊎◌, inl, inr, length, set, slice_index, arith}
+use Rattle.std.proofs.Common.{◌≡◌, ◌==◌, ◌<◌, ◌%◌, ℕ, true, false, refl, ap, sym, subst, ◌∙◌, List, ◌∷◌, ◌||◌, ◌⊎◌, inl, inr, length, set, slice_index}
 use Rattle.std.specs.Int.{bit_at}
 use Rattle.std.proofs.lemmas.Bool.{cases_eq}
 use Rattle.std.proofs.lemmas.List.{get_or-set_same, get_or-set_other}

@@ -1,5 +1,4 @@
 -- What a queue keeps of a commit beside its key.
-use Rattle.std.specs.Prelude.{List}
 use Rattle.gix_describe.specs.declared.describe.key.Key.{Key}
 use Rattle.gix_describe.specs.declared.describe.met.Met.{Met}
 use Rattle.gix_describe.specs.declared.describe.queue.Place.{Place}

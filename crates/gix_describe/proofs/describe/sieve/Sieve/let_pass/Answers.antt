@@ -1,4 +1,4 @@
-use Rattle.std.proofs.Common.{rules, ◌≡◌, ◌<◌, ◌∙◌, ap, sym, length}
+use Rattle.std.proofs.Common.{rules, ◌<◌, ◌∙◌, ap, sym, length}
 use Rattle.std.specs.Int.{bit_at}
 use Rattle.gix_describe.proofs.Sieve.{others_stay, own_is_set}
 use Rattle.gix_describe.proofs.describe.sieve.Sieve.let_pass.Goals as goal
