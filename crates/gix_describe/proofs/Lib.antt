@@ -20,9 +20,11 @@ pub mod Handing
 pub mod Numbering
 pub mod Marking
 pub mod LookedUp
+pub mod Queued
 pub mod WalkQueue
 pub mod Lacking
 pub mod WalkSteps
+pub mod Sieve
 pub mod Choosing
 pub mod PopsCounted
 pub mod OrderWalks

@@ -1,9 +1,8 @@
 -- The candidate that is chosen is the one that the fixed order names.
-use Rattle.gix_revwalk.proofs.Ids.{same_id-true, same_id-itself}
 use Rattle.gix_revwalk.proofs.Members.{one_of-right, one_of-head}
 use Rattle.std.proofs.Common.{◌≡◌, ℕ, Bool, true, false, refl, ap, sym, subst, ◌∙◌, List, [], ◌∷◌, ◌++◌, ◌⊎◌, inl, inr, IsTrue, get_or, length, slice_index, take, Option, ◌≤◌, ◌<◌, ◌+◌, arith, append_assoc, ◌-◌}
 use Rattle.std.specs.Bool.{MatchBool}
-use Rattle.std.specs.List.{filter, list_any}
+use Rattle.std.specs.List.{filter}
 use Rattle.std.specs.Option.{unwrap_or}
 use Rattle.std.specs.Ordering.{nat_cmp, ordering_then, is_lt, is_gt}
 use Rattle.std.specs.Cmp.Lexicographic.{slice_cmp}
@@ -14,18 +13,18 @@ use Rattle.std.proofs.lemmas.Cmp.{nat_cmp_total, tied_itself}
 use Rattle.std.proofs.lemmas.List.{take_all, take-append-le, length_push}
 use Rattle.gix_base.specs.declared.hash.ObjectId.{ObjectId}
 use Rattle.gix_revwalk.specs.Graph.{Graphed, held_at}
-use Rattle.gix_revwalk.specs.History.{History, is_one_of, Has, same_id, IsEdge}
+use Rattle.gix_revwalk.specs.History.{History, is_one_of, Has}
 use Rattle.gix_describe.specs.Described.{Names, IsNamed}
 use Rattle.gix_describe.specs.Order.{Reaches, IsLate, IsCandidate, IsFewest, IsPreferred, EndsAt, IsCut, IsTied, IsPast, IsLedTo, HoldsFirst}
 use Rattle.gix_describe.specs.Counted.{CountsNamed}
 use Rattle.gix_describe.specs.Choice.{rank_order, name_of, IsChosen}
-use Rattle.gix_describe.specs.Trace.{late_of, is_named, IsNext, IsWalk, is_edge, is_met}
+use Rattle.gix_describe.specs.Trace.{late_of, is_named, IsNext, IsWalk}
 use Rattle.gix_describe.specs.WalkState.{IsCounted, IsHeld, IsEnded, IsFull, IsComplete, IsUnsettled, IsUnsettledBefore, SettlesLast}
 use Rattle.gix_describe.proofs.CutEnds.{cut_ended, cut_full, past_full, settled_last, end_last, past_is}
 use Rattle.gix_describe.specs.declared.describe.walk.Walk.{Walk}
 use Rattle.gix_describe.proofs.Early.{In}
 use Rattle.gix_describe.proofs.Counts.{size_one}
-use Rattle.gix_describe.proofs.Traces.{Open, Marked, or_split, or_left, or_right}
+use Rattle.gix_describe.proofs.Traces.{Open, Marked}
 use Rattle.gix_describe.proofs.WalkQueue.{started}
 use Rattle.gix_describe.proofs.WalkEnds.{candidate_in, candidate_at, chosen_lowest}
 use Rattle.gix_describe.proofs.OrderWalks.{IsPrefix, walk_prefix, order_unique, late_there, late_final, met_led, led_met}

@@ -8,6 +8,9 @@ mod met;
 mod options;
 mod outcome;
 mod queries;
+mod queue;
+mod sieve;
+mod tally;
 mod walk;
 
 pub use format::Format;

@@ -1,6 +1,6 @@
 //! Commits that a walk meets, as the source has them.
 
-ghost use Rattle.std.specs.Prelude.{◌≡◌, ◌&&◌, IfOk, IfSome, OnErr, OnOk, Some, None, is_some, cond, false, map};
+ghost use Rattle.std.specs.Prelude.{◌≡◌, ◌&&◌, IfOk, IfSome, OnErr, OnOk, Some, None, is_some, cond, false, map, min};
 ghost use Rattle.gix_revwalk.specs.Followed.{followed};
 ghost use Rattle.gix_revwalk.specs.Pasts.{link_id};
 ghost use Rattle.gix_revwalk.specs.History.{History, entry_at, parents_in, same_id};
@@ -15,24 +15,27 @@ ghost use Rattle.gix_describe.specs.HandRefusals.{hand_refusal};
 ghost use Rattle.gix_describe.specs.Handing.{IsMet};
 ghost use Rattle.gix_describe.specs.Numbered.{IsNumbered, KeepsNumbers};
 
-use crate::describe::key::Key;
 use gix_base::error::Message;
 use gix_base::hash::ObjectId;
 use gix_revwalk::graph::{self, Find, Graph};
 use gix_revwalk::numbers::{self, Link, Number};
-use gix_revwalk::queue::PriorityQueue;
 use std::alloc::Allocator;
 
-/// A commit that is met: its id, and its number and its spot in the graph.
+/// A commit that is met: its id, its number in the graph, and a guess at its spot there.
 #[derive(Clone, Copy)]
 pub(crate) struct Met {
     pub(crate) id: ObjectId,
     pub(crate) number: Number,
-    pub(crate) spot: usize,
+    pub(crate) spot: u32,
 }
 
-/// The commits that are met and not yet popped, by their keys.
-pub(crate) type Queue<A> = PriorityQueue<Key, Met, A>;
+/// A guess at a spot, in 32 bits.
+#[inline(always)]
+fn guess_at(spot: usize) -> u32
+    ensures { result ≡ min spot 4294967295 }
+{
+    spot.min(u32::MAX as usize) as u32
+}
 
 /// Why a look-up for a child is refused.
 fn refused_for(error: graph::Error, child: ObjectId) -> Message
@@ -79,7 +82,7 @@ fn parents_for<S: Find, A: Allocator + Copy>(
     ensures asked { (h : History) → Asks S.history S.fault_count (IsHandRefused h met.now.id)
         graph.old.source graph.new.source (refusal result) }
 {
-    match numbers::parents_near(graph, alloc, &met.id, met.spot, row) {
+    match numbers::parents_near(graph, alloc, &met.id, met.spot as usize, row) {
         Ok(()) => Ok(()),
         Err(error) => Err(refused_for(error, met.id)),
     }
@@ -146,6 +149,7 @@ fn ask_in<S: Find, A: Allocator + Copy>(
     let Ok((number, spot)) = numbers::add_near(graph, id, spot, marks) else {
         return Err(Message::OutOfMemory);
     };
+    let spot = guess_at(spot);
     Ok(Some((time, Met { id, number, spot })))
 }
 
@@ -160,20 +164,20 @@ fn ask_in<S: Find, A: Allocator + Copy>(
 #[inline(always)]
 pub(crate) fn take_in<S: Find, A: Allocator + Copy>(
     alloc: A,
-    id: ObjectId,
+    id: &ObjectId,
     guess: usize,
-    child: ObjectId,
+    child: &ObjectId,
     marks: u32,
     first_parent: bool,
     graph: &mut Graph<S, u32, A>,
 ) -> Result<Option<(i64, Met)>, Message>
-    requires new { number_at graph.old id ≡ None }
+    requires new { number_at graph.old id.now ≡ None }
     ensures has { IfOk result (λ found. is_some found
-        ≡ is_some (entry_at (followed first_parent (S.history graph.old.source)) id)) }
+        ≡ is_some (entry_at (followed first_parent (S.history graph.old.source)) id.now)) }
     ensures found { IfOk result (λ found. IfSome found
-        (IsMet (followed first_parent (S.history graph.old.source)) id)) }
+        (IsMet (followed first_parent (S.history graph.old.source)) id.now)) }
     ensures held { IfOk result (λ found. (q : ObjectId) → held_at graph.new q
-        ≡ cond (is_some found && same_id id q) (Some marks) (held_at graph.old q)) }
+        ≡ cond (is_some found && same_id id.now q) (Some marks) (held_at graph.old q)) }
     ensures number { IfOk result (λ found. IfSome found (λ m. IsNumbered graph.new m.1)) }
     ensures numbers { OnOk result (KeepsNumbers graph.old graph.new) }
     ensures noted { OnOk result ((q : ObjectId) → noted_at graph.new q ≡ noted_at graph.old q) }
@@ -181,14 +185,20 @@ pub(crate) fn take_in<S: Find, A: Allocator + Copy>(
         (λ _. (q : ObjectId) → held_at graph.old q ≡ None → noted_at graph.new q ≡ false)) }
     ensures kept { OnErr result (graph.new.held ≡ graph.old.held) }
     ensures asked { Asks S.history S.fault_count
-        (IsHandRefused (followed first_parent (S.history graph.old.source)) child)
+        (IsHandRefused (followed first_parent (S.history graph.old.source)) child.now)
         graph.old.source graph.new.source (refusal result) }
 {
-    let Ok(told) = numbers::hold_told(graph, id, guess, marks) else {
+    let Ok(told) = numbers::hold_told(graph, *id, guess, marks) else {
         return Err(Message::OutOfMemory);
     };
     if let Some((time, number, spot)) = told {
-        return Ok(Some((time, Met { id, number, spot })));
+        let spot = guess_at(spot);
+        let met = Met {
+            id: *id,
+            number,
+            spot,
+        };
+        return Ok(Some((time, met)));
     }
-    ask_in(alloc, id, child, marks, first_parent, graph)
+    ask_in(alloc, *id, *child, marks, first_parent, graph)
 }

@@ -18,17 +18,20 @@ ghost use Rattle.gix_describe.specs.Lacking.{lacks, lacking_in};
 ghost use Rattle.gix_describe.specs.Numbered.{IsNumbered, KeepsNumbers};
 ghost use Rattle.gix_describe.specs.Order.{HoldsFirst, IsTied};
 ghost use Rattle.gix_describe.specs.Outcomes.{names_of};
+ghost use Rattle.gix_describe.specs.Sieve.{LetsPass};
 ghost use Rattle.gix_describe.specs.Searches.{along, RestsBy, TakesBy, AdmitsBy, IsEndedBy, IsFullBy, CompletesBy, CompletesTakenBy, IsCompleteBy, IsHeldAtFaultBy, AsksBy};
 
-use crate::describe::handing::{Hand, bit_of, count_late, hand_on, is_settled, mark, marks_of};
+use crate::describe::handing::{Hand, count_late, hand_on, is_settled, mark, marks_of};
 use crate::describe::key::Key;
-use crate::describe::met::{Met, Queue, take_in};
+use crate::describe::met::{Met, take_in};
 use crate::describe::options::Names;
+use crate::describe::queue::Queue;
+use crate::describe::sieve::{Sieve, has_name};
+use crate::describe::tally::{Lacking, Uncounted, bit_of};
 use gix_base::error::Message;
 use gix_base::hash::ObjectId;
 use gix_revwalk::graph::{Find, Graph};
 use gix_revwalk::numbers::{self, Link};
-use gix_revwalk::queue::PriorityQueue;
 use std::alloc::Allocator;
 use std::cmp::Ordering;
 
@@ -84,9 +87,9 @@ impl<A: Allocator + Copy> Walk<A> {
         let start = search.start;
         let Some((_, met)) = take_in(
             alloc,
-            start,
+            &start,
             numbers::NOWHERE,
-            start,
+            &start,
             0,
             search.first_parent,
             graph,
@@ -94,7 +97,7 @@ impl<A: Allocator + Copy> Walk<A> {
         else {
             return Err(Message::MissingStart(start));
         };
-        let mut queue = PriorityQueue::new(alloc);
+        let mut queue = Queue::new(alloc);
         let key = Key {
             time: i64::MAX,
             id: start,
@@ -148,37 +151,39 @@ impl<A: Allocator + Copy> Walk<A> {
         Ok(())
     }
 
-    /// A popped commit becomes a candidate where it is named. Where there is no room for it, it goes
-    /// back to the queue: `None`.
+    /// A popped commit becomes a candidate where it is named: `true`. Where there is no room for it, it goes
+    /// back to the queue: `false`.
     fn admit<'name, S: Find>(
         &mut self,
-        next: (Key, Met),
+        key: Key,
+        met: &Met,
         names: &Names<'name, A>,
+        sieve: &Sieve,
         search: Search,
         graph: &mut Graph<S, u32, A>,
-    ) -> Result<Option<Met>, Message>
+    ) -> Result<bool, Message>
         requires some { 0 < search.cap }
         requires cap { search.cap ≤ 32 }
-        requires taken { TakesBy (S.history graph.old.source) search (names_of names.now.entries) next self.old graph.old }
-        ensures admitted { IfOk result (λ r. MatchOption r
-            (IsFullBy (S.history graph.old.source) search (names_of names.now.entries) self.new graph.new)
-            (λ met. AdmitsBy (S.history graph.old.source) search (names_of names.now.entries) met self.new graph.new)) }
+        requires sieve { LetsPass sieve.now.words (names_of names.now.entries) }
+        requires taken { TakesBy (S.history graph.old.source) search (names_of names.now.entries) (key, met.now) self.old graph.old }
+        ensures admitted { IfOk result (λ admitted. MatchBool admitted
+            (AdmitsBy (S.history graph.old.source) search (names_of names.now.entries) met.now self.new graph.new)
+            (IsFullBy (S.history graph.old.source) search (names_of names.now.entries) self.new graph.new)) }
         ensures refused { IfErr result (λ e. e ≡ Message.OutOfMemory) }
         ensures seen { self.new.seen ≡ self.old.seen }
         ensures source { graph.new.source ≡ graph.old.source }
     {
-        let (key, met) = next;
-        if !names.contains_key(&met.id) {
-            return Ok(Some(met));
+        if !has_name(names, sieve, &met.id) {
+            return Ok(true);
         }
         if self.candidates.len() < search.cap {
-            self.take_up(&met, graph)?;
-            return Ok(Some(met));
+            self.take_up(met, graph)?;
+            return Ok(true);
         }
-        if self.queue.insert(key, met).is_err() {
+        if self.queue.insert(key, *met).is_err() {
             return Err(Message::OutOfMemory);
         }
-        Ok(None)
+        Ok(false)
     }
 
     /// A popped commit is counted, and its parents are met. Where all that is left lies below each
@@ -213,9 +218,8 @@ impl<A: Allocator + Copy> Walk<A> {
         let hand = Hand {
             marks,
             first_parent: search.first_parent,
-            place: None,
         };
-        let mut uncounted = 0;
+        let mut uncounted = Uncounted;
         hand_on(
             alloc,
             met,
@@ -234,11 +238,13 @@ impl<A: Allocator + Copy> Walk<A> {
         &mut self,
         alloc: A,
         names: &Names<'name, A>,
+        sieve: &Sieve,
         search: Search,
         graph: &mut Graph<S, u32, A>,
     ) -> Result<bool, Message>
         requires some { 0 < search.cap }
         requires cap { search.cap ≤ 32 }
+        requires sieve { LetsPass sieve.now.words (names_of names.now.entries) }
         requires unnamed { name_at (names_of names.now.entries) search.start ≡ None }
         requires rests { RestsBy (S.history graph.old.source) search (names_of names.now.entries) self.old graph.old }
         ensures ended { IfOk result (λ full. MatchBool full
@@ -248,9 +254,11 @@ impl<A: Allocator + Copy> Walk<A> {
         ensures asked { AsksBy S.history S.fault_count search graph.old.source graph.new.source (refusal result) }
     {
         while let Some(next) = self.next() {
-            let Some(met) = self.admit(next, names, search, graph)? else {
+            let (key, met) = next;
+            let admitted = self.admit(key, &met, names, sieve, search, graph)?;
+            if !admitted {
                 return Ok(true);
-            };
+            }
             let settled = self.pass(alloc, &met, names, search, graph)?;
             if settled {
                 return Ok(false);
@@ -351,21 +359,24 @@ impl<A: Allocator + Copy> Walk<A> {
         }
         let marks = marks_of(met, graph);
         let late = 1 - bit_of(marks, place);
-        *lacking = lacking.saturating_sub(late as usize);
+        let mut left = Lacking {
+            place,
+            count: lacking.saturating_sub(late as usize),
+        };
         let hand = Hand {
             marks,
             first_parent: search.first_parent,
-            place: Some(place),
         };
         hand_on(
             alloc,
             met,
             hand,
             &mut self.row,
-            lacking,
+            &mut left,
             &mut self.queue,
             graph,
         )?;
+        *lacking = left.count;
         Ok((count + late, false))
     }
 
@@ -450,7 +461,8 @@ pub(crate) fn find_name<'name, S: Find, A: Allocator + Copy>(
     ensures asked { AsksBy S.history S.fault_count search graph.old.source graph.new.source (refusal result) }
 {
     let mut walk = Walk::begin(alloc, search, graph)?;
-    let full = walk.run(alloc, names, search, graph)?;
+    let sieve = Sieve::of(names);
+    let full = walk.run(alloc, names, &sieve, search, graph)?;
     let Some(place) = walk.chosen(names) else {
         return Ok(Found {
             best: None,

@@ -1,4 +1,3 @@
-use Rattle.std.proofs.Common.{◌≡◌, ap, sym, Some, refl}
 use Rattle.gix_describe.proofs.LookedUp.{asks_hand}
 use Rattle.gix_describe.proofs.describe.met.asked_for.Goals as goal
 

@@ -27,6 +27,12 @@ admit-requires-clause-taken g c =
     rw c.loop-next.invariant.asked.same_history (takes_of h c.args.search.start (names_of c.args.names.now.entries) c.args.search.cap c.in-Some.next.0 c.in-Some.next.1 c.loop-next.self c.next.new.self c.loop-next.graph rests
     (c.in-Some.ensures.next h c.args.search.start rests.popped) c.in-Some.ensures.taken (ap (λ v. v.items) c.next.ensures.candidates) (ap (λ v. v.items) c.next.ensures.counts) c.next.ensures.seen)
 
+pub admit-requires-clause-sieve : goal.admit-requires-clause-sieve
+admit-requires-clause-sieve g c = c.requires.sieve
+
+pub pass-requires-clause-admitted : goal.pass-requires-clause-admitted
+pass-requires-clause-admitted g c = rw (c.if-not-admitted.false, ← c.admit.ensures.source) at c.in_ok-admitted.ensures.admitted
+
 pub loop-next-preserved : goal.loop-next-preserved
 loop-next-preserved g c =
     let same = c.loop-next.invariant.asked.same_history in
