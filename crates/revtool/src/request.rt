@@ -32,6 +32,8 @@ pub enum Request<'w> {
     Help,
     /// Its version.
     Version,
+    /// A commit-graph file, which is not named.
+    NoFile,
     /// A word that is not read; or one behind which nothing is read.
     Unread(&'w str),
 }
@@ -45,6 +47,7 @@ impl<'w> Request<'w> {
         match (first.as_str(), rest) {
             ("-h" | "--help", []) => Request::Help,
             ("-V" | "--version", []) => Request::Version,
+            ("--commit-graph", []) => Request::NoFile,
             ("--commit-graph", [file]) => Request::AnswersOver(file.as_str()),
             (word, []) => match word.strip_prefix("--commit-graph=") {
                 Some(file) => Request::AnswersOver(file),

@@ -70,6 +70,10 @@ fn serve(rt: &HostRuntime, request: Request<'_>) -> u8 {
         },
         Request::Help => print(rt, HELP),
         Request::Version => print(rt, VERSION),
+        Request::NoFile => {
+            let _ = writeln!(rt.stderr(), "revtool: --commit-graph wants a FILE");
+            UNREAD
+        }
         Request::Unread(word) => {
             let _ = writeln!(
                 rt.stderr(),

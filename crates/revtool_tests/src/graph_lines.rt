@@ -159,7 +159,7 @@ static REQUESTS: [(&str, Request<'static>); 8] = [
     ("--commit-graph=a=b", Request::AnswersOver("a=b")),
     ("--help", Request::Help),
     ("-V", Request::Version),
-    ("--commit-graph", Request::Unread("--commit-graph")),
+    ("--commit-graph", Request::NoFile),
     ("--commit-graph a b", Request::Unread("--commit-graph")),
     ("base", Request::Unread("base")),
     ("--commit-graphs=a", Request::Unread("--commit-graphs=a")),

@@ -3,7 +3,7 @@
 use crate::answers::Outcome;
 use crate::answers::bases::{BaseGraph, print_list};
 use crate::lines::Sides;
-use gix_resolve::{ListError, ahead_behind, count_reachable, newest_first, reachable};
+use gix_resolve::{ListError, ahead_behind, count_reachable, reachable_newest_first};
 use gix_revision::hash::ObjectId;
 use std::alloc::Allocator;
 use std::io::{self, Write};
@@ -30,7 +30,7 @@ pub(super) fn answer_reachable<W: Write, A: Allocator + Copy>(
     graph: &mut BaseGraph<'_, A>,
     output: &mut W,
 ) -> io::Result<Outcome> {
-    match listed(alloc, sides, graph) {
+    match reachable_newest_first(alloc, &sides.shown, &sides.hidden, graph) {
         Ok(ids) => print_list("reachable", &ids, output),
         Err(error) => print_refusal("reachable", error, output),
     }
@@ -48,16 +48,6 @@ pub(super) fn answer_reachable_count<W: Write, A: Allocator + Copy>(
         Err(error) => return print_refusal("reachable-count", error, output),
     }
     Ok(Outcome::Answered)
-}
-
-// What is reached from the shown commits alone, the newest first.
-fn listed<A: Allocator + Copy>(
-    alloc: A,
-    sides: &Sides<A>,
-    graph: &mut BaseGraph<'_, A>,
-) -> Result<Vec<ObjectId, A>, ListError> {
-    let ids = reachable(alloc, &sides.shown, &sides.hidden, graph)?;
-    newest_first(alloc, &ids, graph)
 }
 
 /// The number of the refusal of a list.
