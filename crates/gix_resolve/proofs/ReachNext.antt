@@ -1,5 +1,5 @@
 -- An open commit leaves: what the walk keeps stays right. And where a walk begins.
-use Rattle.std.proofs.Common.{true≢false, ◌⊎◌, ◌≡◌, ℕ, Bool, true, false, cond, refl, ap, sym, subst, ◌∙◌, List, [], ◌∷◌, inl, inr, IsTrue, ◌<◌, ◌≤◌, ◌-◌, min, is_some, Option, Some, None, arith}
+use Rattle.std.proofs.Common.{true≢false, ◌≡◌, ℕ, true, false, cond, refl, ap, sym, subst, ◌∙◌, List, [], ◌∷◌, inl, inr, IsTrue, ◌<◌, ◌≤◌, ◌-◌, is_some, Option, Some, None, arith}
 use Rattle.std.specs.Option.{unwrap_or}
 use Rattle.std.specs.List.{AllByRecursion}
 use Rattle.std.specs.List.Sorted.{IsPermutation}
@@ -55,6 +55,9 @@ module _ {S A B : Type 0} (h : History) (old : Graphed S (Commit Flags A)) (gene
   pub popped_inside : place_in number < held_len old
   popped_inside = (held-permutation (λ p. place_in p.1 < held_len old) walk.front ((generation, number) ∷ rest) taken right.held).0
 
+  pub popped_held : AreHeld old rest
+  popped_held = (held-permutation (λ p. place_in p.1 < held_len old) walk.front ((generation, number) ∷ rest) taken right.held).1
+
   pub popped_key : generation ≡ generation_of h (id_at old (place_in number))
   popped_key = (held-permutation (λ p. p.0 ≡ generation_of h (id_at old (place_in p.1))) walk.front ((generation, number) ∷ rest) taken right.keyed).0
 
@@ -97,6 +100,15 @@ module _ {S A B : Type 0} (h : History) (old : Graphed S (Commit Flags A)) (gene
           (λ c. given-queued old new (place_in number) (record { marks = a.marks; queued = k }) popped_inside given c ∙ ap (λ z. cond (same_id (id_at old (place_in number)) c) z (queued_at old c)) (less ∙ ap (λ (z : Mark Flags). z.queued - 1) had))
           free popped_queue right.tells);
     }
+
+-- the same is kept
+pub right_again : {S A B : Type 0} (h : History) (g : Graphed S (Commit Flags A)) (walk next : Walk B) → next.both ≡ walk.both → next.met.items ≡ walk.met.items → next.front ≡ walk.front → next.unhidden ≡ walk.unhidden → IsRight h g walk → IsRight h g next
+right_again h g walk next both met front unhidden right = record {
+  met = subst (λ b. AreMet b g next.met.items) (sym both) (subst (AreMet walk.both g) (sym met) right.met);
+  held = subst (AreHeld g) (sym front) right.held;
+  keyed = subst (AreKeyed h g) (sym front) right.keyed;
+  tells = rw (both, front, unhidden) right.tells;
+}
 
 -- where nothing is marked
 pub right_none : {S A B : Type 0} (h : History) (g : Graphed S (Commit Flags A)) (walk : Walk B) → ((q : ObjectId) → mark_at g q ≡ None) → walk.met.items ≡ [] → walk.front ≡ [] → walk.unhidden ≡ 0 → IsRight h g walk

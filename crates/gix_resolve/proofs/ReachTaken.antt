@@ -1,5 +1,5 @@
 -- What a walk from two sides takes in is what the sides reach.
-use Rattle.std.proofs.Common.{◌≡◌, ℕ, sym, subst, ◌∙◌, List, [], ◌∷◌, ◌++◌, ◌⊎◌, inl, inr, ◌<◌, get_or, length, IsTrue}
+use Rattle.std.proofs.Common.{◌≡◌, ℕ, sym, subst, ◌∙◌, List, [], ◌∷◌, ◌++◌, ◌<◌, get_or, length, IsTrue}
 use Rattle.std.specs.List.Sorted.{IsPermutation}
 use Rattle.std.proofs.lemmas.List.Sorted.{list_any-IsPermutation}
 use Rattle.gix_base.specs.declared.hash.ObjectId.{ObjectId}

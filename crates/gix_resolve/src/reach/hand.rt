@@ -25,6 +25,7 @@ use gix_revwalk::numbers::{self, Mark, Number};
 use std::alloc::{AllocError, Allocator};
 
 /// A mark; none where there is none.
+#[inline(always)]
 fn mark_in(known: Option<Mark<Flags>>) -> Mark<Flags>
     ensures { result ≡ unwrap_or known no_mark }
 {
@@ -38,6 +39,7 @@ fn mark_in(known: Option<Mark<Flags>>) -> Mark<Flags>
 }
 
 /// What the walk gave a commit; no marks where it gave it nothing.
+#[inline(always)]
 pub(crate) fn mark_of<S: Find, A: Allocator + Copy>(
     graph: &Graph<S, Commit<Flags, A>, A>,
     number: Number,
@@ -49,6 +51,7 @@ pub(crate) fn mark_of<S: Find, A: Allocator + Copy>(
 }
 
 /// The generation of a commit; an absent one counts as the greatest.
+#[inline(always)]
 fn generation_at<S: Find, A: Allocator + Copy>(
     graph: &Graph<S, Commit<Flags, A>, A>,
     number: Number,
@@ -61,8 +64,19 @@ fn generation_at<S: Find, A: Allocator + Copy>(
         .unwrap_or(u32::MAX)
 }
 
+/// The time of a commit.
+pub(crate) fn time_at<S: Find, A: Allocator + Copy>(
+    graph: &Graph<S, Commit<Flags, A>, A>,
+    number: Number,
+) -> i64
+    requires { place_in number < held_len graph.now }
+{
+    numbers::value(graph, number).commit_time()
+}
+
 /// Puts a commit that is hidden among the open ones. Where generations do not tell them apart it stands there
 /// again, before those that are not hidden.
+#[inline(always)]
 fn open_hidden<S: Find, A: Allocator + Copy>(
     number: Number,
     queued: u32,
@@ -128,6 +142,7 @@ fn meet<A: Allocator>(
 }
 
 /// Puts marks beside those of a commit that was not hidden and is so then, and opens it.
+#[inline(always)]
 fn hide<S: Find, A: Allocator + Copy>(
     number: Number,
     old: Mark<Flags>,
@@ -157,6 +172,7 @@ fn hide<S: Find, A: Allocator + Copy>(
 }
 
 /// Puts marks beside those of a commit that is not hidden then, and opens it. It is met where it had no mark.
+#[inline(never)]
 fn show<S: Find, A: Allocator + Copy>(
     number: Number,
     unmarked: bool,
@@ -189,6 +205,7 @@ fn show<S: Find, A: Allocator + Copy>(
 }
 
 /// Hands marks to a commit, which is opened where it lacked one of them. A hidden one needs none.
+#[inline(always)]
 pub(crate) fn hand<S: Find, A: Allocator + Copy>(
     number: Number,
     marks: Flags,

@@ -14,13 +14,13 @@ ghost use Rattle.gix_revwalk.specs.History.{IsAncestorOfOne};
 ghost use Rattle.gix_revwalk.specs.Number.{place_in};
 ghost use Rattle.gix_revwalk.specs.Walks.{HoldsMore};
 ghost use Rattle.gix_merge_base.specs.Marks.{marks_of};
-ghost use Rattle.gix_merge_base.specs.PaintQueue.{id_at, marks_at, queued_ids};
+ghost use Rattle.gix_merge_base.specs.PaintQueue.{id_at, AreHeld, marks_at, queued_ids};
 ghost use Rattle.gix_resolve.specs.ReachSides.{Gives, Walked, IsOver, Takes, Sees};
 ghost use Rattle.gix_resolve.specs.ReachWalk.{AreMet, IsRight, SameSides};
 ghost use Rattle.gix_resolve.specs.Taken.{TakesOnly};
 
 use crate::reach::front::Front;
-use crate::reach::hand::{hand, hand_parents, mark_of};
+use crate::reach::hand::{hand, hand_parents, mark_of, time_at};
 use crate::reach::sides::is_hidden;
 use bitflags::Flags as BitFlags;
 use gix_revision::graph::{Commit, Error, Find, Graph};
@@ -99,7 +99,8 @@ fn begin_all<S: Find, A: Allocator + Copy>(
     Ok(())
 }
 
-/// Begins a walk from two sides.
+/// Begins a walk from two sides. Where no generations are known the commits at which the first one begins wait
+/// until what the second one reaches is as old.
 fn start<S: Find, A: Allocator + Copy>(
     alloc: A,
     first: &[ObjectId],
@@ -124,8 +125,28 @@ fn start<S: Find, A: Allocator + Copy>(
         least: MORE_THAN_ANY,
     };
     begin_all(alloc, first, Flags::COMMIT1, &mut walk, graph)?;
+    walk.front.hold();
     begin_all(alloc, second, Flags::COMMIT2, &mut walk, graph)?;
     Ok(walk)
+}
+
+/// Those that wait leave first, once a commit that is taken is no newer than the first of them.
+fn release<S: Find, A: Allocator + Copy>(
+    number: Number,
+    front: &mut Front<A>,
+    graph: &Graph<S, Commit<Flags, A>, A>,
+)
+    requires number { place_in number < held_len graph.now }
+    requires held { AreHeld graph.now front.old }
+    ensures { front.new ≡ front.old }
+{
+    let Some(other) = front.first_waiting() else {
+        return;
+    };
+    if time_at(graph, other) < time_at(graph, number) {
+        return;
+    }
+    front.release();
 }
 
 /// Takes an open commit of a greatest generation, with its marks; `None` where the walk is over.
@@ -170,6 +191,7 @@ fn next<S: Find, A: Allocator + Copy>(
             queued,
         },
     );
+    release(number, &mut walk.front, graph);
     Some((number, old.marks))
 }
 

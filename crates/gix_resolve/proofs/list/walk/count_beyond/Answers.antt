@@ -1,4 +1,4 @@
-use Rattle.std.proofs.Common.{◌-◌, arith}
+use Rattle.std.proofs.Common.{arith}
 use Rattle.gix_resolve.specs.Reachable.{IsBeyond}
 use Rattle.gix_resolve.proofs.ListCounts.{size-behind}
 use Rattle.gix_resolve.proofs.list.walk.count_beyond.Goals as goal

@@ -1,10 +1,10 @@
-use Rattle.std.proofs.Common.{◌≡◌, refl, sym, ap, subst, ◌∙◌, [], ◌∷◌, ◌||◌, ◌⊎◌, inl, inr, IsTrue, not, is_some, true, false}
+use Rattle.std.proofs.Common.{◌≡◌, refl, sym, ap, subst, ◌∙◌, [], ◌∷◌, ◌||◌, ◌⊎◌, inl, inr, IsTrue, is_some, true, false}
 use Rattle.std.specs.Option.{unwrap_or}
 use Rattle.gix_revwalk.specs.Data.{mark_at}
 use Rattle.gix_revwalk.specs.Number.{place_in}
 use Rattle.gix_revwalk.specs.declared.numbers.Mark.{Mark}
 use Rattle.gix_revwalk.proofs.Members.{one_of-single}
-use Rattle.gix_merge_base.specs.Marks.{marks_of, has_marks, joined, HasMarksOf}
+use Rattle.gix_merge_base.specs.Marks.{marks_of, has_marks, HasMarksOf}
 use Rattle.gix_merge_base.specs.PaintQueue.{marks_at, mark_or, no_mark, queued_ids, id_at}
 use Rattle.gix_merge_base.specs.declared.merge_base.flags.Flags.{Flags}
 use Rattle.gix_merge_base.proofs.Handing.{below-from_test}

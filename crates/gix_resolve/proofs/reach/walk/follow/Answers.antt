@@ -3,14 +3,14 @@ use Rattle.std.proofs.Math.Path.{fun_ext}
 use Rattle.std.specs.List.Sorted.{IsPermutation}
 use Rattle.std.proofs.lemmas.List.{length-map}
 use Rattle.gix_revwalk.specs.Faults.{count_after, is_source_fault}
-use Rattle.gix_revwalk.specs.History.{parents_in, entry_at, generation_of}
+use Rattle.gix_revwalk.specs.History.{parents_in, entry_at}
 use Rattle.gix_revwalk.specs.Number.{place_in}
 use Rattle.gix_revwalk.specs.declared.numbers.Number.{Number}
 use Rattle.gix_merge_base.specs.Marks.{marks_of}
 use Rattle.gix_merge_base.specs.PaintQueue.{marks_at, queued_ids, id_at}
 use Rattle.gix_merge_base.proofs.Numbered.{id-same}
 use Rattle.gix_merge_base.proofs.QueueKeys.{kept-same}
-use Rattle.gix_resolve.specs.ReachSides.{hides, Gives, Walked, Takes, IsOver, Sees}
+use Rattle.gix_resolve.specs.ReachSides.{Gives, Walked, Takes, IsOver, Sees}
 use Rattle.gix_resolve.specs.ReachWalk.{AreMet, IsRight}
 use Rattle.gix_resolve.proofs.ListAfter.{after_same, after_then}
 use Rattle.gix_resolve.proofs.ReachGives.{gives_as}

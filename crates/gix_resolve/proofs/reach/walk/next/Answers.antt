@@ -1,4 +1,4 @@
-use Rattle.std.proofs.Common.{◌≡◌, ◌∙◌, ◌-◌, sym, ap, cond, min, ℕ, refl, true, false, rules, arith}
+use Rattle.std.proofs.Common.{◌≡◌, ◌∙◌, ◌-◌, sym, ap, cond, min, refl, true, false, rules, arith}
 use Rattle.gix_revwalk.specs.History.{generation_of}
 use Rattle.gix_revwalk.specs.Number.{place_in}
 use Rattle.gix_revwalk.specs.declared.numbers.Mark.{Mark}
@@ -7,7 +7,8 @@ use Rattle.gix_merge_base.specs.PaintQueue.{id_at, marks_at}
 use Rattle.gix_merge_base.specs.declared.merge_base.flags.Flags.{Flags}
 use Rattle.gix_merge_base.proofs.Numbered.{same-len}
 use Rattle.gix_resolve.specs.ReachSides.{hides}
-use Rattle.gix_resolve.proofs.ReachNext.{over_below, popped_inside, popped_key, left_queue, right_left, popped_marks, popped_queue, popped_met, right_popped}
+use Rattle.gix_resolve.proofs.ReachNext.{over_below, popped_inside, popped_held, popped_key, left_queue, right_left, popped_marks, popped_queue, popped_met, right_popped}
+use Rattle.gix_resolve.proofs.ReachEnter.{held-same}
 use Rattle.gix_resolve.proofs.reach.walk.next.Goals as goal
 
 pub returns-then-generation-walk-clause-over : goal.returns-then-generation-walk-clause-over
@@ -21,6 +22,16 @@ mark_of-old-requires g c = popped_inside (g.S.Find.history c.args.graph.now.sour
 
 pub set_mark-requires : goal.set_mark-requires
 set_mark-requires g c = popped_inside (g.S.Find.history c.args.graph.now.source) c.args.graph.now c.in_ok-generation.generation c.in_ok-generation.number c.args.walk.now c.pop.new.self c.requires c.in_ok-generation.ensures.taken
+
+pub release-requires-clause-number : goal.release-requires-clause-number
+release-requires-clause-number g c =
+    rw (same-len c.args.graph.now c.set_mark.new.graph c.set_mark.ensures.ids)
+    (popped_inside (g.S.Find.history c.args.graph.now.source) c.args.graph.now c.in_ok-generation.generation c.in_ok-generation.number c.args.walk.now c.pop.new.self c.requires c.in_ok-generation.ensures.taken)
+
+pub release-requires-clause-held : goal.release-requires-clause-held
+release-requires-clause-held g c =
+    held-same c.args.graph.now c.set_mark.new.graph c.set_mark.ensures.ids c.pop.new.self
+    (popped_held (g.S.Find.history c.args.graph.now.source) c.args.graph.now c.in_ok-generation.generation c.in_ok-generation.number c.args.walk.now c.pop.new.self c.requires c.in_ok-generation.ensures.taken)
 
 pub returns-then-is_hidden-clause-taken : goal.returns-then-is_hidden-clause-taken
 returns-then-is_hidden-clause-taken g c =
@@ -56,8 +67,8 @@ returns-clause-taken g c =
     ap (λ (z : Mark Flags). hides c.args.walk.now.both (marks_of z.marks)) (sym c.mark_of-old.ensures) ∙ sym c.is_hidden.ensures ∙ c.if-is_hidden.false in
     let less : c.min-walk.result ≡ min c.args.walk.now.least c.from-generation.result = search rules in
     record {
-      queue = popped_queue (g.S.Find.history c.args.graph.now.source) c.args.graph.now c.in_ok-generation.generation c.in_ok-generation.number c.args.walk.now c.pop.new.self c.requires c.in_ok-generation.ensures.taken
-          c.set_mark.new.graph c.mark_of-old.result _ c.mark_of-old.ensures free c.set_mark.ensures;
+      queue = rw c.release.ensures (popped_queue (g.S.Find.history c.args.graph.now.source) c.args.graph.now c.in_ok-generation.generation c.in_ok-generation.number c.args.walk.now c.pop.new.self c.requires c.in_ok-generation.ensures.taken
+          c.set_mark.new.graph c.mark_of-old.result _ c.mark_of-old.ensures free c.set_mark.ensures);
       least = less ∙ ap (min c.args.walk.now.least) (c.from-generation.ensures ∙ key)
           ∙ ap (λ b. cond b c.args.walk.now.least (min c.args.walk.now.least (generation_of h (id_at old (place_in c.in_ok-generation.number))))) (sym free);
     }
@@ -69,7 +80,7 @@ returns-clause-right g c t =
     let less : c.saturating_sub-queued.result ≡ c.mark_of-old.result.queued - 1 = search rules in
     let fewer : c.saturating_sub-walk.result ≡ c.args.walk.now.unhidden - 1 = search rules in
     right_popped (g.S.Find.history c.args.graph.now.source) c.args.graph.now c.in_ok-generation.generation c.in_ok-generation.number c.args.walk.now c.pop.new.self c.requires c.in_ok-generation.ensures.taken
-    c.set_mark.new.graph c.mark_of-old.result c.saturating_sub-queued.result c.mark_of-old.ensures free c.set_mark.ensures less _ refl refl refl fewer
+    c.set_mark.new.graph c.mark_of-old.result c.saturating_sub-queued.result c.mark_of-old.ensures free c.set_mark.ensures less _ refl refl c.release.ensures fewer
 
 pub returns-clause-inside : goal.returns-clause-inside
 returns-clause-inside g c =
