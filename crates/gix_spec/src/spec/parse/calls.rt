@@ -2,7 +2,9 @@
 
 ghost use Rattle.std.specs.Prelude.{◌≡◌, Some, None, [], ◌∷◌, option_map};
 ghost use Rattle.std.specs.Option.{IsSomeAnd};
-ghost use Rattle.gix_spec.specs.Pieces.{head, name, range, regex};
+ghost use Rattle.gix_spec.specs.Call.{target_of};
+ghost use Rattle.gix_spec.specs.Pieces;
+ghost use Rattle.gix_spec.specs.Pieces.{exclude, regex, index, head, name, branch, peel, range, finish};
 ghost use Rattle.gix_spec.specs.Context.{context_of, call_of, stopped};
 ghost use Rattle.gix_spec.specs.Opens.{unopened_error};
 ghost use Rattle.gix_spec.specs.Found.{piece_of, attempt_found, slice_of};
@@ -102,6 +104,17 @@ fn demanded<'a>(
     }
 }
 
+// The exclude mark in front of a text.
+#[inline(always)]
+fn call_exclude<'a, D: Delegate>(context: &mut Context<'a>, delegate: &mut D) -> Result<(), Stopped>
+    ensures { Performs D.step (exclude ∷ [])
+        delegate.old (context_of context.old) delegate.new (context_of context.new)
+        result context.new.error }
+{
+    let kind = Kind::ExcludeReachable;
+    demanded(delegate.kind(kind), Fault::KindRefused(kind), None, context)
+}
+
 // HEAD, written or implied.
 #[inline(always)]
 fn call_head<'a, D: Delegate>(context: &mut Context<'a>, delegate: &mut D) -> Result<(), Stopped>
@@ -168,6 +181,25 @@ fn call_prefix<'a, D: Delegate>(
     Err(refused_twice(first, second, whole, context))
 }
 
+// A name: its prefix, if it has one, then the reference.
+#[inline(always)]
+fn call_name<'a, D: Delegate>(
+    text: &'a [u8],
+    whole: &'a [u8],
+    attempt: Option<Attempt<'a>>,
+    context: &mut Context<'a>,
+    delegate: &mut D,
+) -> Result<(), Stopped>
+    ensures { Performs D.step (name text.now whole.now (option_map attempt_found attempt.entry) ∷ [])
+        delegate.old (context_of context.old) delegate.new (context_of context.new)
+        result context.new.error }
+{
+    match attempt {
+        Some(attempt) => call_prefix(text, whole, attempt, context, delegate),
+        None => call_reference(text, whole, context, delegate),
+    }
+}
+
 /// A regex, as it is written and as it is looked for.
 pub(crate) fn call_find<'a, D: Delegate>(
     wanted: &[u8],
@@ -182,6 +214,38 @@ pub(crate) fn call_find<'a, D: Delegate>(
 {
     let answer = delegate.find(wanted, negated);
     demanded(answer, Fault::FindRefused, Some(raw), context)
+}
+
+// A path in the index.
+#[inline(always)]
+fn call_index<'a, D: Delegate>(
+    path: &'a [u8],
+    stage: u8,
+    context: &mut Context<'a>,
+    delegate: &mut D,
+) -> Result<(), Stopped>
+    ensures { Performs D.step (index path.now stage ∷ [])
+        delegate.old (context_of context.old) delegate.new (context_of context.new)
+        result context.new.error }
+{
+    let answer = delegate.index_lookup(path, stage);
+    demanded(answer, Fault::IndexRefused(stage), Some(path), context)
+}
+
+// A branch that was checked out before.
+#[inline(always)]
+fn call_branch<'a, D: Delegate>(
+    number: usize,
+    inner: &'a [u8],
+    context: &mut Context<'a>,
+    delegate: &mut D,
+) -> Result<(), Stopped>
+    ensures { Performs D.step (branch number inner.now ∷ [])
+        delegate.old (context_of context.old) delegate.new (context_of context.new)
+        result context.new.error }
+{
+    let answer = delegate.nth_checked_out_branch(number);
+    demanded(answer, Fault::AtRefused, Some(inner), context)
 }
 
 /// What braces behind an `@` ask for, of the reference in front of them or of the current branch.
@@ -249,6 +313,53 @@ pub(crate) fn call_asked<'a, D: Delegate>(
             demanded(answer, Fault::AtRefused, Some(inner), context)
         }
     }
+}
+
+// A step along the history.
+#[inline(always)]
+fn call_step<'a, D: Delegate>(
+    step: Traversal,
+    after: &'a [u8],
+    context: &mut Context<'a>,
+    delegate: &mut D,
+) -> Result<(), Stopped>
+    ensures { Performs D.step (Pieces.step step after.now ∷ [])
+        delegate.old (context_of context.old) delegate.new (context_of context.new)
+        result context.new.error }
+{
+    let answer = delegate.traverse(step);
+    demanded(answer, Fault::TraverseRefused(step), Some(after), context)
+}
+
+// What an object is peeled to.
+#[inline(always)]
+fn call_peel<'a, D: Delegate>(
+    target: PeelTo<'a>,
+    after: &'a [u8],
+    context: &mut Context<'a>,
+    delegate: &mut D,
+) -> Result<(), Stopped>
+    ensures { Performs D.step (peel (target_of target.entry) after.now ∷ [])
+        delegate.old (context_of context.old) delegate.new (context_of context.new)
+        result context.new.error }
+{
+    let answer = delegate.peel_until(target);
+    demanded(answer, Fault::PeelRefused, Some(after), context)
+}
+
+// A path in the tree of a revision.
+#[inline(always)]
+fn call_path<'a, D: Delegate>(
+    path: &'a [u8],
+    context: &mut Context<'a>,
+    delegate: &mut D,
+) -> Result<(), Stopped>
+    ensures { Performs D.step (Pieces.path path.now ∷ [])
+        delegate.old (context_of context.old) delegate.new (context_of context.new)
+        result context.new.error }
+{
+    let answer = delegate.peel_until(PeelTo::Path(path));
+    demanded(answer, Fault::PeelRefused, Some(path), context)
 }
 
 // A range mark, behind which the second revision begins.
@@ -334,6 +445,16 @@ fn call_without_parent<'a, D: Delegate>(
     demanded(delegate.done(), fault, Some(rest), context)
 }
 
+// The end of a text.
+#[inline(always)]
+fn call_finish<'a, D: Delegate>(context: &mut Context<'a>, delegate: &mut D) -> Result<(), Stopped>
+    ensures { Performs D.step (finish ∷ [])
+        delegate.old (context_of context.old) delegate.new (context_of context.new)
+        result context.new.error }
+{
+    demanded(delegate.done(), Fault::DoneRefused, None, context)
+}
+
 /// Makes the calls that a piece means.
 #[inline(always)]
 pub(crate) fn perform<'a, D: Delegate>(
@@ -346,52 +467,29 @@ pub(crate) fn perform<'a, D: Delegate>(
         result context.new.error }
 {
     match piece {
-        Piece::Exclude => {
-            let kind = Kind::ExcludeReachable;
-            demanded(delegate.kind(kind), Fault::KindRefused(kind), None, context)
-        }
+        Piece::Exclude => call_exclude(context, delegate),
         Piece::Regex {
             wanted,
             raw,
             negated,
         } => { call_find(wanted, raw, negated, context, delegate) }
-        Piece::Index { path, stage } => {
-            let answer = delegate.index_lookup(path, stage);
-            demanded(answer, Fault::IndexRefused(stage), Some(path), context)
-        }
+        Piece::Index { path, stage } => call_index(path, stage, context, delegate),
         Piece::Head => call_head(context, delegate),
         Piece::Name {
             text,
             whole,
-            attempt: None,
-        } => { call_reference(text, whole, context, delegate) }
-        Piece::Name {
-            text,
-            whole,
-            attempt: Some(attempt),
-        } => { call_prefix(text, whole, attempt, context, delegate) }
-        Piece::Branch { number, inner } => {
-            let answer = delegate.nth_checked_out_branch(number);
-            demanded(answer, Fault::AtRefused, Some(inner), context)
-        }
+            attempt,
+        } => { call_name(text, whole, attempt, context, delegate) }
+        Piece::Branch { number, inner } => call_branch(number, inner, context, delegate),
         Piece::Reflog { query, own, inner } => {
             call_asked(Asked::Entry(query), own, inner, context, delegate)
         }
         Piece::Sibling { branch, own, inner } => {
             call_asked(Asked::Sibling(branch), own, inner, context, delegate)
         }
-        Piece::Step { step, after } => {
-            let answer = delegate.traverse(step);
-            demanded(answer, Fault::TraverseRefused(step), Some(after), context)
-        }
-        Piece::Peel { target, after } => {
-            let answer = delegate.peel_until(target);
-            demanded(answer, Fault::PeelRefused, Some(after), context)
-        }
-        Piece::Path(path) => {
-            let answer = delegate.peel_until(PeelTo::Path(path));
-            demanded(answer, Fault::PeelRefused, Some(path), context)
-        }
+        Piece::Step { step, after } => call_step(step, after, context, delegate),
+        Piece::Peel { target, after } => call_peel(target, after, context, delegate),
+        Piece::Path(path) => call_path(path, context, delegate),
         Piece::Closer { kind, rest } => call_closer(kind, rest, context, delegate),
         Piece::WithoutParent {
             number,
@@ -399,6 +497,6 @@ pub(crate) fn perform<'a, D: Delegate>(
             rest,
         } => { call_without_parent(number, after, rest, context, delegate) }
         Piece::Range(kind) => call_range(kind, context, delegate),
-        Piece::Finish => demanded(delegate.done(), Fault::DoneRefused, None, context),
+        Piece::Finish => call_finish(context, delegate),
     }
 }
