@@ -135,6 +135,29 @@ pub fn value<S: Find, T: Held, A: Allocator>(graph: &Graph<S, T, A>, number: Num
     &graph.nodes[number.place()].value
 }
 
+/// Puts a node at the end that no walk has marked. Its number.
+#[inline(always)]
+fn push_node<T: Drop, A: Allocator>(
+    nodes: &mut Vec<Node<T>, A>,
+    id: ObjectId,
+    value: T,
+) -> Result<Number, AllocError>
+    ensures number { IfOk result (λ n. place_in n ≡ length nodes.old.items) }
+    ensures nodes { OnOk result (nodes.new.items ≡ nodes.old.items
+        ++ record { id = id; row = None; turn = 0; queued = 0; value = value } ∷ []) }
+    ensures refused { OnErr result (nodes.new.items ≡ nodes.old.items) }
+{
+    let number = Number::at(nodes.len())?;
+    nodes.push(Node {
+        id,
+        row: None,
+        turn: 0,
+        queued: 0,
+        value,
+    })?;
+    Ok(number)
+}
+
 /// Holds an id that is not held yet, whether or not the source has it. It gets the next number, and
 /// no walk has marked it.
 ///
@@ -181,15 +204,7 @@ pub fn add_near<S: Find, T: Held, A: Allocator + Copy>(
         ((q : ObjectId) → held_at graph.old q ≡ None → noted_at graph.old q ≡ false) }
     ensures refused { OnErr result (graph.new ≡ graph.old) }
 {
-    let number = Number::at(graph.nodes.len())?;
-    let node = Node {
-        id,
-        row: None,
-        turn: 0,
-        queued: 0,
-        value,
-    };
-    graph.nodes.push(node)?;
+    let number = push_node(&mut graph.nodes, id, value)?;
     match graph.past.settle(id, guess, number) {
         Ok(spot) => Ok((number, spot)),
         Err(_) => {
@@ -230,15 +245,7 @@ pub fn hold_told<S: Find, T: Held, A: Allocator + Copy>(
     let Some((spot, time)) = graph.past.recall(&id, guess) else {
         return Ok(None);
     };
-    let number = Number::at(graph.nodes.len())?;
-    let node = Node {
-        id,
-        row: None,
-        turn: 0,
-        queued: 0,
-        value,
-    };
-    graph.nodes.push(node)?;
+    let number = push_node(&mut graph.nodes, id, value)?;
     graph.past.settle_at(id, spot, number);
     Ok(Some((time, number, spot)))
 }
