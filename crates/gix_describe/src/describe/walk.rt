@@ -436,8 +436,9 @@ pub(crate) struct Found {
     pub(crate) pops: u128,
 }
 
-/// Walks from the start until a named ancestor is chosen and its depth is complete.
-pub(crate) fn find_name<'name, S: Find, A: Allocator + Copy>(
+/// Goes on with a walk until a named ancestor is chosen and its depth is complete.
+fn found_by<'name, S: Find, A: Allocator + Copy>(
+    walk: &mut Walk<A>,
     alloc: A,
     names: &Names<'name, A>,
     search: Search,
@@ -446,7 +447,7 @@ pub(crate) fn find_name<'name, S: Find, A: Allocator + Copy>(
     requires some { 0 < search.cap }
     requires cap { search.cap ≤ 32 }
     requires unnamed { name_at (names_of names.now.entries) search.start ≡ None }
-    requires empty { (q : ObjectId) → held_at graph.old q ≡ None }
+    requires rests { RestsBy (S.history graph.old.source) search (names_of names.now.entries) walk.old graph.old }
     ensures found { IfOk result (λ f. IsFound (along search (S.history graph.old.source)) search.start
         (names_of names.now.entries) search.cap f.best f.seen) }
     ensures tied { IfOk result (λ f. IfSome f.best (λ p. IsTied
@@ -460,7 +461,6 @@ pub(crate) fn find_name<'name, S: Find, A: Allocator + Copy>(
     ensures fault { IfErr result (IsHeldAtFaultBy (S.history graph.old.source) search (held_at graph.new)) }
     ensures asked { AsksBy S.history S.fault_count search graph.old.source graph.new.source (refusal result) }
 {
-    let mut walk = Walk::begin(alloc, search, graph)?;
     let sieve = Sieve::of(names);
     let full = walk.run(alloc, names, &sieve, search, graph)?;
     let Some(place) = walk.chosen(names) else {
@@ -486,4 +486,32 @@ pub(crate) fn find_name<'name, S: Find, A: Allocator + Copy>(
         seen: walk.seen,
         pops: one_more(walk.seen),
     })
+}
+
+/// Walks from the start until a named ancestor is chosen and its depth is complete.
+pub(crate) fn find_name<'name, S: Find, A: Allocator + Copy>(
+    alloc: A,
+    names: &Names<'name, A>,
+    search: Search,
+    graph: &mut Graph<S, u32, A>,
+) -> Result<Found, Message>
+    requires some { 0 < search.cap }
+    requires cap { search.cap ≤ 32 }
+    requires unnamed { name_at (names_of names.now.entries) search.start ≡ None }
+    requires empty { (q : ObjectId) → held_at graph.old q ≡ None }
+    ensures found { IfOk result (λ f. IsFound (along search (S.history graph.old.source)) search.start
+        (names_of names.now.entries) search.cap f.best f.seen) }
+    ensures tied { IfOk result (λ f. IfSome f.best (λ p. IsTied
+        (along search (S.history graph.old.source)) search.start
+        (names_of names.now.entries) search.cap p.0 p.1 f.seen)) }
+    ensures held { IfOk result (λ f. HoldsFirst
+        (along search (S.history graph.old.source)) search.start f.seen (held_at graph.new)) }
+    ensures pops { IfOk result (λ f. MatchOption f.best (f.pops ≡ f.seen) (λ _. CountsNamed
+        (along search (S.history graph.old.source)) search.start
+        (names_of names.now.entries) search.cap f.seen f.pops)) }
+    ensures fault { IfErr result (IsHeldAtFaultBy (S.history graph.old.source) search (held_at graph.new)) }
+    ensures asked { AsksBy S.history S.fault_count search graph.old.source graph.new.source (refusal result) }
+{
+    let mut walk = Walk::begin(alloc, search, graph)?;
+    found_by(&mut walk, alloc, names, search, graph)
 }

@@ -133,3 +133,126 @@ pub returns-in_err-found-clause-fault : goal.returns-in_err-found-clause-fault
 returns-in_err-found-clause-fault g c =
     let fault = rw c.clear.ensures.source at c.in_err-found.ensures.fault in
     rw (err_came c.from_residual-in_err-found.result _ c.from_residual-in_err-found.ensures.1) fault
+
+pub returns-then-contains_key-clause-kept : goal.returns-then-contains_key-clause-kept
+returns-then-contains_key-clause-kept g c = c.in_ok-own.ensures.kept
+
+pub returns-then-contains_key-clause-history : goal.returns-then-contains_key-clause-history
+returns-then-contains_key-clause-history g c = refl
+
+pub returns-then-contains_key-clause-count : goal.returns-then-contains_key-clause-count
+returns-then-contains_key-clause-count g c = refl
+
+pub returns-then-contains_key-clause-untouched : goal.returns-then-contains_key-clause-untouched
+returns-then-contains_key-clause-untouched g c = λ no. refl
+
+pub returns-then-contains_key-clause-no_walk : goal.returns-then-contains_key-clause-no_walk
+returns-then-contains_key-clause-no_walk g c = λ absent idle. refl
+
+pub returns-then-is_idle-clause-kept : goal.returns-then-is_idle-clause-kept
+returns-then-is_idle-clause-kept g c = c.without_name.ensures.kept
+
+pub returns-then-is_idle-clause-history : goal.returns-then-is_idle-clause-history
+returns-then-is_idle-clause-history g c = refl
+
+pub returns-then-is_idle-clause-count : goal.returns-then-is_idle-clause-count
+returns-then-is_idle-clause-count g c = refl
+
+pub returns-then-is_idle-clause-no_walk : goal.returns-then-is_idle-clause-no_walk
+returns-then-is_idle-clause-no_walk g c = λ absent idle. refl
+
+pub returns-in_default-clause-kept : goal.returns-in_default-clause-kept
+returns-in_default-clause-kept g c = c.without_name-answer.ensures.kept
+
+pub returns-in_default-clause-history : goal.returns-in_default-clause-history
+returns-in_default-clause-history g c = rw c.clear.ensures.source at c.in_ok-found.ensures.asked.same_history
+
+pub returns-in_default-clause-count : goal.returns-in_default-clause-count
+returns-in_default-clause-count g c = rw c.clear.ensures.source at c.in_ok-found.ensures.asked.count
+
+pub returns-in_default-clause-no_walk : goal.returns-in_default-clause-no_walk
+returns-in_default-clause-no_walk g c = λ absent idle. refl
+
+pub returns-clause-kept : goal.returns-clause-kept
+returns-clause-kept g c = c.in_ok-named.ensures.kept
+
+pub returns-clause-history : goal.returns-clause-history
+returns-clause-history g c = rw c.clear.ensures.source at c.in_ok-found.ensures.asked.same_history
+
+pub returns-clause-count : goal.returns-clause-count
+returns-clause-count g c = rw c.clear.ensures.source at c.in_ok-found.ensures.asked.count
+
+pub returns-clause-no_walk : goal.returns-clause-no_walk
+returns-clause-no_walk g c = λ absent idle. refl
+
+pub returns-in_err-own-clause-described : goal.returns-in_err-own-clause-described
+returns-in_err-own-clause-described g c = rw (err_came c.from_residual.result _ c.from_residual.ensures.1) tt
+
+pub returns-in_err-own-clause-kept : goal.returns-in_err-own-clause-kept
+returns-in_err-own-clause-kept g c = rw (err_came c.from_residual.result _ c.from_residual.ensures.1) tt
+
+pub returns-in_err-own-clause-tied : goal.returns-in_err-own-clause-tied
+returns-in_err-own-clause-tied g c = rw (err_came c.from_residual.result _ c.from_residual.ensures.1) tt
+
+pub returns-in_err-own-clause-held : goal.returns-in_err-own-clause-held
+returns-in_err-own-clause-held g c = rw (err_came c.from_residual.result _ c.from_residual.ensures.1) tt
+
+pub returns-in_err-own-clause-pops : goal.returns-in_err-own-clause-pops
+returns-in_err-own-clause-pops g c = rw (err_came c.from_residual.result _ c.from_residual.ensures.1) tt
+
+pub returns-in_err-found-clause-described : goal.returns-in_err-found-clause-described
+returns-in_err-found-clause-described g c = rw (err_came c.from_residual-in_err-found.result _ c.from_residual-in_err-found.ensures.1) tt
+
+pub returns-in_err-found-clause-kept : goal.returns-in_err-found-clause-kept
+returns-in_err-found-clause-kept g c = rw (err_came c.from_residual-in_err-found.result _ c.from_residual-in_err-found.ensures.1) tt
+
+pub returns-in_err-found-clause-tied : goal.returns-in_err-found-clause-tied
+returns-in_err-found-clause-tied g c = rw (err_came c.from_residual-in_err-found.result _ c.from_residual-in_err-found.ensures.1) tt
+
+pub returns-in_err-found-clause-held : goal.returns-in_err-found-clause-held
+returns-in_err-found-clause-held g c = rw (err_came c.from_residual-in_err-found.result _ c.from_residual-in_err-found.ensures.1) tt
+
+pub returns-in_err-found-clause-pops : goal.returns-in_err-found-clause-pops
+returns-in_err-found-clause-pops g c = rw (err_came c.from_residual-in_err-found.result _ c.from_residual-in_err-found.ensures.1) tt
+
+pub returns-in_err-named-clause-described : goal.returns-in_err-named-clause-described
+returns-in_err-named-clause-described g c = rw (err_came c.from_residual-in_err-named.result _ c.from_residual-in_err-named.ensures.1) tt
+
+pub returns-in_err-named-clause-kept : goal.returns-in_err-named-clause-kept
+returns-in_err-named-clause-kept g c = rw (err_came c.from_residual-in_err-named.result _ c.from_residual-in_err-named.ensures.1) tt
+
+pub returns-in_err-named-clause-tied : goal.returns-in_err-named-clause-tied
+returns-in_err-named-clause-tied g c = rw (err_came c.from_residual-in_err-named.result _ c.from_residual-in_err-named.ensures.1) tt
+
+pub returns-in_err-named-clause-held : goal.returns-in_err-named-clause-held
+returns-in_err-named-clause-held g c = rw (err_came c.from_residual-in_err-named.result _ c.from_residual-in_err-named.ensures.1) tt
+
+pub returns-in_err-named-clause-pops : goal.returns-in_err-named-clause-pops
+returns-in_err-named-clause-pops g c = rw (err_came c.from_residual-in_err-named.result _ c.from_residual-in_err-named.ensures.1) tt
+
+pub returns-in_err-own-clause-history : goal.returns-in_err-own-clause-history
+returns-in_err-own-clause-history g c = refl
+
+pub returns-in_err-own-clause-count : goal.returns-in_err-own-clause-count
+returns-in_err-own-clause-count g c = rw (err_came c.from_residual.result _ c.from_residual.ensures.1, c.in_err-own.ensures.refused) refl
+
+pub returns-in_err-own-clause-untouched : goal.returns-in_err-own-clause-untouched
+returns-in_err-own-clause-untouched g c = λ no. refl
+
+pub returns-in_err-found-clause-history : goal.returns-in_err-found-clause-history
+returns-in_err-found-clause-history g c = rw c.clear.ensures.source at c.in_err-found.ensures.asked.same_history
+
+pub returns-in_err-found-clause-count : goal.returns-in_err-found-clause-count
+returns-in_err-found-clause-count g c = rw (err_came c.from_residual-in_err-found.result _ c.from_residual-in_err-found.ensures.1) (rw c.clear.ensures.source at c.in_err-found.ensures.asked.count)
+
+pub returns-in_err-found-clause-no_walk : goal.returns-in_err-found-clause-no_walk
+returns-in_err-found-clause-no_walk g c = λ absent idle. absurd (let no : true ≡ false = sym idle ∙ sym c.is_idle.ensures ∙ c.if-is_idle.false in cc)
+
+pub returns-in_err-named-clause-history : goal.returns-in_err-named-clause-history
+returns-in_err-named-clause-history g c = rw c.clear.ensures.source at c.in_ok-found.ensures.asked.same_history
+
+pub returns-in_err-named-clause-count : goal.returns-in_err-named-clause-count
+returns-in_err-named-clause-count g c = rw (err_came c.from_residual-in_err-named.result _ c.from_residual-in_err-named.ensures.1, c.in_err-named.ensures.refused) (rw c.clear.ensures.source at c.in_ok-found.ensures.asked.count)
+
+pub returns-in_err-named-clause-no_walk : goal.returns-in_err-named-clause-no_walk
+returns-in_err-named-clause-no_walk g c = λ absent idle. absurd (let no : true ≡ false = sym idle ∙ sym c.is_idle.ensures ∙ c.if-is_idle.false in cc)
