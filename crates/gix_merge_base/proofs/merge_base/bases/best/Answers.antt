@@ -1,4 +1,4 @@
-use Rattle.std.proofs.Common.{◌≤◌, ◌∷◌, length, arith, subst, ◌∙◌}
+use Rattle.std.proofs.Common.{◌≤◌, ◌∷◌, length, arith, rules, subst, ◌∙◌}
 use Rattle.gix_merge_base.specs.Reducing.{SomeOf}
 use Rattle.gix_merge_base.proofs.Best.{max_of_painted, painted_within, few_are_max, few_alike, some_once, some_within}
 use Rattle.gix_merge_base.proofs.Maximal.{common_has}
@@ -91,3 +91,50 @@ returns-then-len-le1-clause-most g c = c.in_ok-painted.ensures.most
 
 pub returns-clause-most : goal.returns-clause-most
 returns-clause-most g c = c.in_ok-painted.ensures.most
+
+pub returns-then-len-le1-clause-once : goal.returns-then-len-le1-clause-once
+returns-then-len-le1-clause-once g c = c.in_ok-painted.ensures.once
+
+pub returns-then-len-le1-clause-least : goal.returns-then-len-le1-clause-least
+returns-then-len-le1-clause-least g c = c.in_ok-painted.ensures.least
+
+pub returns-clause-least : goal.returns-clause-least
+returns-clause-least g c = c.in_ok-painted.ensures.least
+
+pub returns-then-len-le1-clause-taken : goal.returns-then-len-le1-clause-taken
+returns-then-len-le1-clause-taken g c falls alike = c.in_ok-painted.ensures.taken falls
+
+pub returns-in_err-painted-clause-taken : goal.returns-in_err-painted-clause-taken
+returns-in_err-painted-clause-taken g c falls alike = c.paint.ensures.taken falls
+
+pub returns-then-len-le1-clause-after : goal.returns-then-len-le1-clause-after
+returns-then-len-le1-clause-after g c = record {
+  graph = record { same_history = c.paint.ensures.history; count = c.in_ok-painted.ensures.count; held = c.paint.ensures.held };
+  cause = tt;
+}
+
+pub returns-in_err-painted-clause-after : goal.returns-in_err-painted-clause-after
+returns-in_err-painted-clause-after g c = record {
+  graph = record { same_history = c.paint.ensures.history; count = search rules; held = c.paint.ensures.held };
+  cause = search rules;
+}
+
+pub returns-in_err-left-clause-after : goal.returns-in_err-left-clause-after
+returns-in_err-left-clause-after g c = record {
+  graph = record {
+    same_history = c.reduce.ensures.history ∙ c.paint.ensures.history;
+    count = search rules;
+    held = λ q k. c.reduce.ensures.held q (c.paint.ensures.held q k);
+  };
+  cause = search rules;
+}
+
+pub returns-in_err-ordered-clause-after : goal.returns-in_err-ordered-clause-after
+returns-in_err-ordered-clause-after g c = record {
+  graph = record {
+    same_history = c.in_order.ensures.after.graph.same_history ∙ c.reduce.ensures.history ∙ c.paint.ensures.history;
+    count = search rules;
+    held = λ q k. c.in_order.ensures.after.graph.held q (c.reduce.ensures.held q (c.paint.ensures.held q k));
+  };
+  cause = search rules;
+}

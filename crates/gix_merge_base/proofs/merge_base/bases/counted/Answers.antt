@@ -47,3 +47,18 @@ returns-clause-most g c = c.in_ok-found.ensures.most
 
 pub returns-clause-least : goal.returns-clause-least
 returns-clause-least g c acyclic trivial = c.in_ok-found.ensures.least acyclic
+
+pub returns-clause-history : goal.returns-clause-history
+returns-clause-history g c = c.best.ensures.after.graph.same_history
+
+pub returns-clause-count : goal.returns-clause-count
+returns-clause-count g c = c.in_ok-found.ensures.after.graph.count
+
+pub returns-clause-held : goal.returns-clause-held
+returns-clause-held g c = c.best.ensures.after.graph.held
+
+pub returns-in_err-found-clause-history : goal.returns-in_err-found-clause-history
+returns-in_err-found-clause-history g c = c.best.ensures.after.graph.same_history
+
+pub returns-in_err-found-clause-held : goal.returns-in_err-found-clause-held
+returns-in_err-found-clause-held g c = c.best.ensures.after.graph.held

@@ -1,5 +1,6 @@
-use Rattle.std.proofs.Common.{◌≡◌, ◌<◌, ◌≤◌, ◌∷◌, [], length, arith}
+use Rattle.std.proofs.Common.{◌≡◌, ◌<◌, ◌≤◌, ◌∷◌, [], length, arith, refl, Ok}
 use Rattle.std.proofs.lemmas.List.{take_all}
+use Rattle.gix_revwalk.proofs.GraphAfters.{graph_as}
 use Rattle.gix_revwalk.proofs.Members.{one_of-head, one_of-tail, one_of-at}
 use Rattle.gix_merge_base.proofs.AfterCalls.{after_none, after_more, after_ok}
 use Rattle.gix_merge_base.proofs.Heads.{stand_first, stand_next, stand_acyclic, stand_last}
@@ -30,3 +31,9 @@ returns-clause-bases g c acyclic has =
     let done : length c.args.others.now ≤ c.loop-other.other-index = omega arith in
     let stand = rw (take_all c.loop-other.other-index c.args.others.now done) at c.loop-other.invariant.stand in
     stand_last _ _ _ _ acyclic (stand acyclic has)
+
+pub returns-clause-order : goal.returns-clause-order
+returns-clause-order g c = c.loop-other.invariant.order
+
+pub returns-clause-after : goal.returns-clause-after
+returns-clause-after g c = record { graph = graph_as _ _ (Ok tt) _ refl c.loop-other.invariant.after.graph; cause = tt }

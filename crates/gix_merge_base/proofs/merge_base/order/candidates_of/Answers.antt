@@ -1,5 +1,7 @@
-use Rattle.std.proofs.Common.{◌<◌, ◌∙◌, length, arith, sym}
-use Rattle.gix_merge_base.proofs.AfterCalls.{after_more, after_ok}
+use Rattle.std.proofs.Common.{◌<◌, ◌≤◌, ◌∙◌, length, arith, sym, refl, Ok}
+use Rattle.std.proofs.lemmas.List.{take_all}
+use Rattle.gix_revwalk.proofs.GraphAfters.{graph_as}
+use Rattle.gix_merge_base.proofs.AfterCalls.{after_none, after_more, after_ok}
 use Rattle.gix_merge_base.proofs.Sorting.{turned_skip, turned_push}
 use Rattle.gix_merge_base.proofs.merge_base.order.candidates_of.Goals as goal
 
@@ -20,3 +22,20 @@ loop-id-preserved g c =
       candidates = c.in-Ok.ensures.items ∙ turned_push _ _ _ _ _ _ test c.loop-id.invariant.candidates (sym c.in-Some.is ∙ next);
       after = after_more _ _ _ _ c.loop-id.invariant.after (after_ok _ _ _ c.in_ok-candidate.ensures.after);
     }
+
+pub loop-id-init : goal.loop-id-init
+loop-id-init g c = record { candidates = c.new-candidates.ensures.items; after = after_none _ }
+
+pub returns-in-Err-clause-after : goal.returns-in-Err-clause-after
+returns-in-Err-clause-after g c = record {
+  graph = graph_as _ _ (Ok tt) _ refl (after_more _ _ _ _ c.loop-id.invariant.after (after_ok _ _ _ c.in_ok-candidate.ensures.after)).graph;
+  cause = tt;
+}
+
+pub returns-clause-candidates : goal.returns-clause-candidates
+returns-clause-candidates g c =
+    let done : length c.args.ids.now ≤ c.loop-id.id-index = omega arith in
+    rw (take_all c.loop-id.id-index c.args.ids.now done) at c.loop-id.invariant.candidates
+
+pub returns-clause-after : goal.returns-clause-after
+returns-clause-after g c = record { graph = graph_as _ _ (Ok tt) _ refl c.loop-id.invariant.after.graph; cause = tt }

@@ -1,6 +1,7 @@
-use Rattle.std.proofs.Common.{◌≡◌, ◌<◌, ◌+◌, length, arith, rules, refl, sym, ap, subst, [], IsTrue, is_some}
+use Rattle.std.proofs.Common.{◌≡◌, ◌<◌, ◌≤◌, ◌+◌, length, arith, rules, refl, sym, ap, subst, [], IsTrue, is_some}
 use Rattle.std.specs.Option.{unwrap_or}
 use Rattle.std.specs.Map.{lookup}
+use Rattle.std.proofs.lemmas.List.{take_all}
 use Rattle.gix_revwalk.specs.History.{same_id}
 use Rattle.gix_revwalk.proofs.GraphAfters.{graph_as}
 use Rattle.gix_merge_base.specs.Front.{IsRight}
@@ -58,3 +59,19 @@ returns-in_err-begin-2-clause-holds g c =
 
 pub returns-in_err-begin-2-clause-after : goal.returns-in_err-begin-2-clause-after
 returns-in_err-begin-2-clause-after g c = steps_more _ c.loop-other.graph _ _ c.loop-other.invariant.after (graph_as _ _ _ _ (search rules) c.in_err-begin-2.ensures.meets.graph)
+
+pub returns-clause-begun : goal.returns-clause-begun
+returns-clause-begun g c =
+    let done : length c.args.others.now ≤ c.loop-other.other-index = omega arith in
+    rw (take_all c.loop-other.other-index c.args.others.now done) at c.loop-other.invariant.begun
+
+pub returns-clause-right : goal.returns-clause-right
+returns-clause-right g c = c.loop-other.invariant.right
+
+pub returns-clause-holds : goal.returns-clause-holds
+returns-clause-holds g c =
+    let done : length c.args.others.now ≤ c.loop-other.other-index = omega arith in
+    rw (take_all c.loop-other.other-index c.args.others.now done) at c.loop-other.invariant.holds
+
+pub returns-clause-after : goal.returns-clause-after
+returns-clause-after g c = c.loop-other.invariant.after

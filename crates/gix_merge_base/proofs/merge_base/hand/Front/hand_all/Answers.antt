@@ -32,3 +32,12 @@ returns-clause-hands g c has =
     let len = length-map c.args.numbers.now (λ (k : Number). id_at c.args.graph.now (place_in k)) in
     subst (λ l. HandsOn h (marks_of c.args.marks) l c.args.graph.now c.args.self.now c.loop-number.graph c.loop-number.self)
     (take_all c.loop-number.number-index ids (omega arith)) (c.loop-number.invariant.hands has)
+
+pub returns-clause-keeps : goal.returns-clause-keeps
+returns-clause-keeps g c = c.loop-number.invariant.keeps
+
+pub returns-clause-same : goal.returns-clause-same
+returns-clause-same g c = c.loop-number.invariant.same
+
+pub returns-in_err-hand-clause-same : goal.returns-in_err-hand-clause-same
+returns-in_err-hand-clause-same g c = same_then _ _ _ c.loop-number.invariant.same c.hand.ensures.same
