@@ -1,5 +1,5 @@
 -- The members of the sets that specs mean, as lists.
-use Rattle.std.proofs.Common.{◌≡◌, ◌==◌, ◌<◌, ℕ, length, true, false, refl, ap, sym, subst, ◌∙◌, List, [], ◌∷◌, ◌++◌, inl, inr, is_some, Option, Some, None, Result, Ok, Err, IfOk, IsTrue, true≢false, arith}
+use Rattle.std.proofs.Common.{◌≡◌, ◌==◌, ◌<◌, ℕ, length, true, false, refl, ap, sym, subst, ◌∙◌, List, [], ◌∷◌, ◌++◌, inl, inr, is_some, Option, Some, None, Result, Ok, Err, IfOk, OnOk, IsTrue, true≢false, arith}
 use Rattle.std.specs.List.{AllByRecursion, IsDistinct}
 use Rattle.std.proofs.lemmas.List.{map-append, nil_from_length}
 use Rattle.std.proofs.lemmas.Map.Keys.{IsDistinct-head, IsDistinct-tail, IsDistinct-cons}
@@ -37,6 +37,10 @@ lists-none P none = (nothing, λ c. ((λ m. cc), (λ q. absurd (none c q))))
 pub if-ok : {T E : Type 0} (r : Result T E) (P Q : T → Type 0) → ((x : T) → P x → Q x) → IfOk r P → IfOk r Q
 if-ok (Ok x) P Q f k = f x k
 if-ok (Err e) P Q f k = tt
+
+pub on-ok : {T E : Type 0} (r : Result T E) {P Q : Type 0} → (P → Q) → OnOk r P → OnOk r Q
+on-ok (Ok x) f k = f k
+on-ok (Err e) f k = tt
 
 -- the same set
 pub lists-same : (xs : List ObjectId) (P Q : ObjectId → Type 0) → ((c : ObjectId) → P c → Q c) → ((c : ObjectId) → Q c → P c) → Lists xs P → Lists xs Q

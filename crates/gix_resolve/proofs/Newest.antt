@@ -2,9 +2,7 @@
 use Rattle.std.proofs.Common.{◌≡◌, ℕ, Bool, true, false, cond, refl, ap, sym, subst, ◌∙◌, List, [], ◌∷◌, ◌++◌, ◌||◌, ◌<◌, ◌+◌, take, length, get_or, map, Option, Some, None, is_some}
 use Rattle.std.specs.List.{filter_map, dedup, dedup_from, AllByRecursion, IsDistinct}
 use Rattle.std.specs.List.Sorted.{IsPermutation, IsSorted}
-use Rattle.std.specs.Ordering.{is_lt, is_eq, eq_by_cmp}
-use Rattle.std.specs.Cmp.{tied_itself}
-use Rattle.std.specs.declared.cmp.Ordering.{Ordering}
+use Rattle.std.specs.Ordering.{is_lt}
 use Rattle.std.specs.declared.cmp.Reverse.{Reverse}
 use Rattle.std.proofs.lemmas.List.{length-map, map-append}
 use Rattle.std.proofs.lemmas.List.Elements.{All-from_recursion, recursion_from_All, filter_map-append}
@@ -18,15 +16,15 @@ use Rattle.gix_revwalk.specs.Graph.{Graphed}
 use Rattle.gix_revwalk.specs.Number.{place_in}
 use Rattle.gix_revwalk.specs.Numbers.{named}
 use Rattle.gix_revwalk.specs.declared.numbers.Number.{Number}
-use Rattle.gix_revwalk.proofs.Ids.{same_id-true, same_id-equal}
+use Rattle.gix_revwalk.proofs.Ids.{same_id-true}
 use Rattle.gix_revwalk.proofs.Places.{same_id-sym}
 use Rattle.gix_revwalk.proofs.Members.{take_next}
 use Rattle.gix_merge_base.specs.Candidates.{Candidate, turned_at, id_in}
 use Rattle.gix_merge_base.specs.Keys.{choice, IsInOrder}
 use Rattle.gix_merge_base.specs.PaintQueue.{key_in, ids_at}
 use Rattle.gix_merge_base.specs.declared.merge_base.gen_then_time.GenThenTime.{GenThenTime}
-use Rattle.gix_merge_base.proofs.Choice.{choice_total, choice-same, greater_first}
-use Rattle.gix_merge_base.proofs.Sorting.{turned_cmp}
+use Rattle.gix_merge_base.proofs.Choice.{choice_total, greater_first}
+use Rattle.gix_merge_base.proofs.Sorting.{choice_ties, turned_cmp}
 use Rattle.gix_resolve.specs.Newest.{turned_for}
 use Rattle.gix_resolve.proofs.ListWalks.{ids-step}
 
@@ -113,20 +111,8 @@ module _ (h : History) where
       let each = All-permutation Turned qs ps perm (All-from_recursion Turned qs turned) in
       falls (map id_in ps) (subst (IsSorted (turned_cmp h)) (turned_again ps (recursion_from_All Turned ps each)) sorted)
 
-  -- only an id itself stands beside it in the order
-  ties : (x y : ObjectId) → same_id x y ≡ eq_by_cmp (choice h) x y
-  ties x y = elim (same_id x y) as (λ b. same_id x y ≡ b → b ≡ eq_by_cmp (choice h) x y) [
-    | true ↦ λ e. sym (ap (λ z. is_eq (choice h x z)) (sym (same_id-true x y e)) ∙ ap is_eq (tied_itself (choice_total h) x))
-    | false ↦ λ e. untied (choice h x y) refl e
-  ] refl
-    where
-      untied : (r : Ordering) → choice h x y ≡ r → same_id x y ≡ false → false ≡ is_eq r
-      untied Ordering.Less is e = refl
-      untied Ordering.Equal is e = sym e ∙ same_id-equal x y (choice-same h x y is)
-      untied Ordering.Greater is e = refl
-
   pub once_in_order : (xs : List ObjectId) → IsSorted (choice h) xs → IsInOrder h (dedup same_id xs)
-  once_in_order xs rises = IsStrictlySortedBy-dedup (choice_total h) ties xs rises
+  once_in_order xs rises = IsStrictlySortedBy-dedup (choice_total h) (choice_ties h) xs rises
 
   -- ids that differ are in order without that
   pub in_order : (xs : List ObjectId) → IsDistinct same_id xs → IsSorted (choice h) xs → IsInOrder h xs

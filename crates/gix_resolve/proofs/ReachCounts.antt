@@ -1,9 +1,8 @@
 -- The count of open commits that are not hidden, over one more and over one less.
 use Rattle.std.proofs.Common.{◌≡◌, ℕ, true, false, cond, refl, ap, sym, subst, ◌∙◌, List, [], ◌∷◌, not, ◌+◌, ◌-◌, ◌≤◌, ◌==◌, ◌||◌, ◌⊎◌, inl, inr, arith, IsTrue, Bool, true≢false}
-use Rattle.std.specs.List.{sum_by}
 use Rattle.std.specs.List.Sorted.{IsPermutation}
 use Rattle.std.proofs.lemmas.List.Sums.{sum_by-cons}
-use Rattle.std.proofs.lemmas.List.Sorted.{sum_by_pushed, sum_by_popped}
+use Rattle.std.proofs.lemmas.List.Sorted.{sum_by_pushed, sum_by_popped, sum_by-IsPermutation}
 use Rattle.std.proofs.lemmas.Bool.Decides.{Decides-eqb}
 use Rattle.gix_base.specs.declared.hash.ObjectId.{ObjectId}
 use Rattle.gix_revwalk.specs.History.{same_id, is_one_of}
@@ -173,6 +172,13 @@ tells_popped both m m' n n' q q' id o marks queued free perm tells =
                 omega arith
           ] refl (queued c);
     }
+
+-- the open ones in another order
+pub tells_again : (both : Bool) (m : ObjectId → MarkSet) (n : ObjectId → ℕ) (q q' : List ObjectId) (o : ℕ) → IsPermutation q q' → Tells both m n q o → Tells both m n q' o
+tells_again both m n q q' o perm tells = record {
+  unhidden = tells.unhidden ∙ sym (sum_by-IsPermutation (λ x. level (not (hides both (m x)))) q q' perm);
+  times = λ c shown. tells.times c shown ∙ sym (sum_by-IsPermutation (λ x. level (same_id c x)) q q' perm);
+}
 
 -- the same marks and counts
 pub tells_same : (both : Bool) (m m' : ObjectId → MarkSet) (n n' : ObjectId → ℕ) (q q' : List ObjectId) (o : ℕ) → ((c : ObjectId) → m' c ≡ m c) → ((c : ObjectId) → n' c ≡ n c) → q' ≡ q → Tells both m n q o → Tells both m' n' q' o

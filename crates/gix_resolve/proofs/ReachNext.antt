@@ -19,9 +19,9 @@ use Rattle.gix_merge_base.specs.PaintQueue.{id_at, AreHeld, marks_at, queued_at,
 use Rattle.gix_merge_base.specs.declared.merge_base.flags.Flags.{Flags}
 use Rattle.gix_merge_base.proofs.Numbered.{held-permutation, ids-popped, same-marks, given-marks, given-queued}
 use Rattle.gix_resolve.specs.ReachSides.{hides, IsOver}
-use Rattle.gix_resolve.specs.ReachWalk.{AreMet, AreKeyed, IsRight}
+use Rattle.gix_resolve.specs.ReachWalk.{AreMet, AreKeyed, IsRight, with_open}
 use Rattle.gix_resolve.specs.declared.reach.walk.Walk.{Walk}
-use Rattle.gix_resolve.proofs.ReachCounts.{tells_left, tells_popped, tells_none, all_hidden}
+use Rattle.gix_resolve.proofs.ReachCounts.{tells_left, tells_popped, tells_again, tells_none, all_hidden}
 use Rattle.gix_resolve.proofs.ReachEnter.{keyed-same, held-same}
 use Rattle.gix_resolve.proofs.ReachMarks.{marked-again}
 
@@ -61,10 +61,19 @@ module _ {S A B : Type 0} (h : History) (old : Graphed S (Commit Flags A)) (gene
   pub popped_key : generation ≡ generation_of h (id_at old (place_in number))
   popped_key = (held-permutation (λ p. p.0 ≡ generation_of h (id_at old (place_in p.1))) walk.front ((generation, number) ∷ rest) taken right.keyed).0
 
-  -- a hidden one leaves
   pub left_queue : IsPermutation (queued_ids old walk.front) (id_at old (place_in number) ∷ queued_ids old rest)
   left_queue = ids-popped old old refl generation number walk.front rest taken
 
+  -- what is kept does not hang on the order of the open ones
+  pub right_open : IsRight h old (with_open generation number (record { both = walk.both; met = walk.met; front = rest; unhidden = walk.unhidden; least = walk.least }))
+  right_open = record {
+    met = right.met;
+    held = held-permutation (λ p. place_in p.1 < held_len old) walk.front ((generation, number) ∷ rest) taken right.held;
+    keyed = held-permutation (λ p. p.0 ≡ generation_of h (id_at old (place_in p.1))) walk.front ((generation, number) ∷ rest) taken right.keyed;
+    tells = tells_again walk.both (marks_at old) (queued_at old) (queued_ids old walk.front) (id_at old (place_in number) ∷ queued_ids old rest) walk.unhidden left_queue right.tells;
+  }
+
+  -- a hidden one leaves
   pub right_left : hides walk.both (marks_at old (id_at old (place_in number))) ≡ true → (next : Walk B) → next.both ≡ walk.both → next.met.items ≡ walk.met.items → next.front ≡ rest → next.unhidden ≡ walk.unhidden → IsRight h old next
   right_left hidden next same_both met front count = record {
     met = subst (λ b. AreMet b old next.met.items) (sym same_both) (subst (AreMet walk.both old) (sym met) right.met);

@@ -53,6 +53,10 @@ pub record IsRight {S A B : Type 0} (h : History) (g : Graphed S (Commit Flags A
   pub keyed : AreKeyed h g w.front
   pub tells : Tells w.both (marks_at g) (queued_at g) (queued_ids g w.front) w.unhidden
 
+-- the walk before the number left its open ones
+abbrev pub with_open : {A : Type 0} → ℕ → Number → Walk A → Walk A
+with_open key number w = record { both = w.both; met = w.met; front = (key, number) ∷ w.front; unhidden = w.unhidden; least = w.least }
+
 -- a step that hands marks on changes neither of these
 abbrev pub SameSides : {A : Type 0} → Walk A → Walk A → Type 0
 SameSides v w = (w.both ≡ v.both) × (w.least ≡ v.least)

@@ -178,6 +178,40 @@ fn is_newer<S: Find, A: Allocator + Copy>(
     Ok(time > time_of(alloc, second, graph)?)
 }
 
+/// How many commits `first` alone reaches of the two, and how many `second` alone; where a generation rises,
+/// perhaps more. The second one is followed first.
+fn counted_two<S: Find, A: Allocator + Copy>(
+    alloc: A,
+    first: ObjectId,
+    second: ObjectId,
+    graph: &mut Graph<S, Commit<Flags, A>, A>,
+) -> Result<(usize, usize), graph::Error>
+    ensures counts { IfOk result (λ r.
+        CountsSides (S.history graph.old.source) (first ∷ []) (second ∷ []) true r.0 r.1) }
+    ensures taken { TakesOnly (IsAncestorOfOne (S.history graph.old.source)
+        (first ∷ second ∷ [])) graph.old graph.new }
+    ensures after { GraphAfter S.history S.fault_count is_source_fault graph.old graph.new result }
+{
+    counted(alloc, &[first], &[second], true, graph)
+}
+
+/// The same, and the first one is followed first.
+fn counted_turned<S: Find, A: Allocator + Copy>(
+    alloc: A,
+    first: ObjectId,
+    second: ObjectId,
+    graph: &mut Graph<S, Commit<Flags, A>, A>,
+) -> Result<(usize, usize), graph::Error>
+    ensures counts { IfOk result (λ r.
+        CountsSides (S.history graph.old.source) (first ∷ []) (second ∷ []) true r.0 r.1) }
+    ensures taken { TakesOnly (IsAncestorOfOne (S.history graph.old.source)
+        (first ∷ second ∷ [])) graph.old graph.new }
+    ensures after { GraphAfter S.history S.fault_count is_source_fault graph.old graph.new result }
+{
+    let (seconds, firsts) = counted_two(alloc, second, first, graph)?;
+    Ok((firsts, seconds))
+}
+
 /// How many commits `ours` alone reaches of the two, and how many `theirs` alone; where a generation rises,
 /// perhaps more.
 fn counted_both<S: Find, A: Allocator + Copy>(
@@ -195,10 +229,9 @@ fn counted_both<S: Find, A: Allocator + Copy>(
     // Without generations the side that is followed first, the second one, should reach the other one, and so
     // be the newer one: else what both reach is gone over twice.
     if is_newer(alloc, ours, theirs, graph)? {
-        let (behind, ahead) = counted(alloc, &[theirs], &[ours], true, graph)?;
-        Ok((ahead, behind))
+        counted_turned(alloc, ours, theirs, graph)
     } else {
-        counted(alloc, &[ours], &[theirs], true, graph)
+        counted_two(alloc, ours, theirs, graph)
     }
 }
 

@@ -1,19 +1,20 @@
 //! Commits in the order in which git shows a history: what is new comes first.
 
-ghost use Rattle.std.specs.Prelude.{◌≡◌, ◌↔◌, [], ◌∷◌, IfOk, IsOkAnd, OnOk, IsTrue, map};
+ghost use Rattle.std.specs.Prelude.{◌≡◌, ◌<◌, ◌↔◌, [], ◌∷◌, IfOk, IsOkAnd, OnOk, IsTrue, map};
 ghost use Rattle.std.specs.List.{filter_map};
 ghost use Rattle.std.specs.List.Sorted.{IsPermutation, IsSorted};
 ghost use Rattle.gix_base.specs.declared.hash.ObjectId.{ObjectId};
 ghost use Rattle.gix_revwalk.specs.Faults.{count_after, is_source_fault};
-ghost use Rattle.gix_revwalk.specs.Graph.{KeepsHeld};
+ghost use Rattle.gix_revwalk.specs.Graph.{KeepsHeld, held_len};
 ghost use Rattle.gix_revwalk.specs.GraphAfter.{GraphAfter};
 ghost use Rattle.gix_revwalk.specs.History.{Has, is_one_of};
+ghost use Rattle.gix_revwalk.specs.Number.{place_in};
 ghost use Rattle.gix_revwalk.specs.Sizes.{Lists};
 ghost use Rattle.gix_revwalk.specs.Walks.{HoldsMore};
 ghost use Rattle.gix_merge_base.specs.Candidates.{turned_at, id_in};
 ghost use Rattle.gix_merge_base.specs.GenThenTime.{key_of};
 ghost use Rattle.gix_merge_base.specs.Keys.{IsInOrder, choice};
-ghost use Rattle.gix_merge_base.specs.PaintQueue.{ids_at, AreIn};
+ghost use Rattle.gix_merge_base.specs.PaintQueue.{id_at, ids_at, AreIn};
 ghost use Rattle.gix_resolve.specs.ListErrors.{is_list_source_fault};
 ghost use Rattle.gix_resolve.specs.ListMeaning.{IsMeant};
 ghost use Rattle.gix_resolve.specs.Newest.{turned_for};
@@ -78,7 +79,7 @@ fn turned_all<S: Find, A: Allocator + Copy>(
         let Some(place) = turned(alloc, *id, graph)? else {
             continue;
         };
-        all.push(place)?;
+        all.push_reserved(place);
     }
     Ok(all)
 }
@@ -89,9 +90,21 @@ fn ids_of<A: Allocator + Copy>(alloc: A, all: &[Turned]) -> Result<Vec<ObjectId,
 {
     let mut ids = Vec::with_capacity(alloc, all.len())?;
     for Reverse((_, Reverse(id))) in all {
-        ids.push(*id)?;
+        ids.push_reserved(*id);
     }
     Ok(ids)
+}
+
+/// What decides where the commit with a number stands.
+#[inline(always)]
+fn turned_with<S: Find, A: Allocator + Copy>(
+    graph: &Graph<S, Commit<Flags, A>, A>,
+    number: Number,
+) -> Turned
+    requires { place_in number < held_len graph.now }
+    ensures { result ≡ turned_for (S.history graph.now.source) (id_at graph.now (place_in number)) }
+{
+    turned_by(numbers::value(graph, number), numbers::id_of(graph, number))
 }
 
 /// What decides where each of the commits with these numbers stands.
@@ -106,8 +119,7 @@ fn turned_of<S: Find, A: Allocator + Copy>(
 {
     let mut all = Vec::with_capacity(alloc, numbers.len())?;
     for number in numbers {
-        let commit = numbers::value(graph, *number);
-        all.push(turned_by(commit, numbers::id_of(graph, *number)))?;
+        all.push_reserved(turned_with(graph, *number));
     }
     Ok(all)
 }

@@ -16,7 +16,7 @@ ghost use Rattle.gix_revwalk.specs.Walks.{HoldsMore};
 ghost use Rattle.gix_merge_base.specs.Marks.{marks_of};
 ghost use Rattle.gix_merge_base.specs.PaintQueue.{id_at, AreHeld, marks_at, queued_ids};
 ghost use Rattle.gix_resolve.specs.ReachSides.{Gives, Walked, IsOver, Takes, Sees};
-ghost use Rattle.gix_resolve.specs.ReachWalk.{AreMet, IsRight, SameSides};
+ghost use Rattle.gix_resolve.specs.ReachWalk.{AreMet, IsRight, SameSides, with_open};
 ghost use Rattle.gix_resolve.specs.Taken.{TakesOnly};
 
 use crate::reach::front::Front;
@@ -99,8 +99,32 @@ fn begin_all<S: Find, A: Allocator + Copy>(
     Ok(())
 }
 
-/// Begins a walk from two sides. Where no generations are known the commits at which the first one begins wait
-/// until what the second one reaches is as old.
+/// Gives each of the two sides its marks, where nothing is marked. Where no generations are known the commits at
+/// which the first one begins wait until what the second one reaches is as old.
+fn begin_both<S: Find, A: Allocator + Copy>(
+    alloc: A,
+    first: &[ObjectId],
+    second: &[ObjectId],
+    walk: &mut Walk<A>,
+    graph: &mut Graph<S, Commit<Flags, A>, A>,
+) -> Result<(), Error>
+    requires right { IsRight (S.history graph.old.source) graph.old walk.old }
+    requires walked { Walked (S.history graph.old.source) [] [] walk.old.both
+        (marks_at graph.old) (queued_ids graph.old walk.old.front) walk.old.least }
+    ensures right { OnOk result (IsRight (S.history graph.old.source) graph.new walk.new) }
+    ensures walked { OnOk result (Walked (S.history graph.old.source) first.now second.now
+        walk.old.both (marks_at graph.new) (queued_ids graph.new walk.new.front) walk.old.least) }
+    ensures sides { OnOk result (SameSides walk.old walk.new) }
+    ensures taken { TakesOnly (IsAncestorOfOne (S.history graph.old.source)
+        (first.now ++ second.now)) graph.old graph.new }
+    ensures after { GraphAfter S.history S.fault_count is_source_fault graph.old graph.new result }
+{
+    begin_all(alloc, first, Flags::COMMIT1, walk, graph)?;
+    walk.front.hold();
+    begin_all(alloc, second, Flags::COMMIT2, walk, graph)
+}
+
+/// Begins a walk from two sides.
 fn start<S: Find, A: Allocator + Copy>(
     alloc: A,
     first: &[ObjectId],
@@ -124,9 +148,7 @@ fn start<S: Find, A: Allocator + Copy>(
         unhidden: 0,
         least: MORE_THAN_ANY,
     };
-    begin_all(alloc, first, Flags::COMMIT1, &mut walk, graph)?;
-    walk.front.hold();
-    begin_all(alloc, second, Flags::COMMIT2, &mut walk, graph)?;
+    begin_both(alloc, first, second, &mut walk, graph)?;
     Ok(walk)
 }
 
@@ -147,6 +169,45 @@ fn release<S: Find, A: Allocator + Copy>(
         return;
     }
     front.release();
+}
+
+/// Settles a commit that has just left the open ones. Its marks.
+fn leave<S: Find, A: Allocator + Copy>(
+    number: Number,
+    generation: u64,
+    walk: &mut Walk<A>,
+    graph: &mut Graph<S, Commit<Flags, A>, A>,
+) -> Flags
+    requires { IsRight (S.history graph.old.source) graph.old
+        (with_open generation number walk.old) }
+    ensures taken { Takes (S.history graph.old.source) walk.old.both
+        (id_at graph.old (place_in number)) (marks_at graph.old)
+        (queued_ids graph.old ((generation, number) ∷ walk.old.front)) walk.old.least
+        (queued_ids graph.new walk.new.front) walk.new.least }
+    ensures right { IsRight (S.history graph.old.source) graph.new walk.new }
+    ensures had { marks_of result ≡ marks_at graph.old (id_at graph.old (place_in number)) }
+    ensures marks { (c : ObjectId) → marks_at graph.new c ≡ marks_at graph.old c }
+    ensures both { walk.new.both ≡ walk.old.both }
+    ensures ids { held_ids graph.new ≡ held_ids graph.old }
+    ensures source { graph.new.source ≡ graph.old.source }
+{
+    let old = mark_of(graph, number);
+    if is_hidden(walk.both, old.marks) {
+        return old.marks;
+    }
+    walk.unhidden = walk.unhidden.saturating_sub(1);
+    walk.least = walk.least.min(generation);
+    let queued = old.queued.saturating_sub(1);
+    numbers::set_mark(
+        graph,
+        number,
+        Mark {
+            marks: old.marks,
+            queued,
+        },
+    );
+    release(number, &mut walk.front, graph);
+    old.marks
 }
 
 /// Takes an open commit of a greatest generation, with its marks; `None` where the walk is over.
@@ -176,23 +237,7 @@ fn next<S: Find, A: Allocator + Copy>(
     if walk.unhidden == 0 && generation < walk.least {
         return None;
     }
-    let old = mark_of(graph, number);
-    if is_hidden(walk.both, old.marks) {
-        return Some((number, old.marks));
-    }
-    walk.unhidden = walk.unhidden.saturating_sub(1);
-    walk.least = walk.least.min(generation);
-    let queued = old.queued.saturating_sub(1);
-    numbers::set_mark(
-        graph,
-        number,
-        Mark {
-            marks: old.marks,
-            queued,
-        },
-    );
-    release(number, &mut walk.front, graph);
-    Some((number, old.marks))
+    Some((number, leave(number, generation, walk, graph)))
 }
 
 /// Walks from two sides until nothing that is wanted can follow. The walk, which has met each commit

@@ -1,4 +1,4 @@
-use Rattle.std.proofs.Common.{◌∙◌, sym, Ok}
+use Rattle.std.proofs.Common.{◌∙◌, sym, Ok, arith}
 use Rattle.gix_resolve.proofs.ListAfter.{after_then, after_ok}
 use Rattle.gix_resolve.proofs.Newest.{turned_skip, turned_next}
 use Rattle.gix_resolve.proofs.ReachTaken.{more_starts}
@@ -11,6 +11,8 @@ loop-id-preserved-in_default g c =
     record {
       turned = turned_skip h c.args.ids.now c.loop-id.id-index _ c.loop-id.all.items c.loop-id-test.true c.loop-id.invariant.turned (sym c.in_default.is ∙ rw same at c.in_ok-place.ensures.turned);
       taken = more_starts h c.args.ids.now c.loop-id.id-index _ c.args.graph.now c.loop-id.graph c.turned.new.graph c.loop-id-test.true c.loop-id.invariant.taken (rw same at c.turned.ensures.taken);
+      len = omega (arith, c.loop-id.invariant.len);
+      room = c.loop-id.invariant.room;
       after = after_then c.args.graph.now c.loop-id.graph c.turned.new.graph (Ok tt) c.loop-id.invariant.after (after_ok c.loop-id.graph c.turned.new.graph _ c.in_ok-place.ensures.after);
     }
 
@@ -19,8 +21,18 @@ loop-id-preserved g c =
     let h = g.S.Find.history c.args.graph.now.source in
     let same = c.loop-id.invariant.after.same_history in
     record {
-      turned = turned_next h c.args.ids.now c.loop-id.id-index _ c.in-Some.place c.loop-id.all.items c.push.new.self.items c.loop-id-test.true c.loop-id.invariant.turned
-          (sym c.in-Some.is ∙ rw same at c.in_ok-place.ensures.turned) c.in_ok-push.ensures.items;
+      turned = turned_next h c.args.ids.now c.loop-id.id-index _ c.in-Some.place c.loop-id.all.items c.push_reserved.new.self.items c.loop-id-test.true c.loop-id.invariant.turned
+          (sym c.in-Some.is ∙ rw same at c.in_ok-place.ensures.turned) c.push_reserved.ensures.items;
       taken = more_starts h c.args.ids.now c.loop-id.id-index _ c.args.graph.now c.loop-id.graph c.turned.new.graph c.loop-id-test.true c.loop-id.invariant.taken (rw same at c.turned.ensures.taken);
+      len = omega (arith, c.push_reserved.ensures.len, c.loop-id.invariant.len);
+      room = omega (arith, c.push_reserved.ensures.capacity, c.loop-id.invariant.room);
       after = after_then c.args.graph.now c.loop-id.graph c.turned.new.graph (Ok tt) c.loop-id.invariant.after (after_ok c.loop-id.graph c.turned.new.graph _ c.in_ok-place.ensures.after);
     }
+
+pub returns-in_err-place-clause-taken : goal.returns-in_err-place-clause-taken
+returns-in_err-place-clause-taken g c =
+    more_starts (g.S.Find.history c.args.graph.now.source) c.args.ids.now c.loop-id.id-index _ c.args.graph.now c.loop-id.graph c.turned.new.graph c.loop-id-test.true c.loop-id.invariant.taken
+    (rw c.loop-id.invariant.after.same_history at c.turned.ensures.taken)
+
+pub returns-clause-taken : goal.returns-clause-taken
+returns-clause-taken g c = c.loop-id.invariant.taken

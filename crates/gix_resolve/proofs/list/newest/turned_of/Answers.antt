@@ -1,17 +1,23 @@
-use Rattle.std.proofs.Common.{refl}
-use Rattle.gix_revwalk.specs.Commit.{copied_entry}
-use Rattle.gix_merge_base.specs.GenThenTime.{key_of}
+use Rattle.std.proofs.Common.{◌<◌, arith, get_or}
+use Rattle.gix_revwalk.specs.Graph.{held_len}
+use Rattle.gix_revwalk.specs.Number.{place_in}
+use Rattle.gix_merge_base.specs.PaintQueue.{id_at}
 use Rattle.gix_merge_base.proofs.Listed.{in-item}
-use Rattle.gix_resolve.proofs.Newest.{turned_is, turned_more}
+use Rattle.gix_merge_base.proofs.Numbered.{named-id}
+use Rattle.gix_resolve.proofs.Newest.{turned_more}
 use Rattle.gix_resolve.proofs.list.newest.turned_of.Goals as goal
 
-pub value-commit-requires : goal.value-commit-requires
-value-commit-requires g c = in-item c.args.graph.now c.args.numbers.now c.loop-number.number-index _ c.requires c.loop-number-test.true
+pub turned_with-requires : goal.turned_with-requires
+turned_with-requires g c = in-item c.args.graph.now c.args.numbers.now c.loop-number.number-index _ c.requires c.loop-number-test.true
 
 pub loop-number-preserved : goal.loop-number-preserved
 loop-number-preserved g c =
-    let h = g.S.Find.history c.args.graph.now.source in
-    let id = c.id_of.result in
-    turned_more h c.args.graph.now c.args.numbers.now c.loop-number.number-index _ c.loop-number-test.true id c.turned_by.result c.loop-number.all.items c.push.new.self.items c.id_of.ensures.named
-    (turned_is h id (copied_entry c.value-commit.result.now) (key_of c.value-commit.result.now) c.turned_by.result c.turned_by.ensures (c.value-commit.ensures.agrees id c.id_of.ensures.named) refl)
-    c.loop-number.invariant c.in_ok-push.ensures.items
+    let old = c.args.graph.now in
+    let k = place_in (get_or c.args.numbers.now c.loop-number.number-index (record { 0 = 0 })) in
+    let within : k < held_len old = in-item old c.args.numbers.now c.loop-number.number-index _ c.requires c.loop-number-test.true in
+    record {
+      turned = turned_more (g.S.Find.history c.args.graph.now.source) old c.args.numbers.now c.loop-number.number-index _ c.loop-number-test.true (id_at old k) c.turned_with.result c.loop-number.all.items _
+          (named-id old k within) c.turned_with.ensures c.loop-number.invariant.turned c.push_reserved.ensures.items;
+      len = omega (arith, c.push_reserved.ensures.len, c.loop-number.invariant.len);
+      room = omega (arith, c.push_reserved.ensures.capacity, c.loop-number.invariant.room);
+    }
