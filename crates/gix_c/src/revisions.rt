@@ -5,7 +5,7 @@ ghost use Rattle.std.specs.Option.{option_map};
 ghost use Rattle.gix_resolve.specs.Resolved.{Resolved};
 ghost use Rattle.gix_resolve.specs.RevParse.{RevParsed};
 ghost use Rattle.gix_c.specs.Answers.{ByCode, id_of};
-ghost use Rattle.gix_c.specs.Behind.{commits_of};
+ghost use Rattle.gix_c.specs.Behind.{commits_of, known_in};
 ghost use Rattle.gix_c.specs.Spans.{spec_at, HasFault, HasSpec, HasPage};
 
 use crate::faults::{FaultPlace, fault_place};
@@ -119,9 +119,9 @@ pub extern "C" fn gix_history_resolve(
 ) -> i32
     ensures spec { ByCode result
         (HasSpec (Resolved text.now (record { seconds = seconds; offset = offset })
-        history.old.value.table (commits_of history.old)) out.new)
+        (known_in history.old.value) (commits_of history.old)) out.new)
         (HasFault (Resolved text.now (record { seconds = seconds; offset = offset })
-        history.old.value.table (commits_of history.old)) text.now fault.new result)
+        (known_in history.old.value) (commits_of history.old)) text.now fault.new result)
         (result ≡ OUT_OF_MEMORY) }
     ensures kept { ByCode result ⊤ (out.new ≡ out.old) (out.new ≡ out.old) }
     ensures faultless { ByCode result (fault.new ≡ fault.old) ⊤ (fault.new ≡ fault.old) }
@@ -163,9 +163,9 @@ pub extern "C" fn gix_history_rev_parse(
 ) -> i32
     ensures spec { ByCode result
         (HasSpec (RevParsed text.now (record { seconds = seconds; offset = offset })
-        history.old.value.table (commits_of history.old)) out.new)
+        (known_in history.old.value) (commits_of history.old)) out.new)
         (HasFault (RevParsed text.now (record { seconds = seconds; offset = offset })
-        history.old.value.table (commits_of history.old)) text.now fault.new result)
+        (known_in history.old.value) (commits_of history.old)) text.now fault.new result)
         (result ≡ OUT_OF_MEMORY) }
     ensures kept { ByCode result ⊤ (out.new ≡ out.old) (out.new ≡ out.old) }
     ensures faultless { ByCode result (fault.new ≡ fault.old) ⊤ (fault.new ≡ fault.old) }

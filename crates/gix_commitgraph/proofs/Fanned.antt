@@ -1,15 +1,17 @@
 -- What the fanout says of an id.
-use Rattle.std.proofs.Common.{◌≡◌, ℕ, ◌+◌, ◌-◌, ◌*◌, ◌<◌, ◌≤◌, nat_eq, false, List, slice_index, get_or, drop, refl, sym, ap, ◌∙◌, subst, arith, lit<}
+use Rattle.std.proofs.Common.{◌≡◌, ℕ, zero, suc, ◌+◌, ◌-◌, ◌*◌, ◌<◌, ◌≤◌, inl, inr, nat_eq, false, List, [], ◌∷◌, slice_index, get_or, drop, refl, sym, ap, ◌∙◌, subst, arith, lit<}
+use Rattle.std.proofs.lemmas.Bool.{cases_lt}
 use Rattle.std.proofs.lemmas.List.{get_or-take, get_or-drop}
 use Rattle.std.proofs.lemmas.Bool.Decides.{nat_tests}
-use Rattle.std.specs.Cmp.Lexicographic.{texts_ties}
-use Rattle.std.specs.Ordering.{is_eq}
-use Rattle.std.specs.declared.cmp.Ordering.TheVariants.{Equal}
+use Rattle.std.specs.Cmp.{nat_cmp_is}
+use Rattle.std.specs.Cmp.Lexicographic.{slice_cmp, texts_ties}
+use Rattle.std.specs.Ordering.{is_eq, nat_cmp, ordering_then}
+use Rattle.std.specs.declared.cmp.Ordering.TheVariants.{Less, Equal}
 use Rattle.gix_base.specs.declared.hash.ObjectId.{ObjectId}
 use Rattle.gix_revwalk.proofs.Ids.{same_id-true}
 use Rattle.gix_commitgraph.specs.FileBytes.{id_from}
 use Rattle.gix_commitgraph.specs.FileCommits.{id_of}
-use Rattle.gix_commitgraph.specs.FileChecks.{compare_ids, fan, fan_below, first_byte, IsFanned}
+use Rattle.gix_commitgraph.specs.FileChecks.{compare_ids, fan, fan_below, first_byte, IsSound}
 use Rattle.gix_commitgraph.specs.declared.commit_graph.layout.Layout.{Layout}
 
 -- ids that compare as equal are equal
@@ -29,12 +31,55 @@ first-of s at =
     let e : at + 0 ≡ at = omega arith in
     get_or-take 20 (drop at s) 0 0 (lit< tt) ∙ get_or-drop at s 0 0 ∙ ap (λ n. get_or s n 0) e
 
-module _ (s : List ℕ) (l : Layout) (k : ℕ) (id : ObjectId) (is : id_of s l k ≡ id) (fanned : IsFanned s l k) where
-  byte : first_byte s l k ≡ slice_index id.0 0
-  byte = sym (first-of s (l.ids + 20 * k)) ∙ ap (λ (x : ObjectId). slice_index x.0 0) is
+-- a list whose first number is less is less
+less-first : (xs ys : List ℕ) → slice_index xs 0 < slice_index ys 0 → slice_cmp nat_cmp xs ys ≡ Less
+less-first [] [] h = absurd (omega arith)
+less-first [] (y ∷ ys) h = refl
+less-first (x ∷ xs) [] h = absurd (omega arith)
+less-first (x ∷ xs) (y ∷ ys) h = ap (λ o. ordering_then o (slice_cmp nat_cmp xs ys)) (sym (nat_cmp_is x y Less h))
 
-  pub fan-low : fan_below s l (slice_index id.0 0) ≤ k
-  fan-low = let P : ℕ → Type 0 = λ b. fan_below s l b ≤ k in subst P byte fanned.above
+module _ (s : List ℕ) (l : Layout) (sound : IsSound s l) where
+  -- the fanout does not fall over any distance
+  fan-rises : (b n : ℕ) → b + n < 257 → fan_below s l b ≤ fan_below s l (b + n)
+  fan-rises b zero h = let P : ℕ → Type 0 = λ k. fan_below s l b ≤ fan_below s l k in let e : b ≡ b + 0 = omega arith in subst P e (omega arith)
+  fan-rises b (suc n) h =
+      let P : ℕ → Type 0 = λ k. fan_below s l b ≤ fan_below s l k in
+      let more = fan-rises b n (omega arith) in
+      let step = (sound.fans (b + n) (omega arith)).rises in
+      let next = fan-before s l (b + n) in
+      let e : b + n + 1 ≡ b + suc n = omega arith in
+      subst P e (omega arith)
 
-  pub fan-high : k < fan s l (slice_index id.0 0)
-  fan-high = let P : ℕ → Type 0 = λ b. k < fan s l b in subst P byte fanned.below
+  fan-up : (a b : ℕ) → a ≤ b → b < 257 → fan_below s l a ≤ fan_below s l b
+  fan-up a b h small =
+      let P : ℕ → Type 0 = λ k. fan_below s l a ≤ fan_below s l k in
+      let e : a + (b - a) ≡ b = omega arith in
+      subst P e (fan-rises a (b - a) (omega arith))
+
+  module _ (id : ObjectId) (byte : slice_index id.0 0 < 256) (k : ℕ) (within : k < l.count) where
+    first : slice_index (id_of s l k).0 0 ≡ first_byte s l k
+    first = first-of s (l.ids + 20 * k)
+
+    -- an id before those of a first byte is less than any of these
+    pub less-before : first_byte s l k < 256 → k < fan_below s l (slice_index id.0 0) → compare_ids (id_of s l k) id ≡ Less
+    less-before fits h =
+        elim (cases_lt (first_byte s l k) (slice_index id.0 0)) [
+          | inl low ↦ less-first (id_of s l k).0 id.0 (let e = first in omega arith)
+          | inr high ↦
+              let up = fan-up (slice_index id.0 0) (first_byte s l k) high (omega arith) in
+              let at = (sound.fanned k within).above in
+              absurd (omega arith)
+        ]
+
+    -- and one behind them is greater
+    pub less-behind : fan s l (slice_index id.0 0) ≤ k → compare_ids id (id_of s l k) ≡ Less
+    less-behind h =
+        elim (cases_lt (slice_index id.0 0) (first_byte s l k)) [
+          | inl low ↦ less-first id.0 (id_of s l k).0 (let e = first in omega arith)
+          | inr high ↦
+              let up = fan-up (first_byte s l k + 1) (slice_index id.0 0 + 1) (omega arith) (omega arith) in
+              let of-id = fan-before s l (slice_index id.0 0) in
+              let of-k = fan-before s l (first_byte s l k) in
+              let at = (sound.fanned k within).below in
+              absurd (omega arith)
+        ]

@@ -7,5 +7,6 @@ pub mod Falling
 pub mod Refusals
 pub mod Joins
 pub mod Listed
+pub mod Placed
 pub mod Hashed
 pub mod Grown

@@ -10,7 +10,7 @@ use Rattle.gix_commitgraph.specs.FileCommits.{id_of}
 use Rattle.gix_commitgraph.specs.FileChecks.{compare_ids, Rises}
 use Rattle.gix_commitgraph.specs.declared.commit_graph.layout.Layout.{Layout}
 
-itself : (a : ObjectId) → compare_ids a a ≡ Equal
+pub itself : (a : ObjectId) → compare_ids a a ≡ Equal
 itself a = tied_itself nat_list_cmp_total a.0
 
 trans : (a b c : ObjectId) → compare_ids a b ≡ Less → compare_ids b c ≡ Less → compare_ids a c ≡ Less
@@ -18,6 +18,9 @@ trans a b c = nat_list_cmp_total.trans a.0 b.0 c.0
 
 flipped : (a b : ObjectId) → compare_ids a b ≡ Less → compare_ids b a ≡ Greater
 flipped a b e = nat_list_cmp_total.antisymm b.0 a.0 ∙ ap ordering_reverse e
+
+turned : (a b : ObjectId) → compare_ids a b ≡ Greater → compare_ids b a ≡ Less
+turned a b e = nat_list_cmp_total.antisymm b.0 a.0 ∙ ap ordering_reverse e
 
 module _ (s : List ℕ) (l : Layout) (rises : (i : ℕ) → i + 1 < l.count → Rises s l i) where
   far : (i d : ℕ) → i + 1 + d < l.count → compare_ids (id_of s l i) (id_of s l (i + 1 + d)) ≡ Less
@@ -37,33 +40,23 @@ module _ (s : List ℕ) (l : Layout) (rises : (i : ℕ) → i + 1 < l.count → 
       let P : ℕ → Type 0 = λ n. compare_ids (id_of s l i) (id_of s l n) ≡ Less in
       subst P e (far i (j - (i + 1)) (omega arith))
 
-  -- what is greater than the id at a place stands behind it
-  pub behind : (m : ℕ) (x : ObjectId) → m < l.count → compare_ids (id_of s l m) x ≡ Less → (k : ℕ) → k < l.count → id_of s l k ≡ x → m + 1 ≤ k
-  behind m x hm e k hk is =
-      elim (cases_order m k) [
-        | inl same ↦
-            let a : id_of s l m ≡ x = ap (id_of s l) same ∙ is in
-            let b : compare_ids (id_of s l m) x ≡ Equal = ap (compare_ids (id_of s l m)) (sym a) ∙ itself (id_of s l m) in
-            absurd (let c : Less ≡ Equal = sym e ∙ b in cc)
-        | inr (inl h) ↦ omega arith
-        | inr (inr h) ↦
-            let a : compare_ids (id_of s l m) (id_of s l k) ≡ Greater = flipped (id_of s l k) (id_of s l m) (less k m h hm) in
-            let b : compare_ids (id_of s l m) x ≡ Greater = ap (compare_ids (id_of s l m)) (sym is) ∙ a in
-            absurd (let c : Less ≡ Greater = sym e ∙ b in cc)
+  -- what stands up to an id that is less than x is less
+  pub all-less : (m : ℕ) (x : ObjectId) → m < l.count → compare_ids (id_of s l m) x ≡ Less → (k : ℕ) → k < m + 1 → compare_ids (id_of s l k) x ≡ Less
+  all-less m x hm e k h =
+      elim (cases_order k m) [
+        | inl same ↦ ap (λ j. compare_ids (id_of s l j) x) same ∙ e
+        | inr (inl low) ↦ trans (id_of s l k) (id_of s l m) x (less k m low hm) e
+        | inr (inr high) ↦ absurd (omega arith)
       ]
 
-  -- what is less than the id at a place stands before it
-  pub before : (m : ℕ) (x : ObjectId) → m < l.count → compare_ids (id_of s l m) x ≡ Greater → (k : ℕ) → k < l.count → id_of s l k ≡ x → k < m
-  before m x hm e k hk is =
+  -- what stands from an id on that is greater than x is greater
+  pub all-greater : (m : ℕ) (x : ObjectId) → compare_ids (id_of s l m) x ≡ Greater → (k : ℕ) → m ≤ k → k < l.count → compare_ids x (id_of s l k) ≡ Less
+  all-greater m x e k h hk =
+      let first : compare_ids x (id_of s l m) ≡ Less = turned (id_of s l m) x e in
       elim (cases_order m k) [
-        | inl same ↦
-            let a : id_of s l m ≡ x = ap (id_of s l) same ∙ is in
-            let b : compare_ids (id_of s l m) x ≡ Equal = ap (compare_ids (id_of s l m)) (sym a) ∙ itself (id_of s l m) in
-            absurd (let c : Greater ≡ Equal = sym e ∙ b in cc)
-        | inr (inl h) ↦
-            let a : compare_ids (id_of s l m) x ≡ Less = ap (compare_ids (id_of s l m)) (sym is) ∙ less m k h hk in
-            absurd (let c : Greater ≡ Less = sym e ∙ a in cc)
-        | inr (inr h) ↦ h
+        | inl same ↦ ap (λ j. compare_ids x (id_of s l j)) (sym same) ∙ first
+        | inr (inl low) ↦ trans x (id_of s l m) (id_of s l k) first (less m k low hk)
+        | inr (inr high) ↦ absurd (omega arith)
       ]
 
   -- no id stands twice

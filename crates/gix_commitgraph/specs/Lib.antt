@@ -5,6 +5,7 @@ pub mod FileChecks
 pub mod FileFormat
 pub mod FileRefused
 pub mod FileLookup
+pub mod FileIds
 pub mod FileLevels
 pub mod FileHash
 pub mod NewerCommits

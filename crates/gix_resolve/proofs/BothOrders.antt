@@ -1,11 +1,8 @@
 -- A text without names that could be digits has the same runs in both orders.
 use Rattle.std.proofs.Common.{◌≡◌, ℕ, ◌==◌, List, [], ◌∷◌, length, Option, Some, None, Bool, true, false, Err, refl, sym, ap, ◌∙◌}
-use Rattle.std.specs.Cmp.Lexicographic.{slice_cmp}
-use Rattle.std.specs.BTreeMap.{get_by}
 use Rattle.std.specs.List.{AllByRecursion, list_all}
 use Rattle.std.proofs.lemmas.Bool.{and_parts, eqb-true}
 use Rattle.hex.specs.Hex.{is_hex_digit}
-use Rattle.std.specs.Ordering.{nat_cmp}
 use Rattle.gix_revision.specs.Answer.{Answer, accepted, refused, no_memory}
 use Rattle.gix_revision.specs.Call as calls
 use Rattle.gix_revision.specs.Call.{Call, Target, object, valid_object, recursive_tag, find_ref, done}
@@ -23,13 +20,13 @@ use Rattle.gix_revision.specs.Types.Time.{Time}
 use Rattle.gix_revision.specs.Types.Exn.{Exn}
 use Rattle.gix_revision.specs.Types.Fault.{Fault}
 use Rattle.gix_revision.specs.Types.Fault.TheVariants.{ReflogWithoutName, SiblingWithoutName, AtRefused, DoneRefusedInNavigation}
+use Rattle.gix_resolve.specs.Known.{Known}
 use Rattle.gix_resolve.specs.Resolved.{Way, IsStepBy, asked_as, asks_source, digits_first}
 use Rattle.gix_resolve.specs.RevLaws.{IsPlain, IsSameDemand, OrdersAgree}
 use Rattle.gix_resolve.specs.RevParse.{by_attempt, digits_in, is_whole_id, names_first, or_else}
 use Rattle.gix_resolve.specs.Steps.{at_found}
 use Rattle.gix_resolve.specs.declared.refusal.Refusal.TheVariants.{NoName}
 use Rattle.gix_resolve.specs.declared.state.State.{State}
-use Rattle.gix_resolve.specs.declared.table.Table.{Table}
 
 -- a call that two ways take alike
 abbrev IsSame : Way → Way → Call → Type 0
@@ -60,16 +57,16 @@ flip v w (leaf l) all = tt
 flip v w (takes t) all = flip v w t all
 flip v w (ask c onward otherwise) all = ((λ s. sym (all.0.0 s), sym all.0.1), flip v w onward all.1, λ e. flip v w (otherwise e) (all.2 e))
 
-module _ {A : Type 0} (table : Table A) (h : History) where
+module _ (known : Known) (h : History) where
   abbrev Same : Call → Type 0
-  Same = IsSame (digits_first table h) (names_first table h)
+  Same = IsSame (digits_first known h) (names_first known h)
 
   abbrev All : Tree → Type 0
-  All = AreSame (digits_first table h) (names_first table h)
+  All = AreSame (digits_first known h) (names_first known h)
 
   -- a name that could be no digits
-  no_attempt : (s : State) (o : Option (List ℕ × Option calls.Hint)) → o ≡ None → by_attempt table s o ≡ Err NoName
-  no_attempt s o none = ap (by_attempt table s) none
+  no_attempt : (s : State) (o : Option (List ℕ × Option calls.Hint)) → o ≡ None → by_attempt known s o ≡ Err NoName
+  no_attempt s o none = ap (by_attempt known s) none
 
   -- digits that are too few or too many for an id, or none, are no whole id
   no_whole : (text : List ℕ) → prefix_with text None ≡ None → (b : Bool) → is_whole_id text ≡ b → b ≡ false
@@ -88,7 +85,7 @@ module _ {A : Type 0} (table : Table A) (h : History) where
   same_name text whole part =
       let none : is_whole_id text ≡ false = no_whole text whole (is_whole_id text) refl in (
         λ s.
-            let o = get_by (λ k. slice_cmp nat_cmp text k.items) table.names in
+            let o = known.name_at text in
             rw none (found_same s o ∙ ap (or_else (at_found s NoName o)) (sym (no_attempt s (prefix_with (digits_in text) None) part))),
         refl,
       )
@@ -155,7 +152,7 @@ module _ {A : Type 0} (table : Table A) (h : History) where
   tree_same (finished ∷ ps) m plain anchor = tree_same ps m plain.1 anchor
   tree_same (fault f input ∷ ps) m plain anchor = tt
 
-  pub orders_agree : OrdersAgree table h
+  pub orders_agree : OrdersAgree known h
   orders_agree text now u l plain =
       let all = tree_same (pieces_of text) (start now) plain tt in
-      (λ run. same_run (digits_first table h) (names_first table h) run all, λ run. same_run (names_first table h) (digits_first table h) run (flip (digits_first table h) (names_first table h) (tree_of (pieces_of text) (start now)) all))
+      (λ run. same_run (digits_first known h) (names_first known h) run all, λ run. same_run (names_first known h) (digits_first known h) run (flip (digits_first known h) (names_first known h) (tree_of (pieces_of text) (start now)) all))

@@ -78,7 +78,7 @@ all-members : (P : ObjectId → Type 0) (ys : List ObjectId) → ((y : ObjectId)
 all-members P [] each = tt
 all-members P (y ∷ ys) each = (each y (one_of-head y ys), all-members P ys (λ z m. each z (one_of-tail y ys z m)))
 
-distinct-append : (xs ys : List ObjectId) → IsDistinct same_id xs → IsDistinct same_id ys → ((c : ObjectId) → IsTrue (is_one_of xs c) → ¬ IsTrue (is_one_of ys c)) → IsDistinct same_id (xs ++ ys)
+pub distinct-append : (xs ys : List ObjectId) → IsDistinct same_id xs → IsDistinct same_id ys → ((c : ObjectId) → IsTrue (is_one_of xs c) → ¬ IsTrue (is_one_of ys c)) → IsDistinct same_id (xs ++ ys)
 distinct-append [] ys a b apart = b
 distinct-append (x ∷ xs) ys a b apart =
     IsDistinct-cons same_id x (xs ++ ys)

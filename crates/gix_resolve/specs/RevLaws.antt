@@ -10,10 +10,10 @@ use Rattle.gix_revision.specs.Reading.{pieces_of}
 use Rattle.gix_revision.specs.Tree.{Leaf}
 use Rattle.gix_revision.specs.Types.ObjectKind.TheVariants.{Commit}
 use Rattle.gix_revision.specs.Types.Time.{Time}
+use Rattle.gix_resolve.specs.Known.{Known}
 use Rattle.gix_resolve.specs.Resolved.{IsStep, IsStepBy, EndsAs}
 use Rattle.gix_resolve.specs.RevParse.{digits_in, names_first}
 use Rattle.gix_resolve.specs.declared.state.State.{State}
-use Rattle.gix_resolve.specs.declared.table.Table.{Table}
 
 -- `^{commit}`, or a path
 abbrev pub IsSameDemand : Target → Type 0
@@ -28,7 +28,7 @@ IsPlain (pieces.peel target after) = IsSameDemand target
 IsPlain _ = Unit {0}
 
 -- a text of such pieces alone means the same in both orders
-abbrev pub OrdersAgree : {A : Type 0} → Table A → History → Type 0
-OrdersAgree t h =
+abbrev pub OrdersAgree : Known → History → Type 0
+OrdersAgree known h =
     (text : List ℕ) (now : Time) (u : State) (l : Leaf) → AllByRecursion IsPlain (pieces_of text)
-    → EndsAs (IsStep t h) text now u l ↔ EndsAs (IsStepBy (names_first t h)) text now u l
+    → EndsAs (IsStep known h) text now u l ↔ EndsAs (IsStepBy (names_first known h)) text now u l

@@ -10,11 +10,11 @@ use Rattle.gix_revision.specs.Tree.{fine}
 use Rattle.gix_revision.specs.Types.Error.{Error}
 use Rattle.gix_revision.specs.Types.Spec.{Spec}
 use Rattle.gix_revision.specs.Types.Time.{Time}
+use Rattle.gix_resolve.specs.Known.{Known}
 use Rattle.gix_resolve.specs.Resolved.{Way, IsStepOrFaultBy, asked_as, asks_source, digits_first, goes_unanswered}
 use Rattle.gix_resolve.specs.Steps.{start}
 use Rattle.gix_resolve.specs.Taken.{TakesOnly, IsOnCall, HoldsBoth, LacksOne, IsAskedAt}
 use Rattle.gix_resolve.specs.declared.state.State.{State}
-use Rattle.gix_resolve.specs.declared.table.Table.{Table}
 
 -- A step over a source that may fail, with the graph before and after it: what was held is held, and what is newly held
 -- lies on the call. Where a call that asks the source is accepted, the revision from which it goes and the one to which
@@ -33,5 +33,5 @@ WalkedBy w h text now m (Ok spec) n =
 WalkedBy w h text now m (Err e) n = (u : State) × Fails (WalksBy w h) (start, m) (meaning_of text now) (u, n) e
 
 -- the same by the steps of `resolve`
-abbrev pub WalkedTo : {S T A : Type 0} → (text : List ℕ) → Time → Table A → History → Graphed S T → Result Spec Error → Graphed S T → Type 0
-WalkedTo text now t h m r n = WalkedBy (digits_first t h) h text now m r n
+abbrev pub WalkedTo : {S T : Type 0} → (text : List ℕ) → Time → Known → History → Graphed S T → Result Spec Error → Graphed S T → Type 0
+WalkedTo text now known h m r n = WalkedBy (digits_first known h) h text now m r n

@@ -6,9 +6,11 @@ ghost use Rattle.hex.specs.Hex.{is_hex_digit};
 ghost use Rattle.gix_revision.specs.DescribeText.{prefix_with};
 ghost use Rattle.gix_revision.specs.Marks.{greatest_below};
 ghost use Rattle.gix_revision.specs.Prefix.{prefix_text};
+ghost use Rattle.gix_resolve.specs.Known.{known_by};
 ghost use Rattle.gix_resolve.specs.RevParse.{is_id_mark, digits_in, attempt_by, is_whole_id};
 ghost use Rattle.gix_resolve.specs.RevParse.{by_digits, by_reference, by_rev_name};
 
+use crate::lookup::Ids;
 use crate::refusal::Refusal;
 use crate::state::State;
 use crate::table::Table;
@@ -75,8 +77,12 @@ fn prefix_of(digits: &[u8]) -> Option<Prefix>
 
 impl State {
     // After what may be the first digits of an id.
-    fn abbreviated<A: Allocator>(self, table: &Table<A>, digits: &[u8]) -> Result<State, Refusal>
-        ensures { result ≡ by_digits table.now self digits.now }
+    fn abbreviated<A: Allocator, I: Ids>(
+        self,
+        table: &Table<A, I>,
+        digits: &[u8],
+    ) -> Result<State, Refusal>
+        ensures { result ≡ by_digits (known_by I.ids table.now) self digits.now }
     {
         match prefix_of(digits) {
             Some(prefix) => self.completed(table, prefix),
@@ -85,8 +91,12 @@ impl State {
     }
 
     // After a reference, or else the first digits of an id.
-    fn referred<A: Allocator>(self, table: &Table<A>, name: &[u8]) -> Result<State, Refusal>
-        ensures { result ≡ by_reference table.now self name.now }
+    fn referred<A: Allocator, I: Ids>(
+        self,
+        table: &Table<A, I>,
+        name: &[u8],
+    ) -> Result<State, Refusal>
+        ensures { result ≡ by_reference (known_by I.ids table.now) self name.now }
     {
         match self.named(table, name) {
             Ok(next) => Ok(next),
@@ -95,12 +105,12 @@ impl State {
     }
 
     /// After a name: 40 hex digits are that id, whatever references there are.
-    pub(crate) fn called<A: Allocator>(
+    pub(crate) fn called<A: Allocator, I: Ids>(
         self,
-        table: &Table<A>,
+        table: &Table<A, I>,
         name: &[u8],
     ) -> Result<State, Refusal>
-        ensures { result ≡ by_rev_name table.now self name.now }
+        ensures { result ≡ by_rev_name (known_by I.ids table.now) self name.now }
     {
         if is_whole_id(name) {
             self.abbreviated(table, name)

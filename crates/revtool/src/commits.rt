@@ -1,23 +1,13 @@
 //! What commands are answered by: the commits of a commit-graph file, where there is one, and those of the lines.
 
+use gix_resolve::{JoinedIds, Table};
 pub(crate) use gix_revision::commit_graph::Commits;
+use gix_revision::commit_graph::LevelledGraph;
 use gix_revision::hash::ObjectId;
-use std::alloc::{AllocError, Allocator};
 use std::collections::BTreeSet;
 
-/// Adds the ids of the file's commits.
-pub(crate) fn add_ids_of_file<A: Allocator + Copy>(
-    commits: &Commits<A>,
-    ids: &mut BTreeSet<ObjectId, A>,
-) -> Result<(), AllocError> {
-    let Some(file) = &commits.file else {
-        return Ok(());
-    };
-    let graph = file.graph();
-    for position in 0..graph.len() {
-        if let Some(id) = graph.id(position) {
-            ids.insert(id)?;
-        }
-    }
-    Ok(())
-}
+/// The references, and which ids there are: those of the file, as it lies, and those of the lines.
+pub(crate) type CommitTable<'s, A> = Table<
+    A,
+    JoinedIds<Option<&'s LevelledGraph>, BTreeSet<ObjectId, A>>,
+>;

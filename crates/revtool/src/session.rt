@@ -1,11 +1,10 @@
-//! All lines of a text, read: the source that its commits make, their names, the table of its
-//! references, and the commands in order.
+//! All lines of a text, read: the source that its commits make, their names and ids, its references, and the
+//! commands in order.
 
-use crate::commits::{Commits, add_ids_of_file};
+use crate::commits::Commits;
 use crate::fields::LineFault;
 use crate::lines::{Command, Line, commit_id, read_line};
 use crate::stop::Stop;
-use gix_resolve::Table;
 use gix_revision::commit_graph::LevelledGraph;
 use gix_revision::describe::Options;
 use gix_revision::graph::Insert;
@@ -14,15 +13,19 @@ use std::alloc::{AllocError, Allocator};
 use std::borrow::CowSlice;
 use std::collections::{BTreeMap, BTreeSet};
 
+/// The id of each reference.
+pub(crate) type Names<A> = BTreeMap<Vec<u8, A>, ObjectId, A>;
+
 /// What the lines of a text say together.
 #[derive(Drop)]
 pub(crate) struct Session<'t, A: Allocator> {
     pub(crate) source: Commits<A>,
     /// What each `describe` and `describe-as` line is answered by: all names of the text.
     pub(crate) options: Options<'t, A>,
-    /// What lines with a text to be resolved are answered by: all references, and where there is such a line the
-    /// ids of its commits.
-    pub(crate) table: Table<A>,
+    /// What lines with a text to be resolved are answered by: all references.
+    pub(crate) names: Names<A>,
+    /// And where there is such a line, the ids of all commits of the text.
+    pub(crate) ids: BTreeSet<ObjectId, A>,
     pub(crate) commands: Vec<Command<'t, A>, A>,
 }
 
@@ -32,18 +35,10 @@ impl<'t, A: Allocator + Copy> Session<'t, A> {
         Session {
             source: Commits::new(alloc, file),
             options: Options::new(alloc),
-            table: Table {
-                names: BTreeMap::new(alloc),
-                ids: BTreeSet::new(alloc),
-            },
+            names: BTreeMap::new(alloc),
+            ids: BTreeSet::new(alloc),
             commands: Vec::new(alloc),
         }
-    }
-
-    // The ids of all commits: those of the file, and those of a text each line of which was read before.
-    fn add_all_ids(&mut self, text: &[u8]) -> Result<(), AllocError> {
-        add_ids_of_file(&self.source, &mut self.table.ids)?;
-        add_ids(text, &mut self.table)
     }
 }
 
@@ -58,7 +53,7 @@ pub(crate) fn read_lines<'t, A: Allocator + Copy>(
     add_lines(alloc, text, &mut session)?;
     // No other command asks which ids there are, and a set of them is large.
     if session.commands.iter().any(|command| command.is_resolved()) {
-        session.add_all_ids(text)?;
+        add_ids(text, &mut session.ids)?;
     }
     Ok(session)
 }
@@ -85,10 +80,13 @@ fn add_lines<'t, A: Allocator + Copy>(
 }
 
 // The ids of all commits of a text. Each line of it was read before.
-fn add_ids<A: Allocator + Copy>(text: &[u8], table: &mut Table<A>) -> Result<(), AllocError> {
+fn add_ids<A: Allocator + Copy>(
+    text: &[u8],
+    ids: &mut BTreeSet<ObjectId, A>,
+) -> Result<(), AllocError> {
     for line in text.split(|byte| *byte == b'\n') {
         if let Some(id) = commit_id(line) {
-            table.ids.insert(id)?;
+            ids.insert(id)?;
         }
     }
     Ok(())
@@ -104,7 +102,7 @@ fn add_line<'t, A: Allocator + Copy>(
     match read_line(alloc, line)? {
         Line::Commit(id, commit) => session.source.insert(id, commit)?,
         Line::Name(id, name) => add_name(id, name, &mut session.options)?,
-        Line::Ref(id, name) => add_ref(alloc, id, name, &mut session.table)?,
+        Line::Ref(id, name) => add_ref(alloc, id, name, &mut session.names)?,
         Line::Command(command) => session.commands.push(command)?,
     }
     Ok(())
@@ -115,12 +113,12 @@ fn add_ref<A: Allocator + Copy>(
     alloc: A,
     id: ObjectId,
     name: &[u8],
-    table: &mut Table<A>,
+    names: &mut Names<A>,
 ) -> Result<(), LineFault> {
-    if table.names.contains_key(name) {
+    if names.contains_key(name) {
         return Err(LineFault::Unreadable);
     }
-    table.names.insert(name.to_vec(alloc)?, id)?;
+    names.insert(name.to_vec(alloc)?, id)?;
     Ok(())
 }
 

@@ -1,13 +1,15 @@
 //! A file as a source of commits.
 
-ghost use Rattle.std.specs.Prelude.{◌≡◌, ◌↔◌, length, slice_get, IsOk, IfOk, IfErr, OnOk, IsTrue, is_some};
+ghost use Rattle.std.specs.Prelude.{◌≡◌, ◌↔◌, ◌<◌, ◌^◌, length, slice_get, IsOk, IfOk, IfErr, OnOk, IsTrue, is_some};
 ghost use Rattle.std.specs.Option.{option_map};
+ghost use Rattle.std.specs.List.Sorted.{IsStrictlySortedBy};
 ghost use Rattle.gix_revwalk.specs.Held.{entry_of};
 ghost use Rattle.gix_revwalk.specs.History.{entry_at};
 ghost use Rattle.gix_commitgraph.specs.FileChunks.{layout_of};
 ghost use Rattle.gix_commitgraph.specs.FileCommits.{history_in};
-ghost use Rattle.gix_commitgraph.specs.FileChecks.{IsSound};
+ghost use Rattle.gix_commitgraph.specs.FileChecks.{IsSound, compare_ids};
 ghost use Rattle.gix_commitgraph.specs.FileFormat.{IsCommitGraph};
+ghost use Rattle.gix_commitgraph.specs.FileIds.{ids_in, IsFirstFrom};
 ghost use Rattle.gix_commitgraph.specs.FileHash.{HashIsRight};
 ghost use Rattle.gix_commitgraph.specs.FileLevels.{LevelsFall, IsLevelled};
 ghost use Rattle.gix_commitgraph.specs.FileRefused.{IsRefused};
@@ -18,7 +20,7 @@ use crate::commit_graph::commit::commit_at;
 use crate::commit_graph::fault::{OpenError, OpenFault};
 use crate::commit_graph::layout::{Layout, read_layout};
 use crate::commit_graph::levels;
-use crate::commit_graph::lookup::position;
+use crate::commit_graph::lookup::{position, search};
 use gix_base::hash::ObjectId;
 use gix_revwalk::graph::{Find, FindFault, SourceCommit};
 use sha1::Sha1;
@@ -105,6 +107,20 @@ impl<B: AsSlice<u8> + Drop> CommitGraph<B> {
             Some(id_at(self.bytes.as_slice(), self.layout.ids + 20 * position))
         } else {
             None
+        }
+    }
+
+    /// The position of the first id that is not less than `id`, whether or not the file has that one; the
+    /// number of commits where each id is less. It takes no memory, and asks about as many ids as
+    /// [`CommitGraph::get`].
+    pub fn position_from(&self, id: ObjectId) -> usize
+        ensures first { IsFirstFrom (ids_in self.now) id result }
+        ensures rising { IsStrictlySortedBy compare_ids (ids_in self.now) }
+        ensures small { result < 2 ^ 32 }
+    {
+        match search(self.bytes.as_slice(), self.layout, id) {
+            Ok(place) => place,
+            Err(place) => place,
         }
     }
 

@@ -1,8 +1,8 @@
 //! Where an id stands: gitformat-commit-graph, "OID Fanout" and "OID Lookup".
 
-ghost use Rattle.std.specs.Prelude.{◌≡◌, ◌≤◌, ◌<◌, MatchOption};
+ghost use Rattle.std.specs.Prelude.{◌≡◌, ◌≤◌, ◌<◌, ◌^◌, MatchOption, MatchResult};
 ghost use Rattle.gix_commitgraph.specs.FileChecks.{IsSound};
-ghost use Rattle.gix_commitgraph.specs.FileLookup.{IsAt, IsAbsent};
+ghost use Rattle.gix_commitgraph.specs.FileLookup.{IsAt, IsAbsent, IsGap};
 
 use crate::commit_graph::bytes::{id_at, word_at};
 use crate::commit_graph::check::below;
@@ -47,11 +47,12 @@ impl Span {
     }
 }
 
-/// The position of an id: the fanout says between which positions it stands, a few guesses come near
-/// it, and halves find it.
-pub(crate) fn position(bytes: &[u8], l: Layout, id: ObjectId) -> Option<usize>
+/// The position of an id, or else the one before which it would stand: the fanout says between which
+/// positions that is, a few guesses come near it, and halves find it.
+pub(crate) fn search(bytes: &[u8], l: Layout, id: ObjectId) -> Result<usize, usize>
     requires { IsSound bytes.now l }
-    ensures { MatchOption result (IsAbsent bytes.now l id) (IsAt bytes.now l id) }
+    ensures place { MatchResult result (IsAt bytes.now l id) (IsGap bytes.now l id) }
+    ensures small { MatchResult result (λ k. k < 2 ^ 32) (λ k. k < 2 ^ 32) }
 {
     let b = id.0[0];
     let number = number_of(id);
@@ -71,12 +72,23 @@ pub(crate) fn position(bytes: &[u8], l: Layout, id: ObjectId) -> Option<usize>
                 span.low = place + 1;
                 span.least = number_of(found);
             }
-            Ordering::Equal => return Some(place),
+            Ordering::Equal => return Ok(place),
             Ordering::Greater => {
                 span.high = place;
                 span.most = number_of(found);
             }
         }
     }
-    None
+    Err(span.low)
+}
+
+/// The position of an id.
+pub(crate) fn position(bytes: &[u8], l: Layout, id: ObjectId) -> Option<usize>
+    requires { IsSound bytes.now l }
+    ensures { MatchOption result (IsAbsent bytes.now l id) (IsAt bytes.now l id) }
+{
+    match search(bytes, l, id) {
+        Ok(place) => Some(place),
+        Err(_) => None,
+    }
 }

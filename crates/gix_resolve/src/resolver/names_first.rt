@@ -6,8 +6,9 @@ ghost use Rattle.gix_revision.specs.Call.{Hint, find_ref, prefix, peel, target_o
 ghost use Rattle.gix_revision.specs.Faults.{count_after};
 ghost use Rattle.gix_revision.specs.Graph.{KeepsHeld};
 ghost use Rattle.gix_revision.specs.Reading.{pieces_of};
+ghost use Rattle.gix_resolve.specs.Known.{known_by};
 ghost use Rattle.gix_resolve.specs.Resolved.{is_fault};
-ghost use Rattle.gix_resolve.specs.ResolverStep.{state_of};
+ghost use Rattle.gix_resolve.specs.ResolverStep.{known_of, state_of};
 ghost use Rattle.gix_resolve.specs.RevParse.{RevParsed, RevParsedOrFault, RevWalkedTo};
 ghost use Rattle.gix_resolve.specs.RevParse.{rev_may_want_memory};
 ghost use Rattle.gix_resolve.specs.RevStep.{AnswersByNames, RevAnswers, resolver_of};
@@ -15,6 +16,7 @@ ghost use Rattle.gix_resolve.specs.Steps.{start};
 
 use super::Resolver;
 use crate::history::peeled_to_commit;
+use crate::lookup::Ids;
 use crate::refusal::{Refusal, Trouble, answer, without_source};
 use crate::table::Table;
 use gix_revision::date::Time;
@@ -32,14 +34,14 @@ use std::alloc::{Allocator, Global};
 
 /// A resolver that takes no prefix, and each name in git's own order.
 #[derive(Drop)]
-pub(crate) struct NamesFirst<'a, S: Find, A: Allocator> {
-    resolver: Resolver<'a, S, A>,
+pub(crate) struct NamesFirst<'a, S: Find, A: Allocator, I: Ids> {
+    resolver: Resolver<'a, S, A, I>,
 }
 
-impl<'a, S: Find, A: Allocator + Copy> Resolver<'a, S, A> {
+impl<'a, S: Find, A: Allocator + Copy, I: Ids> Resolver<'a, S, A, I> {
     // A name.
     fn call_name(&mut self, name: &[u8]) -> Result<(), Exn>
-        ensures { AnswersByNames S.history S.fault_count
+        ensures { AnswersByNames I.ids S.history S.fault_count
             self.old (find_ref name.now) (answer_of result) self.new }
     {
         let next = self.state.called(self.table, name);
@@ -48,8 +50,8 @@ impl<'a, S: Find, A: Allocator + Copy> Resolver<'a, S, A> {
 
     // A prefix, which is none: then the parse asks for the name.
     fn pass_prefix(&mut self) -> Result<(), Exn>
-        ensures { (digits : List ℕ) (hint : Option Hint) → AnswersByNames S.history S.fault_count
-            self.old (prefix digits hint) (answer_of result) self.new }
+        ensures { (digits : List ℕ) (hint : Option Hint) → AnswersByNames I.ids S.history
+            S.fault_count self.old (prefix digits hint) (answer_of result) self.new }
     {
         let next = Err(Trouble::Refused(Refusal::NameFirst));
         answer(self.refusals, &mut self.state, next)
@@ -57,7 +59,7 @@ impl<'a, S: Find, A: Allocator + Copy> Resolver<'a, S, A> {
 
     // What is peeled.
     fn peel_to_commit(&mut self, kind: PeelTo<'_>) -> Result<(), Exn>
-        ensures { AnswersByNames S.history S.fault_count
+        ensures { AnswersByNames I.ids S.history S.fault_count
             self.old (peel (target_of kind.entry)) (answer_of result) self.new }
     {
         let next = peeled_to_commit(*self.alloc, self.state, kind, self.graph);
@@ -65,11 +67,11 @@ impl<'a, S: Find, A: Allocator + Copy> Resolver<'a, S, A> {
     }
 }
 
-impl<S: Find, A: Allocator + Copy> Listener for NamesFirst<'_, S, A> {
-    ghost step = { RevAnswers S.history S.fault_count };
+impl<S: Find, A: Allocator + Copy, I: Ids> Listener for NamesFirst<'_, S, A, I> {
+    ghost step = { RevAnswers I.ids S.history S.fault_count };
 }
 
-impl<S: Find, A: Allocator + Copy> Revision for NamesFirst<'_, S, A> {
+impl<S: Find, A: Allocator + Copy, I: Ids> Revision for NamesFirst<'_, S, A, I> {
     fn find_ref(&mut self, name: &[u8]) -> Result<(), Exn> {
         self.resolver.call_name(name)
     }
@@ -95,13 +97,13 @@ impl<S: Find, A: Allocator + Copy> Revision for NamesFirst<'_, S, A> {
     }
 }
 
-impl<S: Find, A: Allocator + Copy> Kind for NamesFirst<'_, S, A> {
+impl<S: Find, A: Allocator + Copy, I: Ids> Kind for NamesFirst<'_, S, A, I> {
     fn kind(&mut self, kind: spec::Kind) -> Result<(), Exn> {
         self.resolver.kind(kind)
     }
 }
 
-impl<S: Find, A: Allocator + Copy> Navigate for NamesFirst<'_, S, A> {
+impl<S: Find, A: Allocator + Copy, I: Ids> Navigate for NamesFirst<'_, S, A, I> {
     fn traverse(&mut self, kind: Traversal) -> Result<(), Exn> {
         self.resolver.traverse(kind)
     }
@@ -119,24 +121,24 @@ impl<S: Find, A: Allocator + Copy> Navigate for NamesFirst<'_, S, A> {
     }
 }
 
-impl<S: Find, A: Allocator + Copy> Delegate for NamesFirst<'_, S, A> {
+impl<S: Find, A: Allocator + Copy, I: Ids> Delegate for NamesFirst<'_, S, A, I> {
     fn done(&mut self) -> Result<(), Exn> {
         self.resolver.done()
     }
 }
 
 // Tells a text to a resolver that has heard nothing.
-fn tell_names<'a, S: Find, A: Allocator + Copy>(
+fn tell_names<'a, S: Find, A: Allocator + Copy, I: Ids>(
     alloc: A,
     text: &'a [u8],
     now: Time,
-    names: &mut NamesFirst<'_, S, A>,
+    names: &mut NamesFirst<'_, S, A, I>,
 ) -> Result<Spec, Error<'a>>
     requires { state_of (resolver_of names.now) ≡ start }
     ensures resolved { is_fault result ≡ false
-        → RevParsed text.now now (resolver_of names.old).table.now
+        → RevParsed text.now now (known_of I.ids (resolver_of names.old))
         (S.history (resolver_of names.old).graph.now.source) result }
-    ensures fault { RevParsedOrFault text.now now (resolver_of names.old).table.now
+    ensures fault { RevParsedOrFault text.now now (known_of I.ids (resolver_of names.old))
         (S.history (resolver_of names.old).graph.now.source) result }
     ensures memory { rev_may_want_memory (pieces_of text.now) ≡ false
         → IsErrOf result Error.OutOfMemory → ⊥ }
@@ -145,7 +147,7 @@ fn tell_names<'a, S: Find, A: Allocator + Copy>(
     ensures history { S.history (resolver_of names.new).graph.now.source
         ≡ S.history (resolver_of names.old).graph.now.source }
     ensures held { KeepsHeld (resolver_of names.old).graph.now (resolver_of names.new).graph.now }
-    ensures walked { RevWalkedTo text.now now (resolver_of names.old).table.now
+    ensures walked { RevWalkedTo text.now now (known_of I.ids (resolver_of names.old))
         (S.history (resolver_of names.old).graph.now.source) (resolver_of names.old).graph.now
         result (resolver_of names.new).graph.now }
     ensures same_reference { (resolver_of names.new).graph.ghost_name
@@ -174,24 +176,25 @@ fn tell_names<'a, S: Find, A: Allocator + Copy>(
 /// Those of [`resolve`](super::resolve). Where that would read digits in a name, `first` says
 /// `a name comes first`, and `second` why the name is none. `^{tag}`, `^{tree}` and `^{blob}` are
 /// refused with `commits alone are known`. Memory may be wanting for `^{}` and `^{object}`, too.
-pub fn rev_parse<'a, S: Find, A: Allocator + Copy>(
+pub fn rev_parse<'a, S: Find, A: Allocator + Copy, I: Ids>(
     alloc: A,
     refusals: Global,
     text: &'a [u8],
     now: Time,
-    table: &Table<A>,
+    table: &Table<A, I>,
     graph: &mut Graph<S, Commit<Flags, A>, A>,
 ) -> Result<Spec, Error<'a>>
     ensures resolved { is_fault result ≡ false
-        → RevParsed text.now now table.now (S.history graph.old.source) result }
-    ensures fault { RevParsedOrFault text.now now table.now (S.history graph.old.source) result }
+        → RevParsed text.now now (known_by I.ids table.now) (S.history graph.old.source) result }
+    ensures fault { RevParsedOrFault text.now now (known_by I.ids table.now)
+        (S.history graph.old.source) result }
     ensures memory { rev_may_want_memory (pieces_of text.now) ≡ false
         → IsErrOf result Error.OutOfMemory → ⊥ }
     ensures count { S.fault_count graph.new.source
         ≡ count_after (is_fault result) (S.fault_count graph.old.source) }
     ensures history { S.history graph.new.source ≡ S.history graph.old.source }
     ensures held { KeepsHeld graph.old graph.new }
-    ensures walked { RevWalkedTo text.now now table.now (S.history graph.old.source)
+    ensures walked { RevWalkedTo text.now now (known_by I.ids table.now) (S.history graph.old.source)
         graph.old result graph.new }
 {
     let resolver = Resolver::new(&alloc, refusals, table, graph);

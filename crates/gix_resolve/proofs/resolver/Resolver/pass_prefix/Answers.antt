@@ -1,6 +1,7 @@
 use Rattle.std.proofs.Common.{◌≡◌, inl, Err, refl, ap, ◌∙◌, true, false}
 use Rattle.gix_revision.specs.Call.{prefix}
 use Rattle.gix_revision.specs.Faults.{count_after}
+use Rattle.gix_resolve.specs.Known.{known_by}
 use Rattle.gix_resolve.specs.RevParse.{names_first}
 use Rattle.gix_resolve.specs.declared.refusal.Refusal.TheVariants.{NameFirst}
 use Rattle.gix_resolve.specs.declared.refusal.Trouble.TheVariants.{Refused}
@@ -9,12 +10,12 @@ use Rattle.gix_resolve.proofs.resolver.Resolver.pass_prefix.Goals as goal
 
 pub returns : goal.returns
 returns g c = λ digits hint.
-    let table = c.args.self.now.table.now in
+    let known = known_by g.I.Ids.ids c.args.self.now.table.now in
     let history = g.S.Find.history c.args.self.now.graph.now.source in
     let state = c.args.self.now.state in
     let answered = c.answer.ensures in
     record {
-      step = step_by (names_first table history) state (prefix digits hint) (Err (Refused NameFirst)) _ _ refl (λ yes. cc) answered;
+      step = step_by (names_first known history) state (prefix digits hint) (Err (Refused NameFirst)) _ _ refl (λ yes. cc) answered;
       table = refl;
       same_reference = refl;
       same_history = refl;
