@@ -6,7 +6,7 @@ use Rattle.std.specs.Ordering.{is_lt, is_eq, eq_by_cmp}
 use Rattle.std.specs.Cmp.{tied_itself}
 use Rattle.std.specs.declared.cmp.Ordering.{Ordering}
 use Rattle.std.specs.declared.cmp.Reverse.{Reverse}
-use Rattle.std.proofs.lemmas.List.{length-map}
+use Rattle.std.proofs.lemmas.List.{append-nil, length-map}
 use Rattle.std.proofs.lemmas.List.Elements.{All-from_recursion, recursion_from_All, filter_map-append}
 use Rattle.std.proofs.lemmas.List.Kept.{IsStrictlySortedBy-dedup}
 use Rattle.std.proofs.lemmas.List.Sorted.{All-permutation, IsPermutation-map, list_any-IsPermutation}
@@ -79,11 +79,7 @@ module _ (h : History) where
   pub turned_skip : (ids : List ObjectId) (i : ℕ) (d : ObjectId) (candidates : List (Reverse Candidate)) → i < length ids → candidates ≡ filter_map (turned_at h) (take i ids)
       → None ≡ candidate_at h (get_or ids i d) → candidates ≡ filter_map (turned_at h) (take (i + 1) ids)
   turned_skip ids i d candidates lt was none =
-      was ∙ sym (ap (filter_map (turned_at h)) (take_next ids i d lt) ∙ filter_map-append (turned_at h) (take i ids) (get_or ids i d ∷ []) ∙ rw (sym none) (append_none (filter_map (turned_at h) (take i ids))))
-    where
-      append_none : (l : List (Reverse Candidate)) → l ++ [] ≡ l
-      append_none [] = refl
-      append_none (x ∷ l) = ap (λ t. x ∷ t) (append_none l)
+      was ∙ sym (ap (filter_map (turned_at h)) (take_next ids i d lt) ∙ filter_map-append (turned_at h) (take i ids) (get_or ids i d ∷ []) ∙ rw (sym none) (append-nil (filter_map (turned_at h) (take i ids))))
 
   pub turned_push : (ids : List ObjectId) (i : ℕ) (d : ObjectId) (c : Candidate) (candidates : List (Reverse Candidate)) → i < length ids → candidates ≡ filter_map (turned_at h) (take i ids)
       → Some c ≡ candidate_at h (get_or ids i d) → candidates ++ record { 0 = c } ∷ [] ≡ filter_map (turned_at h) (take (i + 1) ids)

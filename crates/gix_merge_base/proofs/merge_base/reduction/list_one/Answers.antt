@@ -1,4 +1,5 @@
-use Rattle.std.proofs.Common.{◌≡◌, refl, sym, ap, subst, ◌∙◌, List, [], ◌∷◌, ◌++◌, ◌+◌, cond, true, false, is_some, rules}
+use Rattle.std.proofs.Common.{◌≡◌, refl, sym, ap, subst, ◌∙◌, [], ◌∷◌, ◌++◌, ◌+◌, cond, true, false, is_some, rules}
+use Rattle.std.proofs.lemmas.List.{append-nil}
 use Rattle.std.specs.Option.{unwrap_or}
 use Rattle.gix_base.specs.declared.hash.ObjectId.{ObjectId}
 use Rattle.gix_revwalk.specs.History.{entry_at, same_id}
@@ -14,10 +15,6 @@ use Rattle.gix_merge_base.proofs.Numbered.{given-marks, given-queued, same-marks
 use Rattle.gix_merge_base.proofs.QueueKeys.{number-id, kept-grown, kept-same}
 use Rattle.gix_merge_base.proofs.merge_base.reduction.list_one.Goals as goal
 
-append_nil : (l : List ObjectId) → l ++ [] ≡ l
-append_nil [] = refl
-append_nil (x ∷ l) = ap (λ t. x ∷ t) (append_nil l)
-
 pub returns-in-Ok-None-clause-listed : goal.returns-in-Ok-None-clause-listed
 returns-in-Ok-None-clause-listed g c all =
     let old = c.args.graph.now in
@@ -25,7 +22,7 @@ returns-in-Ok-None-clause-listed g c all =
     let taken = rw c.in-Ok-None.field-0-is at c.in-Ok-None.ensures in
     let grown = listed-grown old mid taken.grows c.args.numbers.now.items all in
     let lacks : is_some (entry_at (g.S.Find.history old.source) c.args.id) ≡ false = sym taken.has in
-    (grown.0, grown.1 ∙ sym (ap (λ b. ids_at old c.args.numbers.now.items ++ cond b (c.args.id ∷ []) []) lacks ∙ append_nil (ids_at old c.args.numbers.now.items)))
+    (grown.0, grown.1 ∙ sym (ap (λ b. ids_at old c.args.numbers.now.items ++ cond b (c.args.id ∷ []) []) lacks ∙ append-nil (ids_at old c.args.numbers.now.items)))
 
 pub returns-clause-listed : goal.returns-clause-listed
 returns-clause-listed g c all =
