@@ -4,7 +4,7 @@ ghost use Rattle.std.specs.Prelude.{◌≡◌, ◌++◌, ◌⊎◌, ⊤};
 ghost use Rattle.gix_commitgraph.specs.FileCommits.{history_in};
 ghost use Rattle.gix_commitgraph.specs.FileFormat.{IsCommitGraph};
 ghost use Rattle.gix_commitgraph.specs.FileLevels.{LevelsFall};
-ghost use Rattle.gix_commitgraph.specs.NewerCommits.{HasNoGenerations};
+ghost use Rattle.gix_revwalk.specs.Generations.{HasNoGenerations};
 ghost use Rattle.gix_revwalk.specs.History.{GenerationsNeverRise, History as Commits, IsAcyclic};
 ghost use Rattle.gix_c.specs.Answers.{ByCode};
 ghost use Rattle.gix_c.specs.Opened.{IsOpened};

@@ -4,7 +4,7 @@ use Rattle.gix_base.specs.declared.hash.ObjectId.{ObjectId}
 use Rattle.gix_revwalk.specs.History.{History, Entry, Has, IsEdge, IsAncestor, IsAcyclic, GenerationsNeverRise, entry_at, same_id, is_one_of, parents_in, generation_in, generation_of}
 use Rattle.gix_revwalk.specs.History.IsAncestor.{itself, further}
 use Rattle.gix_commitgraph.specs.FileLevels.{IsLevelled}
-use Rattle.gix_commitgraph.specs.NewerCommits.{HasNoGenerations}
+use Rattle.gix_revwalk.specs.Generations.{HasNoGenerations}
 use Rattle.gix_commitgraph.proofs.Falling.{fall-acyclic}
 
 one-has : (b : Bool) (v : Entry) (o p : Option Entry) → (IsTrue (is_some o) → p ≡ o) → IsTrue (is_some (cond b (Some v) o)) → cond b (Some v) p ≡ cond b (Some v) o

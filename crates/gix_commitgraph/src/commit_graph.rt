@@ -5,6 +5,7 @@ mod check;
 mod commit;
 mod fault;
 mod file;
+mod hints;
 mod joined;
 mod layout;
 mod levelled;

@@ -38,6 +38,10 @@ pub if-ok : {T E : Type 0} (r : Result T E) (P Q : T → Type 0) → ((x : T) �
 if-ok (Ok x) P Q f k = f x k
 if-ok (Err e) P Q f k = tt
 
+pub if-both : {T E : Type 0} (r : Result T E) (P Q R : T → Type 0) → ((x : T) → P x → Q x → R x) → IfOk r P → IfOk r Q → IfOk r R
+if-both (Ok x) P Q R f k l = f x k l
+if-both (Err e) P Q R f k l = tt
+
 pub on-ok : {T E : Type 0} (r : Result T E) {P Q : Type 0} → (P → Q) → OnOk r P → OnOk r Q
 on-ok (Ok x) f k = f k
 on-ok (Err e) f k = tt

@@ -1,6 +1,6 @@
 -- The ids of two lists that begin with some digits.
-use Rattle.std.proofs.Common.{◌≡◌, List, [], ◌∷◌, ◌++◌, cond, not, ◌||◌, Bool, true, false, IsTrue, refl, sym, ap, ◌∙◌, inl, inr}
-use Rattle.std.specs.List.{filter, AllByRecursion}
+use Rattle.std.proofs.Common.{◌≡◌, List, [], ◌∷◌, ◌++◌, not, Bool, true, false, refl, sym, ap, ◌∙◌}
+use Rattle.std.specs.List.{filter}
 use Rattle.std.proofs.lemmas.List.Elements.{filter-append}
 use Rattle.std.proofs.lemmas.Map.Keys.{IsDistinct-head}
 use Rattle.gix_base.specs.declared.hash.ObjectId.{ObjectId}
@@ -8,7 +8,7 @@ use Rattle.gix_revwalk.specs.History.{is_one_of, same_id}
 use Rattle.gix_revwalk.proofs.Ids.{same_id-true, same_id-equal}
 use Rattle.gix_revwalk.proofs.Members.{distinct_filter, one_of-filter, not_both}
 use Rattle.gix_resolve.specs.Found.{StandOnce, found_both, found_in, joined_ids}
-use Rattle.gix_resolve.specs.declared.lookup.Found.TheVariants.{Nothing, One, Many}
+use Rattle.gix_resolve.specs.declared.lookup.Found.TheVariants.{One, Many}
 use Rattle.gix_resolve.proofs.ListMembers.{distinct-append}
 
 -- those that are none of xs

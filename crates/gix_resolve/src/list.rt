@@ -11,6 +11,7 @@ ghost use Rattle.gix_resolve.specs.Taken.{TakesOnly, IsLookedAt, is_exclude};
 mod count;
 mod members;
 mod newest;
+mod range;
 mod walk;
 
 use crate::list::count::count_members;

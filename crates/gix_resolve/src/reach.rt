@@ -26,7 +26,9 @@ mod sides;
 mod walk;
 
 use crate::list::ListError;
-use crate::reach::count::{counted, listed};
+pub(crate) use crate::reach::count::counted;
+use crate::reach::count::listed;
+pub(crate) use crate::reach::newest::firsts;
 use crate::reach::newest::newest_listed;
 use gix_revision::graph::{self, Commit, Find, Graph};
 use gix_revision::hash::ObjectId;

@@ -57,6 +57,7 @@ pub use Rattle.gix_spec.specs.Ends
 pub use Rattle.gix_spec.specs.Heard
 pub use Rattle.gix_spec.specs.Orders
 pub use Rattle.gix_revwalk.specs.History
+pub use Rattle.gix_revwalk.specs.Generations
 pub use Rattle.gix_revwalk.specs.Faults
 pub use Rattle.gix_revwalk.specs.Held
 pub use Rattle.gix_revwalk.specs.Memory

@@ -18,7 +18,7 @@ mod memory;
 use crate::numbers::{self, Number};
 use crate::past::Past;
 pub use commit::{Commit, FullCommit};
-pub use find::{Find, FindFault, SourceCommit};
+pub use find::{Find, FindFault, Generations, SourceCommit};
 use gix_base::hash::ObjectId;
 pub use insert::{Insert, InsertError};
 pub use memory::MemorySource;

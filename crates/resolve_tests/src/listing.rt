@@ -9,6 +9,7 @@
 //!   3---5
 //! ```
 
+use crate::reaching::{BRANCHES, RISING};
 use fixtures::faults::{Answered, Asks, first_lost, first_wrong};
 use fixtures::histories::{CRISS_CROSS, Row, are, id, source_of};
 use gix_resolve::{ListError, commits, count_commits, page};
@@ -59,7 +60,14 @@ const UNEVEN: [Row<'static>; 4] = [
     Row(6, 1, None, &[8]),
 ];
 
-static WORKED: [Listing; 34] = [
+/// The parent 1 comes behind its child 2, and has a greater generation.
+const LATE: [Row<'static>; 3] = [
+    Row(2, 2, Some(2), &[1]),
+    Row(1, 1, Some(5), &[]),
+    Row(3, 3, Some(6), &[1]),
+];
+
+static WORKED: [Listing; 36] = [
     Listing(Of::Include(5), &CRISS_CROSS, Part::Whole, &[1, 2, 3, 5]),
     Listing(Of::Range(4, 5), &CRISS_CROSS, Part::Whole, &[5]),
     Listing(Of::Merge(4, 5), &CRISS_CROSS, Part::Whole, &[4, 5]),
@@ -88,6 +96,9 @@ static WORKED: [Listing; 34] = [
     Listing(Of::IncludeOnlyParents(2), &CYCLE, Part::Whole, &[1, 2]),
     Listing(Of::Include(3), &UNEVEN, Part::Whole, &[1, 2, 3]),
     Listing(Of::IncludeOnlyParents(6), &UNEVEN, Part::Whole, &[]),
+    // A generation rises: none of what lies below the hidden commit is listed.
+    Listing(Of::Range(2, 3), &RISING, Part::Whole, &[3]),
+    Listing(Of::Range(2, 3), &LATE, Part::Whole, &[3]),
     // Pages.
     Listing(
         Of::Include(5),
@@ -118,6 +129,13 @@ static WORKED: [Listing; 34] = [
     Listing(Of::Merge(2, 9), &CRISS_CROSS, Part::Count, &[1, 2]),
     Listing(Of::IncludeOnlyParents(9), &CRISS_CROSS, Part::Count, &[]),
     Listing(Of::ExcludeParents(9), &CRISS_CROSS, Part::Count, &[]),
+];
+
+/// Two near commits with generations, of which no more is looked up than what lies between.
+static NEAR: [Listing; 3] = [
+    Listing(Of::Range(4, 6), &BRANCHES, Part::Whole, &[5, 6]),
+    Listing(Of::Range(6, 4), &BRANCHES, Part::Whole, &[]),
+    Listing(Of::Range(4, 6), &BRANCHES, Part::Count, &[5, 6]),
 ];
 
 fn spec_of(of: Of) -> Spec {
@@ -246,6 +264,12 @@ fn specs_list_their_commits_in_rising_order(rt: HostRuntime) -> Result<(), Fail>
 }
 
 #[test]
+fn lists_end_early_where_the_source_knows_of_generations(rt: HostRuntime) -> Result<(), Fail> {
+    assert_eq!(rt; first_wrong(rt.alloc(), &NEAR, 3)?, None);
+    Ok(())
+}
+
+#[test]
 fn pages_make_up_the_list(rt: HostRuntime) -> Result<(), Fail> {
     assert_eq!(rt; first_unjoined(rt.alloc())?, None);
     Ok(())
@@ -254,5 +278,11 @@ fn pages_make_up_the_list(rt: HostRuntime) -> Result<(), Fail> {
 #[test]
 fn refused_look_ups_and_memory_refuse_a_list(rt: HostRuntime) -> Result<(), Fail> {
     assert_eq!(rt; first_lost(rt.alloc(), &WORKED)?, None);
+    Ok(())
+}
+
+#[test]
+fn refused_look_ups_and_memory_refuse_an_early_list(rt: HostRuntime) -> Result<(), Fail> {
+    assert_eq!(rt; first_lost(rt.alloc(), &NEAR)?, None);
     Ok(())
 }

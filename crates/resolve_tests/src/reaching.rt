@@ -38,7 +38,7 @@ struct Reaching(
 ///      \
 ///       7---8
 /// ```
-const BRANCHES: [Row<'static>; 8] = [
+pub(crate) const BRANCHES: [Row<'static>; 8] = [
     Row(1, 1, Some(1), &[]),
     Row(2, 2, Some(2), &[1]),
     Row(3, 3, Some(3), &[2]),
@@ -50,7 +50,7 @@ const BRANCHES: [Row<'static>; 8] = [
 ];
 
 /// The parent 1 has a greater generation than its child 2.
-const RISING: [Row<'static>; 3] = [
+pub(crate) const RISING: [Row<'static>; 3] = [
     Row(1, 1, Some(5), &[]),
     Row(2, 2, Some(2), &[1]),
     Row(3, 3, Some(6), &[1]),

@@ -2,7 +2,8 @@
 
 use gix_resolve::{JoinedIds, Table};
 pub(crate) use gix_revision::commit_graph::Commits;
-use gix_revision::commit_graph::LevelledGraph;
+use gix_revision::commit_graph::{Joined, LevelledGraph};
+use gix_revision::graph::MemorySource;
 use gix_revision::hash::ObjectId;
 use std::collections::BTreeSet;
 
@@ -11,3 +12,6 @@ pub(crate) type CommitTable<'s, A> = Table<
     A,
     JoinedIds<Option<&'s LevelledGraph>, BTreeSet<ObjectId, A>>,
 >;
+
+/// The commits as they are lent to a graph.
+pub(crate) type LentCommits<'s, A> = Joined<&'s MemorySource<A>, &'s [u8]>;

@@ -18,9 +18,10 @@ use crate::commit_graph::bytes::id_at;
 use crate::commit_graph::check::check;
 use crate::commit_graph::commit::commit_at;
 use crate::commit_graph::fault::{OpenError, OpenFault};
+use crate::commit_graph::hints::Hints;
 use crate::commit_graph::layout::{Layout, read_layout};
 use crate::commit_graph::levels;
-use crate::commit_graph::lookup::{position, search};
+use crate::commit_graph::lookup::{position, position_near, search};
 use gix_base::hash::ObjectId;
 use gix_revwalk::graph::{Find, FindFault, SourceCommit};
 use sha1::Sha1;
@@ -36,6 +37,7 @@ use std::marker::Model;
 pub struct CommitGraph<B: AsSlice<u8> + Drop = Vec<u8, Global>> {
     bytes: B,
     layout: Layout,
+    hints: Hints,
 }
 
 impl<B: AsSlice<u8> + Drop> Model for CommitGraph<B> {
@@ -79,7 +81,11 @@ impl<B: AsSlice<u8> + Drop> CommitGraph<B> {
         ensures refused { IfErr result (λ error. IsRefused (B.items bytes) error.fault) }
     {
         match read(bytes.as_slice()) {
-            Ok(layout) => Ok(CommitGraph { bytes, layout }),
+            Ok(layout) => Ok(CommitGraph {
+                bytes,
+                layout,
+                hints: Hints::new(),
+            }),
             Err(fault) => Err(OpenError { bytes, fault }),
         }
     }
@@ -88,8 +94,24 @@ impl<B: AsSlice<u8> + Drop> CommitGraph<B> {
     pub fn into_bytes(self) -> B
         ensures { B.items result ≡ self }
     {
-        let CommitGraph { bytes, layout: _ } = self;
+        let CommitGraph {
+            bytes,
+            layout: _,
+            hints: _,
+        } = self;
         bytes
+    }
+
+    /// The file once more, over the same bytes. Look-ups by [`Find`] keep where parents stand, each in the
+    /// file that it asks: so graphs that share a file are quickest over one of these each.
+    pub fn lend(&self) -> CommitGraph<&[u8]>
+        ensures { result ≡ self.now }
+    {
+        CommitGraph {
+            bytes: self.bytes.as_slice(),
+            layout: self.layout,
+            hints: Hints::new(),
+        }
     }
 
     /// How many commits there are.
@@ -169,6 +191,27 @@ impl<B: AsSlice<u8> + Drop> CommitGraph<B> {
         };
         Ok(Some(commit_at(bytes, self.layout, i, alloc)?))
     }
+
+    /// As [`CommitGraph::get`], for a walk, which asks for the parents next: it keeps where they stand.
+    pub(crate) fn get_on_walk<A: Allocator>(
+        &mut self,
+        alloc: A,
+        id: ObjectId,
+    ) -> Result<Option<SourceCommit<A>>, AllocError>
+        ensures found { IfOk result
+            (λ found. option_map entry_of found ≡ entry_at (history_in self.old) id) }
+        ensures same { self.new ≡ self.old }
+    {
+        let bytes = self.bytes.as_slice();
+        let Some(i) = position_near(bytes, self.layout, id, self.hints.guess(id)) else {
+            return Ok(None);
+        };
+        self.hints.read_ahead(bytes, self.layout, i);
+        let commit = commit_at(bytes, self.layout, i, alloc)?;
+        self.hints
+            .note_parents(bytes, self.layout, i, &commit.parents);
+        Ok(Some(commit))
+    }
 }
 
 impl<B: AsSlice<u8> + Drop> Find for CommitGraph<B> {
@@ -181,7 +224,7 @@ impl<B: AsSlice<u8> + Drop> Find for CommitGraph<B> {
         alloc: A,
         id: ObjectId,
     ) -> Result<Option<SourceCommit<A>>, FindFault> {
-        Ok(self.get(alloc, id)?)
+        Ok(self.get_on_walk(alloc, id)?)
     }
 
     fn faults(&self) -> u64 {

@@ -2,15 +2,18 @@
 
 ghost use Rattle.std.specs.Prelude.{◌≡◌, ◌++◌, None, Some, is_some, IfErr, IfOk, OnErr, OnOk, if◌then◌else◌};
 ghost use Rattle.std.specs.Option.{option_map};
+ghost use Rattle.gix_revwalk.specs.Generations.{HasNoGenerations};
 ghost use Rattle.gix_revwalk.specs.Held.{entry_of};
 ghost use Rattle.gix_revwalk.specs.History.{IsAcyclic, GenerationsNeverRise, entry_at, same_id};
 ghost use Rattle.gix_revwalk.specs.Memory.{SaysWhy};
-ghost use Rattle.gix_commitgraph.specs.NewerCommits.{HasNoGenerations, in_file};
+ghost use Rattle.gix_commitgraph.specs.NewerCommits.{in_file};
 ghost use Rattle.gix_base.specs.declared.hash.ObjectId.{ObjectId};
 
 use crate::commit_graph::levelled::LevelledGraph;
 use gix_base::hash::ObjectId;
-use gix_revwalk::graph::{Find, FindFault, Insert, InsertError, MemorySource, SourceCommit};
+use gix_revwalk::graph::{
+    Find, FindFault, Generations, Insert, InsertError, MemorySource, SourceCommit,
+};
 use std::alloc::{AllocError, Allocator, Global};
 use std::convert::AsSlice;
 
@@ -64,6 +67,22 @@ impl<S: Find, B: AsSlice<u8> + Drop> Joined<S, B> {
             None => Ok(None),
         }
     }
+
+    /// The same on a walk, which asks for the parents next.
+    fn find_on_walk<A: Allocator>(
+        &mut self,
+        alloc: A,
+        id: ObjectId,
+    ) -> Result<Option<SourceCommit<A>>, AllocError>
+        ensures found { IfOk result
+            (λ found. option_map entry_of found ≡ entry_at (in_file self.old.file) id) }
+        ensures same { self.new ≡ self.old }
+    {
+        match &mut self.file {
+            Some(file) => file.get_on_walk(alloc, id),
+            None => Ok(None),
+        }
+    }
 }
 
 impl<A: Allocator + Copy> Joined<MemorySource<A>> {
@@ -99,6 +118,20 @@ impl<M: Allocator, B: AsSlice<u8> + Drop> Joined<MemorySource<M>, B> {
         }
         self.newer.get(alloc, id)
     }
+
+    /// The same commits once more, for a graph of its own, as [`CommitGraph::lend`](crate::commit_graph::CommitGraph::lend).
+    pub fn lend(&self) -> Joined<&MemorySource<M>, &[u8]>
+        ensures file { in_file result.file ≡ in_file self.now.file }
+        ensures newer { result.newer.now ≡ self.now.newer }
+    {
+        Joined {
+            file: match &self.file {
+                Some(file) => Some(file.lend()),
+                None => None,
+            },
+            newer: &self.newer,
+        }
+    }
 }
 
 impl<S: Find, B: AsSlice<u8> + Drop> Find for Joined<S, B> {
@@ -111,7 +144,7 @@ impl<S: Find, B: AsSlice<u8> + Drop> Find for Joined<S, B> {
         alloc: A,
         id: ObjectId,
     ) -> Result<Option<SourceCommit<A>>, FindFault> {
-        if let Some(commit) = self.find_in_file(alloc, id)? {
+        if let Some(commit) = self.find_on_walk(alloc, id)? {
             return Ok(Some(commit));
         }
         self.newer.find(alloc, id)
@@ -119,6 +152,15 @@ impl<S: Find, B: AsSlice<u8> + Drop> Find for Joined<S, B> {
 
     fn faults(&self) -> u64 {
         self.newer.faults()
+    }
+
+    fn generations(&self) -> Generations {
+        self.premises();
+        match (&self.file, self.newer.generations()) {
+            (None, known) => known,
+            (Some(_), Generations::Absent) => Generations::NeverRise,
+            (Some(_), _) => Generations::Unknown,
+        }
     }
 }
 
@@ -138,6 +180,10 @@ impl<M: Allocator, B: AsSlice<u8> + Drop> Find for &Joined<MemorySource<M>, B> {
 
     fn faults(&self) -> u64 {
         0
+    }
+
+    fn generations(&self) -> Generations {
+        (**self).generations()
     }
 }
 

@@ -1,14 +1,16 @@
 //! A file whose levels fall.
 
 ghost use Rattle.std.specs.Prelude.{◌≡◌, ◌↔◌, IsOk, IfOk, IfErr};
-ghost use Rattle.gix_revwalk.specs.History.{IsAcyclic, GenerationsNeverRise};
+ghost use Rattle.std.specs.Option.{option_map};
+ghost use Rattle.gix_revwalk.specs.Held.{entry_of};
+ghost use Rattle.gix_revwalk.specs.History.{IsAcyclic, GenerationsNeverRise, entry_at};
 ghost use Rattle.gix_commitgraph.specs.FileCommits.{history_in};
 ghost use Rattle.gix_commitgraph.specs.FileLevels.{LevelsFall, IsLevelled};
 
 use crate::commit_graph::file::CommitGraph;
 use gix_base::hash::ObjectId;
-use gix_revwalk::graph::{Find, FindFault, SourceCommit};
-use std::alloc::{Allocator, Global};
+use gix_revwalk::graph::{Find, FindFault, Generations, SourceCommit};
+use std::alloc::{AllocError, Allocator, Global};
 use std::convert::AsSlice;
 use std::marker::Model;
 
@@ -65,6 +67,28 @@ impl<B: AsSlice<u8> + Drop> LevelledGraph<B> {
         &self.graph
     }
 
+    /// The file once more, as [`CommitGraph::lend`].
+    pub fn lend(&self) -> LevelledGraph<&[u8]>
+        ensures { result ≡ self.now }
+    {
+        LevelledGraph {
+            graph: self.graph.lend(),
+        }
+    }
+
+    /// As [`CommitGraph::get_on_walk`].
+    pub(crate) fn get_on_walk<A: Allocator>(
+        &mut self,
+        alloc: A,
+        id: ObjectId,
+    ) -> Result<Option<SourceCommit<A>>, AllocError>
+        ensures found { IfOk result
+            (λ found. option_map entry_of found ≡ entry_at (history_in self.old) id) }
+        ensures same { self.new ≡ self.old }
+    {
+        self.graph.get_on_walk(alloc, id)
+    }
+
     /// The file back.
     pub fn into_graph(self) -> CommitGraph<B>
         ensures { result ≡ self }
@@ -84,11 +108,16 @@ impl<B: AsSlice<u8> + Drop> Find for LevelledGraph<B> {
         alloc: A,
         id: ObjectId,
     ) -> Result<Option<SourceCommit<A>>, FindFault> {
-        Ok(self.graph().get(alloc, id)?)
+        Ok(self.get_on_walk(alloc, id)?)
     }
 
     fn faults(&self) -> u64 {
         0
+    }
+
+    fn generations(&self) -> Generations {
+        self.premises();
+        Generations::NeverRise
     }
 }
 
@@ -108,5 +137,10 @@ impl<B: AsSlice<u8> + Drop> Find for &LevelledGraph<B> {
 
     fn faults(&self) -> u64 {
         0
+    }
+
+    fn generations(&self) -> Generations {
+        self.premises();
+        Generations::NeverRise
     }
 }

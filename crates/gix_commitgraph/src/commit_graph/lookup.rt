@@ -92,3 +92,14 @@ pub(crate) fn position(bytes: &[u8], l: Layout, id: ObjectId) -> Option<usize>
         Err(_) => None,
     }
 }
+
+/// The position of an id, which may be a guess.
+pub(crate) fn position_near(bytes: &[u8], l: Layout, id: ObjectId, guess: usize) -> Option<usize>
+    requires { IsSound bytes.now l }
+    ensures { MatchOption result (IsAbsent bytes.now l id) (IsAt bytes.now l id) }
+{
+    if guess < l.count && id_at(bytes, l.ids + 20 * guess) == id {
+        return Some(guess);
+    }
+    position(bytes, l, id)
+}

@@ -12,6 +12,7 @@ ghost use Rattle.gix_resolve.specs.ListMeaning.{IsMeant};
 ghost use Rattle.gix_resolve.specs.ListWalk.{AreJust};
 ghost use Rattle.gix_resolve.specs.Taken.{TakesOnly, IsLookedAt, is_exclude};
 
+use crate::list::range::between;
 use crate::list::walk::{ancestors_beyond, ids_of};
 use gix_revision::graph::{self, Commit, Find, Graph};
 use gix_revision::hash::ObjectId;
@@ -107,11 +108,10 @@ pub(crate) fn members<S: Find, A: Allocator + Copy>(
         → IsOkAnd result (λ numbers. numbers.items ≡ []) × (graph.new ≡ graph.old) }
     ensures after { GraphAfter S.history S.fault_count is_source_fault graph.old graph.new result }
 {
-    let marks = Flags::default();
     match spec {
-        Spec::Include(id) => ancestors_beyond(alloc, &[], &[id], marks, graph),
+        Spec::Include(id) => ancestors_beyond(alloc, &[], &[id], Flags::default(), graph),
         Spec::Exclude(_) => Ok(Vec::new(alloc)),
-        Spec::Range { from, to } => ancestors_beyond(alloc, &[from], &[to], marks, graph),
+        Spec::Range { from, to } => between(alloc, from, to, graph),
         Spec::Merge { theirs, ours } => ancestors_of_just_one(alloc, theirs, ours, graph),
         Spec::IncludeOnlyParents(id) => ancestors_of_parents(alloc, id, graph),
         Spec::ExcludeParents(id) => alone(alloc, id, graph),

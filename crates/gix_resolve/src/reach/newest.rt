@@ -39,6 +39,25 @@ fn firsts_of<S: Find, A: Allocator + Copy>(
     Ok(firsts)
 }
 
+/// The numbers of what the ids `first` reach and those of `second` do not, each once, in no order; where a
+/// generation rises, perhaps more of what `first` reaches.
+pub(crate) fn firsts<S: Find, A: Allocator + Copy>(
+    alloc: A,
+    first: &[ObjectId],
+    second: &[ObjectId],
+    graph: &mut Graph<S, Commit<Flags, A>, A>,
+) -> Result<Vec<Number, A>, Error>
+    ensures inside { IfOk result (λ firsts. AreIn graph.new firsts.items) }
+    ensures listed { IfOk result (λ firsts.
+        ListsFirst (S.history graph.old.source) first.now second.now (ids_at graph.new firsts.items)) }
+    ensures taken { TakesOnly (IsAncestorOfOne (S.history graph.old.source)
+        (first.now ++ second.now)) graph.old graph.new }
+    ensures after { GraphAfter S.history S.fault_count is_source_fault graph.old graph.new result }
+{
+    let walk = follow(alloc, first, second, false, graph)?;
+    Ok(firsts_of(alloc, &walk.met, graph)?)
+}
+
 /// What the ids `first` reach and those of `second` do not, each once, the newest first; where a generation
 /// rises, perhaps more of what `first` reaches.
 pub(crate) fn newest_listed<S: Find, A: Allocator + Copy>(
@@ -54,7 +73,6 @@ pub(crate) fn newest_listed<S: Find, A: Allocator + Copy>(
         (first.now ++ second.now)) graph.old graph.new }
     ensures after { GraphAfter S.history S.fault_count is_source_fault graph.old graph.new result }
 {
-    let walk = follow(alloc, first, second, false, graph)?;
-    let firsts = firsts_of(alloc, &walk.met, graph)?;
-    Ok(newest_of(alloc, &firsts, graph)?)
+    let numbers = firsts(alloc, first, second, graph)?;
+    Ok(newest_of(alloc, &numbers, graph)?)
 }

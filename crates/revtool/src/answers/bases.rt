@@ -1,7 +1,7 @@
 //! The answers to `base`, `octopus`, `octopus-all`, `independent` and `ancestor` lines, on one reused graph.
 
 use crate::answers::Outcome;
-use crate::commits::Commits;
+use crate::commits::LentCommits;
 use crate::lines::Heads;
 use gix_revision::error::NonEmpty;
 use gix_revision::graph::{Commit, Graph};
@@ -13,7 +13,7 @@ use std::alloc::Allocator;
 use std::io::{self, Write};
 
 /// The graph of all lines but those of `describe` and `describe-as`.
-pub(super) type BaseGraph<'s, A> = Graph<&'s Commits<A>, Commit<Flags, A>, A>;
+pub(super) type BaseGraph<'s, A> = Graph<LentCommits<'s, A>, Commit<Flags, A>, A>;
 
 /// `base` and the ids in rising order, or `base none`.
 pub(super) fn answer_base<W: Write, A: Allocator + Copy>(

@@ -8,11 +8,11 @@ use Rattle.gix_commitgraph.proofs.commit_graph.joined.JoinedFind.find.Goals as g
 
 pub returns-in-Some-clause-found : goal.returns-in-Some-clause-found
 returns-in-Some-clause-found g c =
-    let e = sym c.in_ok-commit.ensures ∙ ap (option_map entry_of) c.in-Some.is in
+    let e = sym c.in_ok-commit.ensures.found ∙ ap (option_map entry_of) c.in-Some.is in
     sym (first-has (in_file c.args.self.now.file) (g.S.Find.history c.args.self.now.newer) c.args.id (ap is_some e) ∙ e)
 
 pub returns-clause-found : goal.returns-clause-found
 returns-clause-found g c =
     let P : Option Entry → Type 0 = λ o. IfOk c.find.result (λ found. option_map entry_of found ≡ o) in
-    let none = sym c.in_ok-commit.ensures ∙ ap (option_map entry_of) c.in_default.is in
-    subst P (sym (first-lacks (in_file c.args.self.now.file) (g.S.Find.history c.args.self.now.newer) c.args.id none)) c.find.ensures.found
+    let none = sym c.in_ok-commit.ensures.found ∙ ap (option_map entry_of) c.in_default.is in
+    subst P (sym (first-lacks (in_file c.args.self.now.file) (g.S.Find.history c.args.self.now.newer) c.args.id none)) (rw c.find_on_walk.ensures.same at c.find.ensures.found)

@@ -1,0 +1,28 @@
+-- What a source in memory keeps right of the generations of its commits.
+use Rattle.std.specs.Prelude.{◌≡◌, ◌≤◌, ℕ, ⊤, None, Some, if◌then◌else◌}
+use Rattle.std.specs.List.{All}
+use Rattle.gix_base.specs.declared.hash.ObjectId.{ObjectId}
+use Rattle.gix_revwalk.specs.History.{Entry, History, Has, entry_at, generation_of, parents_in, same_id}
+use Rattle.gix_revwalk.specs.Generations.{HasNoGenerations}
+use Rattle.gix_revwalk.specs.declared.graph.find.Generations.{Generations}
+use Rattle.gix_revwalk.specs.declared.graph.find.Generations.TheVariants.{Unknown, Absent, NeverRise}
+
+-- id is in the history, with no greater generation than n
+abbrev pub IsUpTo : History → ℕ → ObjectId → Type 0
+IsUpTo h n id = Has h id × (generation_of h id ≤ n)
+
+-- each parent of a commit is in the history, with no greater generation
+abbrev pub AreLevelled : History → Type 0
+AreLevelled h = (a : ObjectId) → All (IsUpTo h (generation_of h a)) (parents_in (entry_at h a))
+
+-- what is noted of the generations is so; and where they never rise no parent is missing, so that what is put in is nobody's parent
+abbrev pub AreNoted : Generations → History → Type 0
+AreNoted Unknown h = ⊤
+AreNoted Absent h = HasNoGenerations h
+AreNoted NeverRise h = AreLevelled h
+
+-- that is noted of a history once it has one more commit
+abbrev pub AreNotedWith : Generations → History → Entry → Type 0
+AreNotedWith known h e =
+    (id : ObjectId) (more : History) → entry_at h id ≡ None
+    → ((q : ObjectId) → entry_at more q ≡ (if same_id id q then Some e else entry_at h q)) → AreNoted known more
