@@ -1,10 +1,9 @@
 //! The answers to `base`, `octopus`, `octopus-all`, `independent` and `ancestor` lines, on one reused graph.
 
 use crate::answers::Outcome;
-use crate::commits::LentCommits;
 use crate::lines::Heads;
 use gix_revision::error::NonEmpty;
-use gix_revision::graph::{Commit, Graph};
+use gix_revision::graph::{Commit, Find, Graph};
 use gix_revision::hash::ObjectId;
 use gix_revision::merge_base::{
     self, Flags, is_ancestor, merge_base, octopus, octopus_bases, reduce,
@@ -12,14 +11,14 @@ use gix_revision::merge_base::{
 use std::alloc::Allocator;
 use std::io::{self, Write};
 
-/// The graph of all lines but those of `describe` and `describe-as`.
-pub(super) type BaseGraph<'s, A> = Graph<LentCommits<'s, A>, Commit<Flags, A>, A>;
+/// The graph of all lines but those of `describe` and `describe-as`, over their commits.
+pub(super) type BaseGraph<S, A> = Graph<S, Commit<Flags, A>, A>;
 
 /// `base` and the ids in rising order, or `base none`.
-pub(super) fn answer_base<W: Write, A: Allocator + Copy>(
+pub(super) fn answer_base<S: Find, W: Write, A: Allocator + Copy>(
     alloc: A,
     heads: &Heads<A>,
-    graph: &mut BaseGraph<'_, A>,
+    graph: &mut BaseGraph<S, A>,
     output: &mut W,
 ) -> io::Result<Outcome> {
     match merge_base(alloc, heads.first, &heads.others, graph) {
@@ -29,10 +28,10 @@ pub(super) fn answer_base<W: Write, A: Allocator + Copy>(
 }
 
 /// `octopus` and the id, or `octopus none`.
-pub(super) fn answer_octopus<W: Write, A: Allocator + Copy>(
+pub(super) fn answer_octopus<S: Find, W: Write, A: Allocator + Copy>(
     alloc: A,
     heads: &Heads<A>,
-    graph: &mut BaseGraph<'_, A>,
+    graph: &mut BaseGraph<S, A>,
     output: &mut W,
 ) -> io::Result<Outcome> {
     match octopus(alloc, heads.first, &heads.others, graph) {
@@ -44,10 +43,10 @@ pub(super) fn answer_octopus<W: Write, A: Allocator + Copy>(
 }
 
 /// `octopus-all` and the ids in rising order, or `octopus-all none`.
-pub(super) fn answer_octopus_all<W: Write, A: Allocator + Copy>(
+pub(super) fn answer_octopus_all<S: Find, W: Write, A: Allocator + Copy>(
     alloc: A,
     heads: &Heads<A>,
-    graph: &mut BaseGraph<'_, A>,
+    graph: &mut BaseGraph<S, A>,
     output: &mut W,
 ) -> io::Result<Outcome> {
     match octopus_bases(alloc, heads.first, &heads.others, graph) {
@@ -57,10 +56,10 @@ pub(super) fn answer_octopus_all<W: Write, A: Allocator + Copy>(
 }
 
 /// `independent` and the ids that no other of them reaches, in rising order.
-pub(super) fn answer_independent<W: Write, A: Allocator + Copy>(
+pub(super) fn answer_independent<S: Find, W: Write, A: Allocator + Copy>(
     alloc: A,
     ids: &[ObjectId],
-    graph: &mut BaseGraph<'_, A>,
+    graph: &mut BaseGraph<S, A>,
     output: &mut W,
 ) -> io::Result<Outcome> {
     match reduce(alloc, ids, graph) {
@@ -70,11 +69,11 @@ pub(super) fn answer_independent<W: Write, A: Allocator + Copy>(
 }
 
 /// `ancestor yes` or `ancestor no`.
-pub(super) fn answer_ancestor<W: Write, A: Allocator + Copy>(
+pub(super) fn answer_ancestor<S: Find, W: Write, A: Allocator + Copy>(
     alloc: A,
     ancestor: ObjectId,
     of: ObjectId,
-    graph: &mut BaseGraph<'_, A>,
+    graph: &mut BaseGraph<S, A>,
     output: &mut W,
 ) -> io::Result<Outcome> {
     match is_ancestor(alloc, ancestor, of, graph) {

@@ -4,16 +4,17 @@ use crate::answers::Outcome;
 use crate::answers::bases::{BaseGraph, print_list};
 use crate::lines::Sides;
 use gix_resolve::{ListError, ahead_behind, count_reachable, reachable_newest_first};
+use gix_revision::graph::Find;
 use gix_revision::hash::ObjectId;
 use std::alloc::Allocator;
 use std::io::{self, Write};
 
 /// `ahead-behind`, how many commits the first alone reaches, and how many the second alone.
-pub(super) fn answer_ahead_behind<W: Write, A: Allocator + Copy>(
+pub(super) fn answer_ahead_behind<S: Find, W: Write, A: Allocator + Copy>(
     alloc: A,
     ours: ObjectId,
     theirs: ObjectId,
-    graph: &mut BaseGraph<'_, A>,
+    graph: &mut BaseGraph<S, A>,
     output: &mut W,
 ) -> io::Result<Outcome> {
     match ahead_behind(alloc, ours, theirs, graph) {
@@ -24,10 +25,10 @@ pub(super) fn answer_ahead_behind<W: Write, A: Allocator + Copy>(
 }
 
 /// `reachable` and what is reached from the shown commits alone, the newest first, or `reachable none`.
-pub(super) fn answer_reachable<W: Write, A: Allocator + Copy>(
+pub(super) fn answer_reachable<S: Find, W: Write, A: Allocator + Copy>(
     alloc: A,
     sides: &Sides<A>,
-    graph: &mut BaseGraph<'_, A>,
+    graph: &mut BaseGraph<S, A>,
     output: &mut W,
 ) -> io::Result<Outcome> {
     match reachable_newest_first(alloc, &sides.shown, &sides.hidden, graph) {
@@ -37,10 +38,10 @@ pub(super) fn answer_reachable<W: Write, A: Allocator + Copy>(
 }
 
 /// `reachable-count` and how many commits are reached from the shown ones alone.
-pub(super) fn answer_reachable_count<W: Write, A: Allocator + Copy>(
+pub(super) fn answer_reachable_count<S: Find, W: Write, A: Allocator + Copy>(
     alloc: A,
     sides: &Sides<A>,
-    graph: &mut BaseGraph<'_, A>,
+    graph: &mut BaseGraph<S, A>,
     output: &mut W,
 ) -> io::Result<Outcome> {
     match count_reachable(alloc, &sides.shown, &sides.hidden, graph) {
