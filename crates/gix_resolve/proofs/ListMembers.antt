@@ -1,5 +1,5 @@
 -- The members of the sets that specs mean, as lists.
-use Rattle.std.proofs.Common.{◌≡◌, ◌==◌, ◌<◌, ℕ, length, true, false, refl, ap, sym, subst, ◌∙◌, List, [], ◌∷◌, ◌++◌, inl, inr, is_some, Option, Some, None, Result, Ok, Err, IfOk, OnOk, IsTrue, true≢false, arith}
+use Rattle.std.proofs.Common.{◌≡◌, ◌==◌, ◌<◌, ℕ, length, true, false, refl, ap, sym, subst, ◌∙◌, List, [], ◌∷◌, ◌++◌, ◌⊎◌, inl, inr, is_some, Option, Some, None, Result, Ok, Err, IfOk, OnOk, IsTrue, true≢false, arith}
 use Rattle.std.specs.List.{AllByRecursion, IsDistinct}
 use Rattle.std.proofs.lemmas.List.{map-append, nil_from_length}
 use Rattle.std.proofs.lemmas.Map.Keys.{IsDistinct-head, IsDistinct-tail, IsDistinct-cons}
@@ -94,21 +94,33 @@ distinct-append (x ∷ xs) ys a b apart =
     (distinct-append xs ys (IsDistinct-tail same_id x xs a) b (λ c m. apart c (one_of-tail x xs c m)))
 
 -- the ancestors of just one of two
+pub lists-either : (h : History) (a b : ObjectId) (xs : List ObjectId) → Lists xs (λ c. IsBeyond h (b ∷ []) (a ∷ []) c ⊎ IsBeyond h (a ∷ []) (b ∷ []) c) → Lists xs (IsMeant h (Merge a b))
+lists-either h a b xs k = lists-same xs (λ c. IsBeyond h (b ∷ []) (a ∷ []) c ⊎ IsBeyond h (a ∷ []) (b ∷ []) c) (IsMeant h (Merge a b)) to from k
+  where
+    to : (c : ObjectId) → IsBeyond h (b ∷ []) (a ∷ []) c ⊎ IsBeyond h (a ∷ []) (b ∷ []) c → IsMeant h (Merge a b) c
+    to c (inl p) = inl (of-one h a c p.0, λ q. p.1 (as-one h b c q))
+    to c (inr p) = inr (of-one h b c p.0, λ q. p.1 (as-one h a c q))
+
+    from : (c : ObjectId) → IsMeant h (Merge a b) c → IsBeyond h (b ∷ []) (a ∷ []) c ⊎ IsBeyond h (a ∷ []) (b ∷ []) c
+    from c (inl k) = inl (as-one h a c k.0, λ q. k.1 (of-one h b c q))
+    from c (inr k) = inr (as-one h b c k.0, λ q. k.1 (of-one h a c q))
+
+-- as two lists, one behind the other
 pub lists-merge : (h : History) (a b : ObjectId) (xs ys zs : List ObjectId) → zs ≡ xs ++ ys → Lists xs (IsBeyond h (b ∷ []) (a ∷ [])) → Lists ys (IsBeyond h (a ∷ []) (b ∷ [])) → Lists zs (IsMeant h (Merge a b))
-lists-merge h a b xs ys zs is left right = rw is (
+lists-merge h a b xs ys zs is left right = rw is (lists-either h a b (xs ++ ys) (
   distinct-append xs ys left.0 right.0 (λ c m n. ((right.1 c).0 n).1 ((left.1 c).0 m).0),
   λ c. ((λ m. to c m), (λ q. from c q)),
-)
+))
   where
-    to : (c : ObjectId) → IsTrue (is_one_of (xs ++ ys) c) → IsMeant h (Merge a b) c
-    to c m = elim (one_of-cases xs ys c m) as (λ _. IsMeant h (Merge a b) c) [
-      | inl k ↦ let p = (left.1 c).0 k in inl (of-one h a c p.0, λ q. p.1 (as-one h b c q))
-      | inr k ↦ let p = (right.1 c).0 k in inr (of-one h b c p.0, λ q. p.1 (as-one h a c q))
+    to : (c : ObjectId) → IsTrue (is_one_of (xs ++ ys) c) → IsBeyond h (b ∷ []) (a ∷ []) c ⊎ IsBeyond h (a ∷ []) (b ∷ []) c
+    to c m = elim (one_of-cases xs ys c m) as (λ _. IsBeyond h (b ∷ []) (a ∷ []) c ⊎ IsBeyond h (a ∷ []) (b ∷ []) c) [
+      | inl k ↦ inl ((left.1 c).0 k)
+      | inr k ↦ inr ((right.1 c).0 k)
     ]
 
-    from : (c : ObjectId) → IsMeant h (Merge a b) c → IsTrue (is_one_of (xs ++ ys) c)
-    from c (inl k) = one_of-left xs ys c ((left.1 c).1 (as-one h a c k.0, λ q. k.1 (of-one h b c q)))
-    from c (inr k) = one_of-right xs ys c ((right.1 c).1 (as-one h b c k.0, λ q. k.1 (of-one h a c q)))
+    from : (c : ObjectId) → IsBeyond h (b ∷ []) (a ∷ []) c ⊎ IsBeyond h (a ∷ []) (b ∷ []) c → IsTrue (is_one_of (xs ++ ys) c)
+    from c (inl k) = one_of-left xs ys c ((left.1 c).1 k)
+    from c (inr k) = one_of-right xs ys c ((right.1 c).1 k)
 
 -- the same by the numbers of a graph: none, one, and those of two walks of which the second kept the numbers of the first
 module _ {S T : Type 0} where

@@ -1,4 +1,4 @@
--- What the first side of a walk alone reaches, by its numbers.
+-- What a walk from two sides is for, by its numbers.
 use Rattle.std.proofs.Common.{◌≡◌, ℕ, Bool, true, false, refl, sym, subst, ◌∙◌, List, [], ◌∷◌, ◌++◌, ◌<◌, ◌+◌, take, length, get_or}
 use Rattle.std.specs.List.{filter}
 use Rattle.std.specs.List.Sorted.{IsPermutation}
@@ -21,15 +21,15 @@ module _ {S T : Type 0} (p : ObjectId → Bool) (g : Graphed S T) (met : List Nu
   abbrev pub Passed : ℕ → List Number → Type 0
   Passed k l = AreIn g l × (ids_at g l ≡ filter p (take k (ids_at g met)))
 
-  pub firsts_kept : AreIn g met → p (id_at g (place_in (get_or met i d))) ≡ true → Passed i ns → ns' ≡ ns ++ get_or met i d ∷ [] → Passed (i + 1) ns'
-  firsts_kept all test old new =
+  pub passed_kept : AreIn g met → p (id_at g (place_in (get_or met i d))) ≡ true → Passed i ns → ns' ≡ ns ++ get_or met i d ∷ [] → Passed (i + 1) ns'
+  passed_kept all test old new =
       let n = get_or met i d in
       let within = in-item g met i d all below in
       let more = listed-push g ns n (id_at g (place_in n)) old.0 within refl in
       subst (Passed (i + 1)) (sym new) (more.0, shown_kept p g met i d below (ids_at g ns) (ids_at g (ns ++ n ∷ [])) (id_at g (place_in n)) test old.1 (named-id g (place_in n) within) more.1)
 
-  pub firsts_left : p (id_at g (place_in (get_or met i d))) ≡ false → Passed i ns → ns' ≡ ns → Passed (i + 1) ns'
-  firsts_left test old new = subst (Passed (i + 1)) (sym new) (old.0, shown_left p g met i d below (ids_at g ns) (ids_at g ns) test old.1 refl)
+  pub passed_left : p (id_at g (place_in (get_or met i d))) ≡ false → Passed i ns → ns' ≡ ns → Passed (i + 1) ns'
+  passed_left test old new = subst (Passed (i + 1)) (sym new) (old.0, shown_left p g met i d below (ids_at g ns) (ids_at g ns) test old.1 refl)
 
 -- the list of what the first side alone reaches, moved about
 pub first_permuted : (h : History) (xs ys ids moved : List ObjectId) → IsPermutation ids moved → ListsFirst h xs ys ids → ListsFirst h xs ys moved

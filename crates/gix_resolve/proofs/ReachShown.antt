@@ -1,5 +1,5 @@
--- What the first side of a walk alone reaches, as a list.
-use Rattle.std.proofs.Common.{◌≡◌, ℕ, Bool, true, false, cond, refl, ap, sym, ◌∙◌, List, [], ◌∷◌, ◌++◌, ◌<◌, ◌+◌, take, length, get_or, Some, is_some, Option, None, IsTrue, arith, ◌&&◌, not, true≢false}
+-- What a walk from two sides is for, as a list.
+use Rattle.std.proofs.Common.{◌≡◌, ℕ, Bool, true, false, cond, refl, ap, sym, ◌∙◌, List, [], ◌∷◌, ◌++◌, ◌<◌, ◌+◌, take, length, get_or, Some, is_some, Option, None, IsTrue, arith, ◌&&◌, ◌⊎◌, inl, inr, not, true≢false}
 use Rattle.std.specs.Option.{unwrap_or}
 use Rattle.std.specs.List.{filter, IsDistinct}
 use Rattle.std.specs.List.Sorted.{IsSorted, IsPermutation}
@@ -22,8 +22,8 @@ use Rattle.gix_merge_base.specs.Marks.{MarkSet, marks_of, no_marks}
 use Rattle.gix_merge_base.specs.PaintQueue.{id_at, ids_at, marks_at, no_mark}
 use Rattle.gix_merge_base.specs.declared.merge_base.flags.Flags.{Flags}
 use Rattle.gix_merge_base.proofs.Numbered.{id-of-item}
-use Rattle.gix_resolve.specs.ReachSides.{hides, shows, is_first_alone, is_second_alone, Sees, ListsFirst}
-use Rattle.gix_resolve.specs.Reachable.{CoversBeyond}
+use Rattle.gix_resolve.specs.ReachSides.{hides, shows, is_first_alone, is_second_alone, Sees, ListsFirst, ListsEither}
+use Rattle.gix_resolve.specs.Reachable.{IsBeyond, CoversBeyond}
 use Rattle.gix_resolve.specs.ReachWalk.{AreMet}
 use Rattle.gix_revwalk.proofs.Places.{same_id-sym}
 use Rattle.gix_resolve.proofs.ListSorted.{rising}
@@ -107,6 +107,39 @@ lists_first h xs ys g ns ids at sees is =
       may = λ c m. sees.one c (left (marks_at g c).one (not (marks_at g c).two) (pass.1 c m));
       exact = λ never c m. (sees.one c (left (marks_at g c).one (not (marks_at g c).two) (pass.1 c m)), sees.no_second never c (pass.1 c m));
     }
+
+-- what is wanted of both sides one of them alone reaches
+shown_alone : (m : MarkSet) → IsTrue (shows true m) → IsTrue (is_first_alone m) ⊎ IsTrue (is_second_alone m)
+shown_alone m k = by m.one m.two k
+  where
+    by : (a b : Bool) → IsTrue (cond a (not b) (true && b)) → IsTrue (a && not b) ⊎ IsTrue (b && not a)
+    by true b k = inl k
+    by false true k = inr refl
+    by false false k = cc
+
+pub lists_either : {S A : Type 0} (h : History) (xs ys : List ObjectId) (g : Graphed S (Commit Flags A)) (ns : List Number) (ids : List ObjectId) → AreMet true g ns → Sees h xs ys true (marks_at g)
+    → ids ≡ filter (λ c. shows true (marks_at g c)) (ids_at g ns) → ListsEither h xs ys ids
+lists_either h xs ys g ns ids at sees is =
+    let pass = passing g true ns (shows true) refl (shown-not_hidden true) at ids is in
+    record {
+      once = pass.0;
+      every = λ c k. pass.2 c (elim k as (λ _. IsTrue (shows true (marks_at g c))) [
+        | inl q ↦ first_shows true (marks_at g c) (sees.first c q)
+        | inr q ↦ second_shows (marks_at g c) (sees.second refl c q)
+      ]);
+      exact = λ never c m. elim (shown_alone (marks_at g c) (pass.1 c m)) as (λ _. IsBeyond h ys xs c ⊎ IsBeyond h xs ys c) [
+        | inl a ↦ inl (sees.one c (left (marks_at g c).one (not (marks_at g c).two) a), sees.no_second never c a)
+        | inr b ↦ inr (sees.two c (left (marks_at g c).two (not (marks_at g c).one) b), sees.no_first never refl c b)
+      ];
+    }
+
+-- where one side is wanted
+pub shows_first : (m : MarkSet) → shows false m ≡ is_first_alone m
+shows_first m = by m.one m.two
+  where
+    by : (a b : Bool) → cond a (not b) (false && b) ≡ (a && not b)
+    by true b = refl
+    by false b = refl
 
 -- the same in rising order
 pub sorted-covers : (h : History) (xs ys ids sorted : List ObjectId) → ListsFirst h xs ys ids → IsPermutation ids sorted → IsSorted id_order sorted → CoversBeyond h ys xs sorted

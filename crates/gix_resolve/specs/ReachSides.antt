@@ -80,6 +80,13 @@ pub record ListsFirst (h : History) (xs ys : List ObjectId) (ids : List ObjectId
   pub may : (c : ObjectId) → IsTrue (is_one_of ids c) → IsAncestorOfOne h xs c
   pub exact : GenerationsNeverRiseFrom h (xs ++ ys) → (c : ObjectId) → IsTrue (is_one_of ids c) → IsBeyond h ys xs c
 
+-- ids has what one of the sides reaches and the other does not, each once; where a generation rises, perhaps more of what
+-- either reaches
+pub record ListsEither (h : History) (xs ys : List ObjectId) (ids : List ObjectId) : Type 0 where
+  pub once : IsDistinct same_id ids
+  pub every : (c : ObjectId) → IsBeyond h ys xs c ⊎ IsBeyond h xs ys c → IsTrue (is_one_of ids c)
+  pub exact : GenerationsNeverRiseFrom h (xs ++ ys) → (c : ObjectId) → IsTrue (is_one_of ids c) → IsBeyond h ys xs c ⊎ IsBeyond h xs ys c
+
 -- n is how many commits the first side alone reaches, and k how many the second side alone where both are wanted; where a
 -- generation rises, perhaps more
 pub record CountsSides (h : History) (xs ys : List ObjectId) (both : Bool) (n k : ℕ) : Type 0 where

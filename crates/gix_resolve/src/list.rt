@@ -9,13 +9,12 @@ ghost use Rattle.gix_resolve.specs.ListMeaning.{ListsMeant, IsMeant, IsPage, pas
 ghost use Rattle.gix_resolve.specs.Taken.{TakesOnly, IsLookedAt, is_exclude};
 
 mod count;
+mod early;
 mod members;
 mod newest;
-mod range;
 mod walk;
 
-use crate::list::count::count_members;
-use crate::list::members::member_ids;
+use crate::list::early::{early_count, ids_by};
 pub(crate) use crate::list::newest::newest_of;
 pub use crate::list::newest::{commits_newest_first, newest_first};
 use gix_revision::graph::{self, Commit, Find, Graph};
@@ -64,6 +63,8 @@ impl From<graph::Error> for ListError {
 /// The commits that a spec means, each once, in rising order of their ids: gitrevisions,
 /// "Specifying Ranges". An id that the source lacks has no ancestors: it adds and hides nothing.
 ///
+/// It goes over all that the ids reach, whatever the source knows; [`commits_early`] need not.
+///
 /// What the graph held it still holds, refused or not; the data beside it may have changed. What it
 /// newly holds is reached from the ids of the spec. `^a` means no commit: it is always answered, by
 /// the empty list, and the graph is as it was.
@@ -88,13 +89,46 @@ pub fn commits<S: Find, A: Allocator + Copy>(
     ensures exclude { IsTrue (is_exclude spec.now)
         → IsOkAnd result (λ ids. ids.items ≡ []) × (graph.new ≡ graph.old) }
 {
-    let mut ids = member_ids(alloc, *spec, graph)?;
+    let mut ids = ids_by(alloc, *spec, false, graph)?;
+    ids.sort_unstable();
+    Ok(ids)
+}
+
+/// What [`commits`] lists, in the same order, by a walk that ends early where it may: of `a..b` and `a...b`, where the
+/// source knows that no generation rises ([`Find::generations`]), it goes down to the least generation of what is
+/// listed, and no further. So near commits cost what lies between them. Where it has to go far it costs up to twice
+/// what [`commits`] does. All else, and each spec over another source, is listed as there.
+///
+/// What the graph held it still holds, refused or not; the data beside it may have changed. What it
+/// newly holds is reached from the ids of the spec. `^a` means no commit: it is always answered, by
+/// the empty list, and the graph is as it was.
+///
+/// # Errors
+///
+/// As [`commits`].
+pub fn commits_early<S: Find, A: Allocator + Copy>(
+    alloc: A,
+    spec: &Spec,
+    graph: &mut Graph<S, Commit<Flags, A>, A>,
+) -> Result<Vec<ObjectId, A>, ListError>
+    ensures meant { IfOk result
+        (λ ids. ListsMeant (S.history graph.old.source) spec.now ids.items) }
+    ensures history { S.history graph.new.source ≡ S.history graph.old.source }
+    ensures count { S.fault_count graph.new.source
+        ≡ count_after (is_list_source_fault result) (S.fault_count graph.old.source) }
+    ensures held { KeepsHeld graph.old graph.new }
+    ensures taken { TakesOnly (IsLookedAt (S.history graph.old.source) spec.now)
+        graph.old graph.new }
+    ensures exclude { IsTrue (is_exclude spec.now)
+        → IsOkAnd result (λ ids. ids.items ≡ []) × (graph.new ≡ graph.old) }
+{
+    let mut ids = ids_by(alloc, *spec, true, graph)?;
     ids.sort_unstable();
     Ok(ids)
 }
 
 /// How many commits a spec means, as many as [`commits`] lists: git-rev-list, "--count". None of their ids is
-/// listed, and none is sorted. It reads no generations, and is right whatever they are.
+/// listed, and none is sorted. The walk is that of [`commits_early`].
 ///
 /// What the graph held it still holds, refused or not; the data beside it may have changed. What it
 /// newly holds is reached from the ids of the spec. `^a` means no commit: it is always answered, by 0,
@@ -118,7 +152,7 @@ pub fn count_commits<S: Find, A: Allocator + Copy>(
     ensures exclude { IsTrue (is_exclude spec.now)
         → (result ≡ Ok 0) × (graph.new ≡ graph.old) }
 {
-    let count = count_members(alloc, *spec, graph)?;
+    let count = early_count(alloc, *spec, graph)?;
     Ok(count)
 }
 

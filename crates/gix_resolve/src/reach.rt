@@ -22,14 +22,15 @@ mod count;
 mod front;
 mod hand;
 mod newest;
+mod shown;
 mod sides;
 mod walk;
 
 use crate::list::ListError;
 pub(crate) use crate::reach::count::counted;
 use crate::reach::count::listed;
-pub(crate) use crate::reach::newest::firsts;
 use crate::reach::newest::newest_listed;
+pub(crate) use crate::reach::shown::{eithers, firsts};
 use gix_revision::graph::{self, Commit, Find, Graph};
 use gix_revision::hash::ObjectId;
 use gix_revision::merge_base::Flags;

@@ -12,7 +12,7 @@
 use crate::reaching::{BRANCHES, RISING};
 use fixtures::faults::{Answered, Asks, first_lost, first_wrong};
 use fixtures::histories::{CRISS_CROSS, Row, are, id, source_of};
-use gix_resolve::{ListError, commits, count_commits, page};
+use gix_resolve::{ListError, commits, commits_early, count_commits, page};
 use gix_revision::graph::{Commit, Find, Graph, MemorySource};
 use gix_revision::hash::ObjectId;
 use gix_revision::merge_base::Flags;
@@ -35,6 +35,8 @@ enum Of {
 #[derive(Clone, Copy)]
 enum Part {
     Whole,
+    /// The same by the walk that may end early.
+    Early,
     /// The first so many behind the id of a digit, or of all.
     Page(Option<u8>, usize),
     /// How many there are.
@@ -67,7 +69,7 @@ const LATE: [Row<'static>; 3] = [
     Row(3, 3, Some(6), &[1]),
 ];
 
-static WORKED: [Listing; 36] = [
+static WORKED: [Listing; 38] = [
     Listing(Of::Include(5), &CRISS_CROSS, Part::Whole, &[1, 2, 3, 5]),
     Listing(Of::Range(4, 5), &CRISS_CROSS, Part::Whole, &[5]),
     Listing(Of::Merge(4, 5), &CRISS_CROSS, Part::Whole, &[4, 5]),
@@ -98,7 +100,9 @@ static WORKED: [Listing; 36] = [
     Listing(Of::IncludeOnlyParents(6), &UNEVEN, Part::Whole, &[]),
     // A generation rises: none of what lies below the hidden commit is listed.
     Listing(Of::Range(2, 3), &RISING, Part::Whole, &[3]),
-    Listing(Of::Range(2, 3), &LATE, Part::Whole, &[3]),
+    Listing(Of::Range(2, 3), &RISING, Part::Early, &[3]),
+    Listing(Of::Range(2, 3), &LATE, Part::Early, &[3]),
+    Listing(Of::Merge(2, 3), &LATE, Part::Early, &[2, 3]),
     // Pages.
     Listing(
         Of::Include(5),
@@ -132,10 +136,13 @@ static WORKED: [Listing; 36] = [
 ];
 
 /// Two near commits with generations, of which no more is looked up than what lies between.
-static NEAR: [Listing; 3] = [
-    Listing(Of::Range(4, 6), &BRANCHES, Part::Whole, &[5, 6]),
-    Listing(Of::Range(6, 4), &BRANCHES, Part::Whole, &[]),
+static NEAR: [Listing; 6] = [
+    Listing(Of::Range(4, 6), &BRANCHES, Part::Early, &[5, 6]),
+    Listing(Of::Range(6, 4), &BRANCHES, Part::Early, &[]),
     Listing(Of::Range(4, 6), &BRANCHES, Part::Count, &[5, 6]),
+    Listing(Of::Merge(4, 6), &BRANCHES, Part::Early, &[5, 6]),
+    Listing(Of::Merge(6, 4), &BRANCHES, Part::Early, &[5, 6]),
+    Listing(Of::Merge(6, 5), &BRANCHES, Part::Count, &[6]),
 ];
 
 fn spec_of(of: Of) -> Spec {
@@ -164,6 +171,7 @@ fn is_right<S: Find, A: Allocator + Copy>(
     let spec = spec_of(call.0);
     match call.2 {
         Part::Whole => Ok(are(&commits(alloc, &spec, graph)?, call.3)),
+        Part::Early => Ok(are(&commits_early(alloc, &spec, graph)?, call.3)),
         Part::Page(after, limit) => {
             let after = after.map(|digit| id(digit));
             Ok(are(&page(alloc, &spec, graph, after, limit)?, call.3))

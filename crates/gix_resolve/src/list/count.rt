@@ -10,7 +10,6 @@ ghost use Rattle.gix_resolve.specs.ListMeaning.{IsMeant};
 ghost use Rattle.gix_resolve.specs.Taken.{TakesOnly, IsLookedAt, is_exclude};
 
 use crate::list::members::parents_of;
-use crate::list::range::count_between;
 use crate::list::walk::count_beyond;
 use gix_revision::graph::{self, Commit, Find, Graph};
 use gix_revision::hash::ObjectId;
@@ -22,7 +21,7 @@ use std::alloc::Allocator;
 /// The sum of two counts.
 ///
 /// No memory holds as many commits as a `usize` can't count, so more than that is want of memory.
-fn sum(first: usize, second: usize) -> Result<usize, graph::Error>
+pub(crate) fn sum(first: usize, second: usize) -> Result<usize, graph::Error>
     ensures sum { IfOk result (λ n. n ≡ first + second) }
     ensures fault { is_source_fault result ≡ false }
 {
@@ -97,10 +96,11 @@ pub(crate) fn count_members<S: Find, A: Allocator + Copy>(
     ensures exclude { IsTrue (is_exclude spec) → (result ≡ Ok 0) × (graph.new ≡ graph.old) }
     ensures after { GraphAfter S.history S.fault_count is_source_fault graph.old graph.new result }
 {
+    let marks = Flags::default();
     match spec {
-        Spec::Include(id) => count_beyond(alloc, &[], &[id], Flags::default(), graph),
+        Spec::Include(id) => count_beyond(alloc, &[], &[id], marks, graph),
         Spec::Exclude(_) => Ok(0),
-        Spec::Range { from, to } => count_between(alloc, from, to, graph),
+        Spec::Range { from, to } => count_beyond(alloc, &[from], &[to], marks, graph),
         Spec::Merge { theirs, ours } => count_of_just_one(alloc, theirs, ours, graph),
         Spec::IncludeOnlyParents(id) => count_of_parents(alloc, id, graph),
         Spec::ExcludeParents(id) => count_of_one(alloc, id, graph),

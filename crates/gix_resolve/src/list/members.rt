@@ -1,10 +1,10 @@
-//! The members of the set that a spec means, in no order: their numbers, or their ids.
+//! The members of the set that a spec means, by their numbers, in no order. The walk goes over all that the hidden side
+//! reaches, and then over what the shown one reaches beyond that, whatever generations say.
 
 ghost use Rattle.std.specs.Prelude.{◌≡◌, IfOk, IsOkAnd, IsTrue, [], ◌∷◌};
 ghost use Rattle.gix_revwalk.specs.Faults.{is_source_fault};
 ghost use Rattle.gix_revwalk.specs.GraphAfter.{GraphAfter};
 ghost use Rattle.gix_revwalk.specs.History.{entry_at, parents_in};
-ghost use Rattle.gix_revwalk.specs.Sizes.{Lists};
 ghost use Rattle.gix_revwalk.specs.Walks.{HoldsMore};
 ghost use Rattle.gix_spec.specs.declared.spec.Spec.TheVariants.{Merge};
 ghost use Rattle.gix_spec.specs.declared.spec.Spec.TheVariants.{IncludeOnlyParents, ExcludeParents};
@@ -12,8 +12,7 @@ ghost use Rattle.gix_resolve.specs.ListMeaning.{IsMeant};
 ghost use Rattle.gix_resolve.specs.ListWalk.{AreJust};
 ghost use Rattle.gix_resolve.specs.Taken.{TakesOnly, IsLookedAt, is_exclude};
 
-use crate::list::range::between;
-use crate::list::walk::{ancestors_beyond, ids_of};
+use crate::list::walk::ancestors_beyond;
 use gix_revision::graph::{self, Commit, Find, Graph};
 use gix_revision::hash::ObjectId;
 use gix_revision::merge_base::Flags;
@@ -108,34 +107,13 @@ pub(crate) fn members<S: Find, A: Allocator + Copy>(
         → IsOkAnd result (λ numbers. numbers.items ≡ []) × (graph.new ≡ graph.old) }
     ensures after { GraphAfter S.history S.fault_count is_source_fault graph.old graph.new result }
 {
+    let marks = Flags::default();
     match spec {
-        Spec::Include(id) => ancestors_beyond(alloc, &[], &[id], Flags::default(), graph),
+        Spec::Include(id) => ancestors_beyond(alloc, &[], &[id], marks, graph),
         Spec::Exclude(_) => Ok(Vec::new(alloc)),
-        Spec::Range { from, to } => between(alloc, from, to, graph),
+        Spec::Range { from, to } => ancestors_beyond(alloc, &[from], &[to], marks, graph),
         Spec::Merge { theirs, ours } => ancestors_of_just_one(alloc, theirs, ours, graph),
         Spec::IncludeOnlyParents(id) => ancestors_of_parents(alloc, id, graph),
         Spec::ExcludeParents(id) => alone(alloc, id, graph),
     }
-}
-
-/// Their ids, in no order.
-pub(crate) fn member_ids<S: Find, A: Allocator + Copy>(
-    alloc: A,
-    spec: Spec,
-    graph: &mut Graph<S, Commit<Flags, A>, A>,
-) -> Result<Vec<ObjectId, A>, graph::Error>
-    ensures meant { IfOk result (λ ids. Lists ids.items
-        (IsMeant (S.history graph.old.source) spec)) }
-    ensures taken { TakesOnly (IsLookedAt (S.history graph.old.source) spec)
-        graph.old graph.new }
-    ensures exclude { IsTrue (is_exclude spec)
-        → IsOkAnd result (λ ids. ids.items ≡ []) × (graph.new ≡ graph.old) }
-    ensures after { GraphAfter S.history S.fault_count is_source_fault graph.old graph.new result }
-{
-    let numbers = members(alloc, spec, graph)?;
-    // Without one no memory is wanted: `^a` is always answered.
-    if numbers.is_empty() {
-        return Ok(Vec::new(alloc));
-    }
-    Ok(ids_of(alloc, &numbers, graph)?)
 }

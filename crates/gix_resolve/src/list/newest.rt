@@ -21,7 +21,7 @@ ghost use Rattle.gix_resolve.specs.Newest.{turned_for};
 ghost use Rattle.gix_resolve.specs.Taken.{TakesOnly, IsLookedAt, is_exclude};
 
 use crate::list::ListError;
-use crate::list::members::members;
+use crate::list::early::members_by;
 use gix_revision::graph::{self, Commit, Find, Graph};
 use gix_revision::hash::ObjectId;
 use gix_revision::merge_base::{Flags, GenThenTime};
@@ -156,7 +156,7 @@ fn newest_members<S: Find, A: Allocator + Copy>(
         → IsOkAnd result (λ ids. ids.items ≡ []) × (graph.new ≡ graph.old) }
     ensures after { GraphAfter S.history S.fault_count is_source_fault graph.old graph.new result }
 {
-    let numbers = members(alloc, spec, graph)?;
+    let numbers = members_by(alloc, spec, true, graph)?;
     // Without one no memory is wanted: `^a` is always answered.
     if numbers.is_empty() {
         return Ok(Vec::new(alloc));
@@ -165,7 +165,8 @@ fn newest_members<S: Find, A: Allocator + Copy>(
 }
 
 /// What [`commits`](crate::commits) lists, each once, in the order of [`newest_first`]: git-rev-list,
-/// "Commit Ordering". No id is sorted or looked up: the numbers of the walk tell where each stands.
+/// "Commit Ordering". No id is sorted or looked up: the numbers of the walk tell where each stands. The walk is
+/// that of [`commits_early`](crate::commits_early).
 ///
 /// What the graph held it still holds, refused or not; the data beside it may have changed. What it
 /// newly holds is reached from the ids of the spec. `^a` means no commit: it is always answered, by

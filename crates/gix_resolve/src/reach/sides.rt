@@ -3,7 +3,7 @@
 
 ghost use Rattle.std.specs.Prelude.{◌≡◌, ◌||◌};
 ghost use Rattle.gix_merge_base.specs.Marks.{marks_of, has_marks, joined as joined_marks};
-ghost use Rattle.gix_resolve.specs.ReachSides.{hides, is_first_alone as first_alone, is_second_alone as second_alone};
+ghost use Rattle.gix_resolve.specs.ReachSides.{hides, shows, is_first_alone as first_alone, is_second_alone as second_alone};
 
 use bitflags::Flags as BitFlags;
 use gix_revision::merge_base::Flags;
@@ -57,6 +57,18 @@ pub(crate) fn is_hidden(both: bool, marks: Flags) -> bool
         is_first(marks) && is_second(marks)
     } else {
         is_second(marks)
+    }
+}
+
+/// Whether a commit with these marks, and no further ones, is wanted: the first side alone reaches it or, where what the
+/// second one alone reaches is wanted too, that one alone does.
+pub(crate) fn is_shown(both: bool, marks: Flags) -> bool
+    ensures { result ≡ shows both (marks_of marks) }
+{
+    if is_first(marks) {
+        !is_second(marks)
+    } else {
+        both && is_second(marks)
     }
 }
 

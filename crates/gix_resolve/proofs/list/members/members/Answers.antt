@@ -1,11 +1,11 @@
 use Rattle.std.proofs.Common.{[], ◌∷◌, refl}
 use Rattle.gix_revwalk.specs.History.{IsAncestor, IsAncestorOfOne}
 use Rattle.gix_merge_base.specs.PaintQueue.{ids_at}
-use Rattle.gix_spec.specs.declared.spec.Spec.TheVariants.{Include}
+use Rattle.gix_spec.specs.declared.spec.Spec.TheVariants.{Include, Range}
 use Rattle.gix_resolve.specs.ListMeaning.{IsMeant}
 use Rattle.gix_resolve.specs.ListWalk.{AreJust}
 use Rattle.gix_resolve.specs.Reachable.{IsBeyond}
-use Rattle.gix_resolve.proofs.ListMembers.{of-one, if-ok, just-none, lists-include, lists-exclude}
+use Rattle.gix_resolve.proofs.ListMembers.{of-one, if-ok, just-none, lists-include, lists-exclude, lists-range}
 use Rattle.gix_resolve.proofs.ListTaken.{only_same, only_wider}
 use Rattle.gix_resolve.proofs.list.members.members.Goals as goal
 
@@ -23,7 +23,13 @@ returns-in-Exclude-clause-meant g c =
     just-none c.args.graph.now (IsMeant h c.args.spec) c.new.result.items c.new.ensures.items (lists-exclude h c.args.spec _ [] c.in-Exclude.is refl)
 
 pub returns-in-Range-clause-meant : goal.returns-in-Range-clause-meant
-returns-in-Range-clause-meant g c = rw c.in-Range.is c.between.ensures.meant
+returns-in-Range-clause-meant g c =
+    let h = g.S.Find.history c.args.graph.now.source in
+    let a = c.in-Range.from in
+    let b = c.in-Range.to in
+    let new = c.ancestors_beyond-in-Range.new.graph in
+    rw c.in-Range.is (if-ok c.ancestors_beyond-in-Range.result (λ numbers. AreJust new numbers.items (IsBeyond h (a ∷ []) (b ∷ []))) (λ numbers. AreJust new numbers.items (IsMeant h (Range a b)))
+    (λ numbers k. (k.0, lists-range h a b (ids_at new numbers.items) k.1)) c.ancestors_beyond-in-Range.ensures.beyond)
 
 pub returns-in-Include-clause-taken : goal.returns-in-Include-clause-taken
 returns-in-Include-clause-taken g c =

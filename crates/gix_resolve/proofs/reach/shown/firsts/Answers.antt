@@ -1,0 +1,22 @@
+use Rattle.std.proofs.Common.{Bool, false, ap, sym, subst, ◌∙◌}
+use Rattle.std.proofs.Math.Path.{fun_ext}
+use Rattle.std.specs.List.{filter}
+use Rattle.gix_base.specs.declared.hash.ObjectId.{ObjectId}
+use Rattle.gix_merge_base.specs.PaintQueue.{marks_at, ids_at, AreIn}
+use Rattle.gix_resolve.specs.ReachSides.{shows}
+use Rattle.gix_resolve.proofs.ReachShown.{lists_first, shows_first}
+use Rattle.gix_resolve.proofs.reach.shown.firsts.Goals as goal
+
+pub shown_of-requires : goal.shown_of-requires
+shown_of-requires g c = subst (AreIn c.follow.new.graph) (sym c.deref.ensures.value) c.in_ok-walk.ensures.met.inside
+
+pub returns-clause-listed : goal.returns-clause-listed
+returns-clause-listed g c =
+    let new = c.follow.new.graph in
+    let found = c.in_ok-shown_of.field-0.items in
+    lists_first (g.S.Find.history c.args.graph.now.source) c.args.first.now c.args.second.now new c.in_ok-walk.walk.met.items (ids_at new found) c.in_ok-walk.ensures.met c.in_ok-walk.ensures.sees
+    (
+    c.in_ok-shown_of.ensures.1
+    ∙ ap (λ l. filter (λ d. shows false (marks_at new d)) (ids_at new l)) c.deref.ensures.value
+    ∙ ap (λ (p : ObjectId → Bool). filter p (ids_at new c.in_ok-walk.walk.met.items)) (fun_ext (λ d. shows_first (marks_at new d)))
+    )
