@@ -94,9 +94,9 @@ pub fn commits<S: Find, A: Allocator + Copy>(
     Ok(ids)
 }
 
-/// What [`commits`] lists, in the same order, by a walk that ends early where it may: of `a..b` and `a...b`, where the
-/// source knows that no generation rises ([`Find::generations`]), it goes down to the least generation of what is
-/// listed, and no further. So near commits cost what lies between them. Where it has to go far it costs up to twice
+/// What [`commits`] lists, in the same order, by a walk that ends early where it may: of `a..b` and `a...b` it looks no
+/// further than generations ask for, as [`reachable`](crate::reachable) does, where the source knows that none rises
+/// ([`Find::generations`]). So near commits cost what lies between them. Where it has to go far it costs up to twice
 /// what [`commits`] does. All else, and each spec over another source, is listed as there.
 ///
 /// What the graph held it still holds, refused or not; the data beside it may have changed. What it
