@@ -96,8 +96,8 @@ pub fn commits<S: Find, A: Allocator + Copy>(
 
 /// What [`commits`] lists, in the same order, by a walk that ends early where it may: of `a..b` and `a...b` it looks no
 /// further than generations ask for, as [`reachable`](crate::reachable) does, where the source knows that none rises
-/// ([`Find::generations`]). So near commits cost what lies between them. Where it has to go far it costs two to
-/// three times what [`commits`] does. All else, and each spec over another source, is listed as there.
+/// ([`Find::generations`]). So near commits cost what lies between them. Where it has to go far it costs several
+/// times what [`commits`] does. All else, and each spec over another source, is listed as there.
 ///
 /// What the graph held it still holds, refused or not; the data beside it may have changed. What it
 /// newly holds is reached from the ids of the spec. `^a` means no commit: it is always answered, by
