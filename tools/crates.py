@@ -1,5 +1,6 @@
-"""What the scripts in Python share: how they refuse and end; and for bin/build and bin/edits, which do for many crates at once what rt does
-for one, the functions of rt itself."""
+"""Shared by the Python scripts: how they end, the crates of crates.txt, and rt's own functions.
+
+tools/build and tools/edits do for many crates at once what `rt` does for one, so they load its functions."""
 
 from __future__ import annotations
 

@@ -1,4 +1,4 @@
-"""What bin/plot and bin/draw share: pictures as SVG, which can be read on a light and on a dark background."""
+"""What tools/plot and bin/revtool-draw share: pictures as SVG, which can be read on a light and on a dark background."""
 
 from __future__ import annotations
 

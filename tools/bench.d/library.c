@@ -1,8 +1,14 @@
-/* Times the library for C over the `commit` lines of standard input, or over git's commit-graph file of as many: library ID ID [FILE]
+/*
+ * Times the C library: library ID ID [FILE]
  *
- * Prints in seconds of the processor: the putting in of all commits, or the opening of the file once its bytes are read, parted by their number;
- * the merge bases of the two commits, asked for the first time; and the same question again, on the average of so many as take a fifth of a
- * second. */
+ * Reads `commit` lines from standard input. If there is a FILE, it is git's
+ * commit-graph file of the same commits, and the library opens it instead.
+ *
+ * Prints three processor times in seconds:
+ *   to insert a commit, or to open the file, divided by the number of commits
+ *   to find the merge bases of the two ids for the first time
+ *   to find them again: the average of as many calls as take 0.2 seconds
+ */
 #define _POSIX_C_SOURCE 199309L
 #include "gix_revision.h"
 
@@ -34,7 +40,7 @@ static void expect(int is_so, const char *what) {
 
 static gix_id id_of(const char *digits) {
     gix_id id;
-    expect(digits && strlen(digits) >= 40, "an id has 40 digits");
+    expect(digits && strlen(digits) >= 40, "not an id of 40 digits");
     for (size_t i = 0; i < 20; i++) {
         char byte[3] = {digits[2 * i], digits[2 * i + 1], 0};
         id.bytes[i] = (uint8_t)strtoul(byte, NULL, 16);
@@ -42,7 +48,7 @@ static gix_id id_of(const char *digits) {
     return id;
 }
 
-/* Reads a line `commit ID TIME - PARENT..`. */
+/* Returns the commit of a line `commit ID TIME - PARENT..`. */
 static commit commit_of(char *line) {
     commit read = {0};
     strtok(line, " \n");
@@ -59,24 +65,24 @@ static commit commit_of(char *line) {
 static void ask(gix_history *history, const gix_id *first, const gix_id *other) {
     gix_id out[64];
     size_t count;
-    expect(gix_history_merge_bases(history, first, other, 1, out, 64, &count) >= GIX_OK, "the question is refused");
+    expect(gix_history_merge_bases(history, first, other, 1, out, 64, &count) >= GIX_OK, "cannot find merge bases");
 }
 
-static void put_in(gix_history **history, const commit *commits, size_t count) {
-    expect(gix_history_new(history) == GIX_OK, "no memory");
+static void insert_all(gix_history **history, const commit *commits, size_t count) {
+    expect(gix_history_new(history) == GIX_OK, "out of memory");
     for (size_t i = 0; i < count; i++)
         expect(gix_history_insert(*history, &commits[i].id, commits[i].parents, commits[i].parents_len, commits[i].time, false, 0) == GIX_OK,
-               "a commit is refused");
+               "cannot insert a commit");
 }
 
-/* Reads a file whole. */
+/* Reads a whole file. */
 static uint8_t *bytes_of(const char *path, size_t *len) {
     FILE *file = fopen(path, "rb");
-    expect(file && fseek(file, 0, SEEK_END) == 0, "the file can't be read");
+    expect(file && fseek(file, 0, SEEK_END) == 0, "cannot read the file");
     *len = (size_t)ftell(file);
     rewind(file);
     uint8_t *bytes = malloc(*len ? *len : 1);
-    expect(bytes && fread(bytes, 1, *len, file) == *len, "the file can't be read");
+    expect(bytes && fread(bytes, 1, *len, file) == *len, "cannot read the file");
     fclose(file);
     return bytes;
 }
@@ -86,24 +92,24 @@ int main(int argc, char **argv) {
     size_t count = 0;
     char line[1024];
     gix_history *history;
-    expect(argc == 3 || argc == 4, "wants two ids, and no more than a file");
+    expect(argc == 3 || argc == 4, "usage: library ID ID [FILE]");
     gix_id first = id_of(argv[1]), other = id_of(argv[2]);
     while (fgets(line, sizeof line, stdin)) {
         if (strncmp(line, "commit ", 7) != 0)
             continue;
         if ((count & (count - 1)) == 0)
             commits = realloc(commits, (count ? 2 * count : 1) * sizeof *commits);
-        expect(commits != NULL, "no memory");
+        expect(commits != NULL, "out of memory");
         commits[count++] = commit_of(line);
     }
-    expect(count > 0, "there are no commits");
+    expect(count > 0, "no commits");
     size_t len = 0;
     uint8_t *bytes = argc == 4 ? bytes_of(argv[3], &len) : NULL;
     double start = now();
     if (bytes)
-        expect(gix_history_open(bytes, len, &history) == GIX_OK, "the file is refused");
+        expect(gix_history_open(bytes, len, &history) == GIX_OK, "cannot open the commit-graph file");
     else
-        put_in(&history, commits, count);
+        insert_all(&history, commits, count);
     double filled = now();
     ask(history, &first, &other);
     double asked = now();

@@ -1,0 +1,29 @@
+# What everybody tries first. Each target only calls a script of tools/ or bin/.
+PREFIX = /usr/local
+
+all: ## prove and build the programs and the C library
+	bin/revtool </dev/null
+	tools/library >/dev/null
+
+try: ## answer an example at once, without any proof
+	tools/try
+
+check: ## run the full check: all proofs, mutants and tests
+	tools/test
+
+install: ## build, then install below PREFIX (DESTDIR is put in front)
+	DESTDIR='$(DESTDIR)' tools/install '$(PREFIX)'
+
+uninstall: ## remove what install has put below PREFIX
+	DESTDIR='$(DESTDIR)' tools/install --uninstall '$(PREFIX)'
+
+bench: ## measure the speed, beside git's
+	tools/bench
+
+clean: ## remove what was proved and built
+	rm -rf crates/*/out
+
+help: ## print the targets
+	@sed -nE 's/^([a-z]+): ## (.*)/make \1\t\2/p' Makefile | expand -t 16
+
+.PHONY: all try check install uninstall bench clean help
