@@ -1,20 +1,62 @@
-/* Merge bases, described commits and revision texts over commits in memory or of a commit-graph file: C99 and C++.
+/*
+ * gix_revision.h: merge bases, commit descriptions and revisions. C99 and C++.
  *
- * Each answer is that of a proved call; docs/C.md says what is proved of each function here.
+ * A gix_history has commits: those of git's commit-graph file, commits that
+ * the program adds one by one, or both. The functions answer questions about
+ * it. Each has a proved contract; docs/PROVED.md says what it promises.
  *
- * Codes. A function that answers an int32_t answers one of the codes below, and never ends the process. After a code
- * other than GIX_OK nothing was written to what its pointers lead to, but for the count of GIX_NONE and the fault of a
- * text; the history has the commits that it had, and can be used again. Want of memory may come from each function that takes some.
+ * RESULTS
+ *   GIX_OK            The question is answered.
+ *   GIX_NONE          Answered: there is no such thing, or the answer is no.
+ *   a negative code   The call failed; see the enum below.
+ *   GIX_FAULT + n     The revision has fault n, 1 to 27 (docs/LINES.md).
  *
- * Pointers. None may be null, not even to no elements: pass the address of something, and the length 0. That of
- * gix_history_free alone may be. What is written does not overlap what is read. Nothing that is passed is kept but copies,
- * and no pointer into a history is answered. A bool is 0 or 1.
+ *   After any code other than GIX_OK, output parameters are unchanged. There
+ *   are two exceptions: a fault n is described in *fault, and with GIX_NONE
+ *   gix_history_merge_bases sets *count to 0. The history keeps its commits and
+ *   can be used again. No function ends the process. Every function that
+ *   allocates memory can return GIX_OUT_OF_MEMORY; the call can be repeated.
  *
- * Threads. A history may be handed to another thread, and used and freed there. No two calls on one history may run at
- * once, not even ones that only ask: what they find is kept in it. Two histories have nothing in common.
+ * POINTERS AND BUFFERS
+ *   No pointer may be NULL. For an empty array pass any valid address and the
+ *   length 0. Only gix_history_free accepts NULL.
+ *   An output must not overlap an input or another output. A bool must be 0 or
+ *   1. The library copies what it keeps, and never returns a pointer into a
+ *   history.
+ *   A function that returns a list sets *count to the number of results and
+ *   writes the first of them to `out`, as many as there is room for. The rest
+ *   of the buffer is unchanged. gix_history_describe does the same with *len
+ *   and the bytes of its text, which has no terminating zero.
+ *   Two functions return pages: gix_history_list and gix_history_missing. A
+ *   page has at most out_len results, and *count is the number on the page.
+ *   For the first page pass after_len 0. For the next one pass after_len 1 and
+ *   in *after the last id of the page before. A page that is not full is the
+ *   last.
  *
- * Memory. It is taken by malloc and realloc and given back by free, and no other function of the program is called. Call
- * nothing here from a signal handler, nor in the child of a fork of a program with threads.
+ * THREADS
+ *   A history may be used and freed on another thread than the one that made
+ *   it. Two calls on the same history must not run at the same time, not even
+ *   two queries: a query caches what it finds. Different histories are
+ *   independent.
+ *
+ * MEMORY
+ *   The library allocates with malloc and realloc, releases with free, and
+ *   calls no other function of the program. Do not call it from a signal
+ *   handler, or in the child after fork() in a program with threads.
+ *
+ * PREMISES
+ *   Some answers are promised only for a history with these properties:
+ *     acyclic              No chain of parents leads from a commit back to it.
+ *     ordered generations  No parent has a greater generation number than its
+ *                          child. A missing number counts as infinity.
+ *     older parents        Each parent is strictly older than its child.
+ *   Only commits reachable from the arguments of the call matter. A function
+ *   that names no premise has none. Without a premise a call is still safe. If
+ *   part of a promise remains then, the comment of the function says which.
+ *   The commits of an opened commit-graph file are acyclic and have ordered
+ *   generations. The history stays acyclic if the commits that are added later
+ *   form no cycle. Its generations stay ordered if these commits have no
+ *   generation number.
  */
 #ifndef GIX_REVISION_H
 #define GIX_REVISION_H
@@ -29,126 +71,264 @@ extern "C" {
 
 enum {
     GIX_OK = 0,             /* answered */
-    GIX_NONE = 1,           /* answered: there is none, or it is not so */
-    GIX_OUT_OF_MEMORY = -1, /* there was no memory */
-    GIX_ALREADY_THERE = -2, /* the history has a commit under that id, and keeps it */
-    GIX_NO_COMMIT = -4,     /* the history lacks the commit that is to be described */
-    GIX_TOO_MANY = -5,      /* there are more commits than a uint32_t counts */
-    GIX_NO_KIND = -6,       /* the kind of a gix_span is none of those below */
-    GIX_NO_GRAPH = -7,      /* the bytes are no commit-graph file that is read */
-    GIX_NO_LEVELS = -8,     /* a commit of the file has no level, or a parent no lesser one */
-    GIX_FAULT = 100         /* 101 to 127: the text is refused, by fault 1 to 27 (docs/LINES.md) */
+    GIX_NONE = 1,           /* answered: no such thing, or no */
+    GIX_OUT_OF_MEMORY = -1, /* an allocation failed */
+    GIX_ALREADY_THERE = -2, /* the history has a commit with this id */
+    GIX_NO_COMMIT = -4,     /* the history does not have this commit */
+    GIX_TOO_MANY = -5,      /* 2^32 commits or more are reachable */
+    GIX_NO_KIND = -6,       /* the kind of a gix_span is not one of the six */
+    GIX_NO_GRAPH = -7,      /* not a commit-graph file that can be opened */
+    GIX_NO_LEVELS = -8,     /* levels of the file are missing or not ordered */
+    GIX_FAULT = 100         /* 101 to 127: the revision has fault 1 to 27 */
 };
 
-/* The 20 bytes of an id. */
+/* The 20 bytes of a SHA-1 id. */
 typedef struct {
     uint8_t bytes[20];
 } gix_id;
 
-/* Commits, what was found of them by then, and the names that texts are resolved by. */
+/* Commits, ref names for revisions, and what earlier queries have cached. */
 typedef struct gix_history gix_history;
 
-/* Makes a history without commits, and puts it into *out. What *out pointed to before is not freed.
- * GIX_OK, GIX_OUT_OF_MEMORY. */
+/*
+ * Makes a history without commits.
+ *
+ * The old value of *out is not freed.
+ *
+ * Returns:
+ *   GIX_OK             *out is the new history.
+ *   GIX_OUT_OF_MEMORY
+ */
 int32_t gix_history_new(gix_history **out);
 
-/* Makes a history over the bytes of git's commit-graph file (objects/info/commit-graph: ids of SHA-1, no file of a chain
- * but its first), and puts it into *out. What *out pointed to before is not freed. The bytes are copied, and so are the
- * ids of the commits, since texts may name them by first digits: that takes some 50 bytes for each commit beside the file,
- * and some 0.5 microseconds. All of it is checked here once, but the hash at its end. The history has the commits of the
- * file with their generations, and lacks none of their parents; gix_history_insert adds what the file lacks. What the
- * questions below ask of a history is so of the commits of a file, and stays so while those that are added have no cycle
- * and no generations.
- * GIX_OK, GIX_NO_GRAPH, GIX_NO_LEVELS, GIX_OUT_OF_MEMORY. */
-int32_t gix_history_open(const uint8_t *bytes, size_t bytes_len, gix_history **out);
+/*
+ * Makes a history of the commits in git's commit-graph file.
+ *
+ * `bytes` is the whole file (.git/objects/info/commit-graph). It must have
+ * SHA-1 ids. Only the lowest file of a split commit-graph can be opened. Each
+ * part of the file that is used is checked here; the hash at its end is not.
+ *
+ * The history has the commits of the file with their generation numbers, and
+ * all their parents. Add newer commits with gix_history_insert. The bytes are
+ * copied, and an index of the ids takes about 50 bytes a commit more. The old
+ * value of *out is not freed.
+ *
+ * Returns:
+ *   GIX_OK             *out is the new history.
+ *   GIX_NO_GRAPH       The bytes are not such a file.
+ *   GIX_NO_LEVELS      The file is well-formed, but a commit has no level, or
+ *                      a level that is not greater than its parents'.
+ *   GIX_OUT_OF_MEMORY
+ */
+int32_t gix_history_open(const uint8_t *bytes, size_t bytes_len,
+                         gix_history **out);
 
-/* Frees a history, which is not used again; of null nothing. It takes as long as the history is large. */
+/*
+ * Frees a history that gix_history_new or gix_history_open has made.
+ *
+ * It must not be used again. NULL is allowed and does nothing.
+ */
 void gix_history_free(gix_history *history);
 
-/* Puts a commit under an id that has none: its parents in order, its time in seconds since 1970, and its generation,
- * which counts where `has_generation` says so. Parents may be put before it, after it or never. What was found by then
- * is kept, so questions may come between commits. Texts may name the commit by the first digits of its id from then on,
- * also after GIX_OUT_OF_MEMORY. It takes some 0.6 microseconds.
- * GIX_OK, GIX_ALREADY_THERE, GIX_OUT_OF_MEMORY. */
-int32_t gix_history_insert(gix_history *history, const gix_id *id, const gix_id *parents, size_t parents_len, int64_t time,
-                           bool has_generation, uint32_t generation);
+/*
+ * Adds a commit to the history.
+ *
+ * `parents` are in git's order; they may be added before the commit, after it,
+ * or never. `time` is the commit date in seconds since 1970. `generation` is
+ * read only if `has_generation` is true. Cached results stay valid, so calls
+ * to this function and queries may alternate. Abbreviated ids in revisions can
+ * resolve to `id` from now on.
+ *
+ * Returns:
+ *   GIX_OK
+ *   GIX_ALREADY_THERE  The history has a commit with this id, and keeps it.
+ *   GIX_OUT_OF_MEMORY  The commit was not added. An abbreviated id in a
+ *                      revision may resolve to `id` all the same.
+ */
+int32_t gix_history_insert(gix_history *history, const gix_id *id,
+                           const gix_id *parents, size_t parents_len,
+                           int64_t time, bool has_generation,
+                           uint32_t generation);
 
-/* The merge bases of `first` and a hypothetical merge of `others`, as `git merge-base --all`: *count is how many there
- * are, and the first of them, as many as there is room for, go to out. They come by falling generation, then falling
- * time, then rising id. Among the ancestors of all these ids there may be no cycle, and no parent with a greater
- * generation than its child, an absent one counting as the greatest. After GIX_NONE *count is 0. A first question reads
- * the commits that it reaches, a further one much less.
- * GIX_OK, GIX_NONE, GIX_OUT_OF_MEMORY. */
-int32_t gix_history_merge_bases(gix_history *history, const gix_id *first, const gix_id *others, size_t others_len,
+/*
+ * Finds the merge bases of `first` and a hypothetical merge of `others`, like
+ * `git merge-base --all`.
+ *
+ * The results are sorted: greatest generation number first (a missing one
+ * counts as infinity), then latest date, then smallest id. If `others` is
+ * empty or contains `first`, the result is `first` alone. An id that is not in
+ * the history has no ancestors.
+ *
+ * Premises: acyclic, ordered generations.
+ *
+ * Returns:
+ *   GIX_OK
+ *   GIX_NONE           There is no merge base. *count is 0.
+ *   GIX_OUT_OF_MEMORY
+ */
+int32_t gix_history_merge_bases(gix_history *history, const gix_id *first,
+                                const gix_id *others, size_t others_len,
                                 gix_id *out, size_t out_len, size_t *count);
 
-/* The best commit that is common to `first` and all of `others`, as `git merge-base --octopus`, under the premises of
- * gix_history_merge_bases.
- * GIX_OK, GIX_NONE, GIX_OUT_OF_MEMORY. */
-int32_t gix_history_octopus(gix_history *history, const gix_id *first, const gix_id *others, size_t others_len,
+/*
+ * Finds the best common ancestor of `first` and all of `others`, like
+ * `git merge-base --octopus`.
+ *
+ * A common ancestor is reachable from each of the ids. It is best if no other
+ * common ancestor reaches it. If there are several, the result is the first of
+ * them in the order of gix_history_merge_bases. If all ids are equal, the
+ * result is that id.
+ *
+ * Premises: acyclic, ordered generations.
+ *
+ * Returns:
+ *   GIX_OK
+ *   GIX_NONE           There is no common ancestor.
+ *   GIX_OUT_OF_MEMORY
+ */
+int32_t gix_history_octopus(gix_history *history, const gix_id *first,
+                            const gix_id *others, size_t others_len,
                             gix_id *out);
 
-/* GIX_OK where `ancestor` is reached from `of`, as `git merge-base --is-ancestor`; GIX_NONE where it is not. A commit
- * reaches itself, an id that the history lacks nothing. Among the ancestors of `of` there may be no parent with a greater
- * generation than its child, an absent one counting as the greatest; with one GIX_OK is still right. Cycles do not matter.
- * GIX_OK, GIX_NONE, GIX_OUT_OF_MEMORY. */
-int32_t gix_history_is_ancestor(gix_history *history, const gix_id *ancestor, const gix_id *of);
+/*
+ * Tests whether `ancestor` is reachable from `of`, like
+ * `git merge-base --is-ancestor`.
+ *
+ * A commit is reachable from itself. An id that is not in the history is not
+ * reachable from anything, and nothing is reachable from it.
+ *
+ * Premises: ordered generations, among the commits that `of` reaches. Without
+ * it GIX_OK is still right, but GIX_NONE may be wrong. Cycles do not matter.
+ *
+ * Returns:
+ *   GIX_OK             It is reachable.
+ *   GIX_NONE           It is not.
+ *   GIX_OUT_OF_MEMORY
+ */
+int32_t gix_history_is_ancestor(gix_history *history, const gix_id *ancestor,
+                                const gix_id *of);
 
-/* Those of `ids` that are reached from no other of them, as `git merge-base --independent`, each once and in the order of
- * their first places: *count is how many there are, and the first of them, as many as there is room for, go to out. The
- * premises are those of gix_history_merge_bases.
- * GIX_OK, GIX_OUT_OF_MEMORY. */
-int32_t gix_history_independent(gix_history *history, const gix_id *ids, size_t ids_len, gix_id *out, size_t out_len,
+/*
+ * Finds those of `ids` that no other one of them reaches, like
+ * `git merge-base --independent`.
+ *
+ * Each result is listed once, in the order of the first places in `ids`. An id
+ * that is not in the history is one of the results.
+ *
+ * Premises: acyclic, ordered generations.
+ *
+ * Returns:
+ *   GIX_OK
+ *   GIX_OUT_OF_MEMORY
+ */
+int32_t gix_history_independent(gix_history *history, const gix_id *ids,
+                                size_t ids_len, gix_id *out, size_t out_len,
                                 size_t *count);
 
-/* How many commits `ours` reaches and `theirs` does not, into *ahead, and how many the other way round, into *behind, as
- * `git rev-list --left-right --count`. Among the ancestors of both there may be no parent with a greater generation than
- * its child, an absent one counting as the greatest; with one either count may be greater, and not less. A cycle may be.
- * GIX_OK, GIX_OUT_OF_MEMORY. */
-int32_t gix_history_ahead_behind(gix_history *history, const gix_id *ours, const gix_id *theirs, size_t *ahead,
+/*
+ * Counts the commits that only one of two ids reaches, like
+ * `git rev-list --left-right --count`.
+ *
+ * *ahead is the number of commits that `ours` reaches and `theirs` does not.
+ * *behind is the number of those that `theirs` reaches and `ours` does not.
+ *
+ * Premises: ordered generations. Without it a count may be too great, but not
+ * too small. Cycles do not matter.
+ *
+ * Returns:
+ *   GIX_OK
+ *   GIX_OUT_OF_MEMORY
+ */
+int32_t gix_history_ahead_behind(gix_history *history, const gix_id *ours,
+                                 const gix_id *theirs, size_t *ahead,
                                  size_t *behind);
 
-/* Those of `ids` that the history has, each once, by falling generation, then falling time, then rising id, an absent
- * generation counting as the greatest: children before their parents wherever generations rise from parent to child. *count
- * is how many there are, and the first of them, as many as there is room for, go to out.
- * GIX_OK, GIX_OUT_OF_MEMORY. */
-int32_t gix_history_newest_first(gix_history *history, const gix_id *ids, size_t ids_len, gix_id *out, size_t out_len,
+/*
+ * Sorts those of `ids` that the history has, each once.
+ *
+ * The order is that of gix_history_merge_bases: greatest generation number
+ * first, then latest date, then smallest id. If each parent has a smaller
+ * generation number than its child, every commit comes before its parents.
+ *
+ * Returns:
+ *   GIX_OK
+ *   GIX_OUT_OF_MEMORY
+ */
+int32_t gix_history_newest_first(gix_history *history, const gix_id *ids,
+                                 size_t ids_len, gix_id *out, size_t out_len,
                                  size_t *count);
 
-/* A page of the ids that commits of the history have as parents, and under which it has no commit, each once, by rising
- * id: at most out_len of them, past the last id of the page before, where after_len is 1; from the first on where it is 0.
- * A page that is not full is the last. So a history can be put in by rounds: the tips, then what is missing, until nothing
- * is. A first page looks through the parents that came with commits since the one before, a further one through what is
- * missing.
- * GIX_OK, GIX_OUT_OF_MEMORY. */
-int32_t gix_history_missing(gix_history *history, const gix_id *after, size_t after_len, gix_id *out, size_t out_len,
+/*
+ * Lists the missing parents, a page at a time.
+ *
+ * A missing parent is an id that a commit of the history has as a parent, and
+ * that is not in the history. Each is listed once, in rising order. A program
+ * can load a history in rounds: it adds the tips, then what is missing, until
+ * nothing is.
+ *
+ * Returns:
+ *   GIX_OK
+ *   GIX_OUT_OF_MEMORY
+ */
+int32_t gix_history_missing(gix_history *history, const gix_id *after,
+                            size_t after_len, gix_id *out, size_t out_len,
                             size_t *count);
 
-/* The name of a commit. The bytes may be any. */
+/* A name for a commit, in any bytes. */
 typedef struct {
     gix_id id;
     const uint8_t *text;
     size_t text_len;
 } gix_name;
 
-/* How a commit is described. */
+/* Options of gix_history_describe. */
 typedef struct {
-    size_t max_candidates; /* how many names are weighed, at most 32; git's default is 10; with 0 its own name alone counts */
-    size_t hex_len;        /* how many digits of the id are printed, at most 40 */
-    bool first_parent;     /* whether first parents alone are followed */
-    bool fallback_to_id;   /* whether the digits alone are the answer where no name is found */
-    bool long_form;        /* whether depth and digits are printed behind the commit's own name, too */
+    /* How many names are considered; more than 32 count as 32. git's default is
+     * 10. With 0 only the commit's own name is used. */
+    size_t max_candidates;
+    /* How many hex digits of the id are printed; more than 40 count as 40. */
+    size_t hex_len;
+    /* Follow only first parents. */
+    bool first_parent;
+    /* Print the digits alone if no name is found. */
+    bool fallback_to_id;
+    /* Print depth and digits also if the commit itself has a name. */
+    bool long_form;
 } gix_how;
 
-/* The commit by its own name or that of an ancestor, as git-describe prints it: *len is the length of that text, whose
- * first bytes, as many as there is room for, go to out, and *depth how many commits lie between. Of several names of
- * one commit the first counts. Names are printed with their bytes as they are. The history is walked anew each
- * time, and what other questions found is kept.
- * GIX_OK, GIX_NONE, GIX_NO_COMMIT, GIX_TOO_MANY, GIX_OUT_OF_MEMORY. */
-int32_t gix_history_describe(gix_history *history, const gix_id *commit, const gix_name *names, size_t names_len,
-                             const gix_how *how, uint8_t *out, size_t out_len, size_t *len, uint32_t *depth);
+/*
+ * Describes `commit` by its own name or by that of an ancestor, like
+ * `git describe`.
+ *
+ * The text is NAME-DEPTH-gHEX. It is NAME at depth 0, unless how->long_form is
+ * set. It is HEX if no name is found and how->fallback_to_id is set; *depth is
+ * then 0. Names are copied byte for byte. If `names` has several names for one
+ * commit, the first one counts.
+ *
+ * A commit with a name of its own has depth 0. Otherwise *depth is at least the
+ * number of commits that `commit` reaches and the named commit does not. With
+ * how->first_parent only first parents count as parents. Which of several
+ * equally near names is chosen is not promised.
+ *
+ * Premises: none for the above. With older parents, and if at most
+ * how->max_candidates and at most 32 ancestors have names, *depth is the least
+ * such number of all named ancestors.
+ *
+ * Each call walks the history anew. What other queries have cached is kept.
+ *
+ * Returns:
+ *   GIX_OK
+ *   GIX_NONE           No name is found, and how->fallback_to_id is not set.
+ *   GIX_NO_COMMIT      The history does not have `commit`.
+ *   GIX_TOO_MANY       `commit` reaches 2^32 commits or more.
+ *   GIX_OUT_OF_MEMORY
+ */
+int32_t gix_history_describe(gix_history *history, const gix_id *commit,
+                             const gix_name *names, size_t names_len,
+                             const gix_how *how, uint8_t *out, size_t out_len,
+                             size_t *len, uint32_t *depth);
 
-/* Kinds of sets of commits. */
+/* Kinds of sets of commits, as gitrevisions(7) writes them. */
 enum {
     GIX_INCLUDE = 0,        /* first */
     GIX_EXCLUDE = 1,        /* ^first */
@@ -158,47 +338,103 @@ enum {
     GIX_WITHOUT_PARENTS = 5 /* first^! */
 };
 
-/* A set of commits by the ids that span it. */
+/* A set of commits. */
 typedef struct {
     uint32_t kind;
     gix_id first;
-    gix_id second; /* counts for GIX_RANGE and GIX_MERGE; else it is written as the first, and not read */
+    /* Read only for GIX_RANGE and GIX_MERGE. For the other kinds the library
+     * writes `first` here. */
+    gix_id second;
 } gix_span;
 
-/* The fault of a text: its number, from 1 to 27, and the part of the text that it names, by its first byte and how many
- * there are. Where the text has these bytes more than once, start is the last place at which it has them. A fault that
- * names no part has start and length 0. */
+/*
+ * The fault of a revision: its number, 1 to 27, and the part of the text that
+ * it names, by first byte and length. If the text has these bytes at several
+ * places, `start` is the last one. For a fault that names no part both are 0.
+ */
 typedef struct {
     uint8_t number;
     size_t start;
     size_t length;
 } gix_fault;
 
-/* Says what a name stands for in texts, `HEAD` too. A name that stood for another id stands for this one.
- * GIX_OK, GIX_OUT_OF_MEMORY. */
-int32_t gix_history_name(gix_history *history, const uint8_t *name, size_t name_len, const gix_id *id);
+/*
+ * Gives a ref name, such as `HEAD` or `main`, to an id, for revisions.
+ *
+ * A revision finds only names that were given, letter for letter:
+ * `refs/heads/main` is not found as `main` unless `main` was given, too. If the
+ * name was given before, it now stands for the new id. For an annotated tag
+ * pass the commit that it leads to.
+ *
+ * Returns:
+ *   GIX_OK
+ *   GIX_OUT_OF_MEMORY  The names are unchanged.
+ */
+int32_t gix_history_name(gix_history *history, const uint8_t *name,
+                         size_t name_len, const gix_id *id);
 
-/* The set of commits that a text means, as main~2..topic: gitrevisions. First digits of an id come before names. Dates
- * are read at `seconds` since 1970 and an offset in seconds. Where the text is refused *fault says where it is at fault,
- * and else *fault stays as it is.
- * GIX_OK, GIX_FAULT and the number of a fault, GIX_OUT_OF_MEMORY. */
-int32_t gix_history_resolve(gix_history *history, const uint8_t *text, size_t text_len, int64_t seconds, int32_t offset,
+/*
+ * Resolves a revision such as `main~2..topic` to a set of commits. See
+ * gitrevisions(7) for the syntax.
+ *
+ * Ref names are those given to gix_history_name. If the text is both a ref
+ * name and an abbreviated id, the id wins; gix_history_rev_parse prefers the
+ * ref, as git does. Relative dates count back from `seconds` since 1970;
+ * `offset` is the UTC offset in seconds. A revision that needs a reflog, an
+ * upstream, a message, a path, a tree or a tag object fails with a fault.
+ *
+ * Returns:
+ *   GIX_OK             *out is the set. *fault is unchanged.
+ *   GIX_FAULT + n      Fault n. *fault says which part of the text is wrong.
+ *                      *out is unchanged.
+ *   GIX_OUT_OF_MEMORY
+ */
+int32_t gix_history_resolve(gix_history *history, const uint8_t *text,
+                            size_t text_len, int64_t seconds, int32_t offset,
                             gix_span *out, gix_fault *fault);
 
-/* As gix_history_resolve, with names before first digits of an id, as git has them: 1059-login is a branch of that name,
- * where there is one. */
-int32_t gix_history_rev_parse(gix_history *history, const uint8_t *text, size_t text_len, int64_t seconds, int32_t offset,
+/*
+ * Resolves a revision like gix_history_resolve, but a ref name wins over an
+ * abbreviated id, as in git.
+ *
+ * `1059-login` is the ref of that name, if there is one. 40 hex digits mean the
+ * id, even if a ref has that name. `^{}` and `^{object}` after a commit are
+ * accepted.
+ *
+ * Returns:
+ *   GIX_OK             *out is the set. *fault is unchanged.
+ *   GIX_FAULT + n      Fault n. *fault says which part of the text is wrong.
+ *                      *out is unchanged.
+ *   GIX_OUT_OF_MEMORY
+ */
+int32_t gix_history_rev_parse(gix_history *history, const uint8_t *text,
+                              size_t text_len, int64_t seconds, int32_t offset,
                               gix_span *out, gix_fault *fault);
 
-/* A page of the commits of a set, by rising id: at most out_len of them, past the last id of the page before, where
- * after_len is 1; from the first on where it is 0. A page that is not full is the last. Each page makes the whole list.
- * GIX_OK, GIX_NO_KIND, GIX_OUT_OF_MEMORY. */
-int32_t gix_history_list(gix_history *history, const gix_span *span, const gix_id *after, size_t after_len, gix_id *out,
+/*
+ * Lists the commits of a set in rising order of their ids, a page at a time.
+ *
+ * Each call computes the whole list.
+ *
+ * Returns:
+ *   GIX_OK
+ *   GIX_NO_KIND        span->kind is not one of the six kinds.
+ *   GIX_OUT_OF_MEMORY
+ */
+int32_t gix_history_list(gix_history *history, const gix_span *span,
+                         const gix_id *after, size_t after_len, gix_id *out,
                          size_t out_len, size_t *count);
 
-/* How many commits a set has, as `git rev-list --count`. None of them is written.
- * GIX_OK, GIX_NO_KIND, GIX_OUT_OF_MEMORY. */
-int32_t gix_history_count(gix_history *history, const gix_span *span, size_t *count);
+/*
+ * Counts the commits of a set, like `git rev-list --count`.
+ *
+ * Returns:
+ *   GIX_OK
+ *   GIX_NO_KIND        span->kind is not one of the six kinds.
+ *   GIX_OUT_OF_MEMORY
+ */
+int32_t gix_history_count(gix_history *history, const gix_span *span,
+                          size_t *count);
 
 #ifdef __cplusplus
 }

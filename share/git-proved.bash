@@ -1,4 +1,5 @@
-# Completes the words and options of `git proved`, by git's own completion, which calls this.
+# Completes the commands and options of `git proved`. git's completion for bash
+# calls this function.
 _git_proved() {
     local word=${words[__git_cmd_idx + 1]-}
     if ((cword == __git_cmd_idx + 1)); then
@@ -8,7 +9,8 @@ _git_proved() {
     case $word,$cur in
         merge-base,-*) __gitcomp "--all --octopus --independent --is-ancestor" ;;
         describe,-*)
-            __gitcomp "--all --tags --long --abbrev= --exact-match --candidates= --first-parent --always --match= --exclude= --dirty --dirty="
+            __gitcomp "--all --tags --long --abbrev= --exact-match --candidates= --first-parent \
+                --always --match= --exclude= --dirty --dirty="
             ;;
         rev-list,-*) __gitcomp "--count --left-right --max-count=" ;;
         rev-parse,-*) __gitcomp "--verify --quiet --short --short=" ;;

@@ -1,12 +1,30 @@
-"""Merge bases, described commits and revision texts, each answer proved: the library of include/gix_revision.h by ctypes.
+"""Merge bases, commit descriptions and revisions: the proved library of gix_revision.h, by ctypes.
 
-An id goes in as its 20 bytes or its 40 hex digits, and comes out as hex digits. The library is found by the environment variable
-GIX_REVISION_LIBRARY, which holds the path of libgix_revision.so, or where the system finds libraries.
+A History has commits: those of git's commit-graph file, commits that the program adds, or both. Its
+methods answer questions about it. Each calls a function of the library, whose contract is proved;
+docs/PROVED.md says what it promises.
 
     with History() as history:
         history.insert("11" * 20, [], 1)
         history.insert("22" * 20, ["11" * 20], 2)
         history.merge_bases("22" * 20, ["11" * 20])
+
+An id is passed as its 20 bytes or its 40 hex digits, and returned as hex digits. The environment
+variable GIX_REVISION_LIBRARY has the path of libgix_revision.so. Without it the system looks for
+the library. Every call can raise MemoryError.
+
+Premises: some answers are promised only for a history with these properties. They concern only the
+commits that the arguments of the call can reach. Without them a call is still safe. A method that
+names no premise has none.
+
+    acyclic              No chain of parents leads from a commit back to it.
+    ordered generations  No parent has a greater generation number than its child. A missing number
+                         counts as infinity.
+    older parents        Each parent is strictly older than its child.
+
+The commits of an opened commit-graph file are acyclic and have ordered generations. The history
+stays acyclic if the commits that are added later form no cycle. Its generations stay ordered if
+these commits have no generation number.
 """
 
 from __future__ import annotations
@@ -48,7 +66,7 @@ class _Fault(ctypes.Structure):
 
 
 class Kind(IntEnum):
-    """How a set of commits is spanned."""
+    """Kinds of sets: first, ^first, first..second, first...second, first^@, first^!"""
 
     INCLUDE = 0
     EXCLUDE = 1
@@ -59,7 +77,7 @@ class Kind(IntEnum):
 
 
 class Span(NamedTuple):
-    """A set of commits by the ids that span it; the second one counts for RANGE and MERGE."""
+    """A set of commits. The second id is read only for RANGE and MERGE."""
 
     kind: Kind
     first: str
@@ -67,43 +85,46 @@ class Span(NamedTuple):
 
 
 class Description(NamedTuple):
-    """A described commit: as git-describe prints it, and how many commits lie between."""
+    """The description of a commit: the text, and the depth."""
 
     text: bytes
     depth: int
 
 
 class Refused(Exception):
-    """A call was refused. The history has the commits that it had, and can be used again."""
+    """A call failed. The history keeps its commits and can be used again."""
 
 
 class AlreadyThere(Refused):
-    """The history has a commit under that id, and keeps it."""
+    """The history has a commit with this id, and keeps it."""
 
 
 class NoCommit(Refused):
-    """The history lacks the commit that is to be described."""
+    """The history does not have the commit to describe."""
 
 
 class TooMany(Refused):
-    """There are more commits than a count of 32 bits can say."""
+    """2^32 commits or more are reachable."""
 
 
 class NoKind(Refused):
-    """The kind of a set of commits is none."""
+    """The kind of a set is not one of the six."""
 
 
 class NoGraph(Refused):
-    """The bytes are no commit-graph file that is read."""
+    """The bytes are not a commit-graph file that can be opened."""
 
 
 class NoLevels(Refused):
-    """A commit of the commit-graph file has no level, or a parent no lesser one."""
+    """A commit of the file has no level, or a level that is not greater than its parents'."""
 
 
 class Fault(Refused):
-    """A text is refused, by the number of its fault, from 1 to 27, which names the part from byte `start` on, of `length` bytes. Of
-    several places at which the text has these bytes `start` is the last."""
+    """The revision has a fault, with a number from 1 to 27.
+
+    The part of the text that it names begins at the byte `start` and has `length` bytes. If the
+    text has these bytes at several places, `start` is the last one.
+    """
 
     def __init__(self, number: int, start: int, length: int) -> None:
         super().__init__(f"the text is refused by fault {number}, in {length} bytes from {start} on")
@@ -157,7 +178,7 @@ def _one(id: Id) -> _Id:
 
 
 def _many(ids: Sequence[Id]) -> ctypes.Array[_Id]:
-    """Returns ids as C has them, with room for one at least: no pointer may be null."""
+    """Returns the ids as a C array with room for at least one, since no pointer may be NULL."""
     return (_Id * max(1, len(ids)))(*map(_one, ids))
 
 
@@ -166,7 +187,7 @@ def _hex(id: _Id) -> str:
 
 
 def _answered(code: int) -> bool:
-    """Whether there is an answer; raises what a refusal says."""
+    """Returns whether the code is GIX_OK and not GIX_NONE, or raises the error that it means."""
     if code in (0, _NONE):
         return code == 0
     if code == -1:
@@ -175,7 +196,10 @@ def _answered(code: int) -> bool:
 
 
 class History:
-    """Commits in memory, or of a commit-graph file and in memory, and what is asked of them. It is used by one thread at a time."""
+    """Commits, ref names for revisions, and what earlier queries have cached.
+
+    Only one thread at a time may use a history.
+    """
 
     def __init__(self) -> None:
         self._at = _HANDLE()
@@ -183,14 +207,17 @@ class History:
 
     @classmethod
     def open(cls, file: bytes) -> History:
-        """A history over the bytes of git's commit-graph file, which are copied; `insert` adds what the file lacks. Raises NoGraph, NoLevels."""
+        """Makes a history of the commits in git's commit-graph file.
+
+        The bytes are copied. `insert` adds newer commits. Raises NoGraph or NoLevels.
+        """
         history = cls.__new__(cls)
         history._at = _HANDLE()
         _answered(_library.gix_history_open(file, len(file), ctypes.byref(history._at)))
         return history
 
     def close(self) -> None:
-        """Frees it. It can't be used again."""
+        """Frees the history. It cannot be used again."""
         if self._at:
             _library.gix_history_free(self._at)
             self._at = _HANDLE()
@@ -213,11 +240,20 @@ class History:
         return _answered(self._code(name, *arguments))
 
     def insert(self, id: Id, parents: Sequence[Id], time: int, generation: int | None = None) -> None:
-        """Puts a commit under an id that has none. Raises AlreadyThere."""
+        """Adds a commit. Its parents may be added before it, after it, or never.
+
+        `time` is the commit date in seconds since 1970. Raises AlreadyThere.
+        """
         self._call("insert", _one(id), _many(parents), len(parents), time, generation is not None, generation or 0)
 
     def merge_bases(self, first: Id, others: Sequence[Id]) -> list[str]:
-        """The merge bases of `first` and a hypothetical merge of `others`, as `git merge-base --all`."""
+        """Returns the merge bases of `first` and a merge of `others`, like `git merge-base --all`.
+
+        The merge of `others` is hypothetical. The results are sorted: greatest generation number
+        first (a missing one counts as infinity), then latest date, then smallest id.
+
+        Premises: acyclic, ordered generations.
+        """
         room, count = 8, _SIZE()
         while True:
             out = (_Id * room)()
@@ -228,34 +264,60 @@ class History:
             room = count.value
 
     def octopus(self, first: Id, others: Sequence[Id]) -> str | None:
-        """The best commit that is common to all, as `git merge-base --octopus`."""
+        """Returns the best common ancestor of all ids, like `git merge-base --octopus`.
+
+        If there are several, it is the first in the order of `merge_bases`.
+
+        Premises: acyclic, ordered generations.
+        """
         out = _Id()
         return _hex(out) if self._call("octopus", _one(first), _many(others), len(others), out) else None
 
     def is_ancestor(self, ancestor: Id, of: Id) -> bool:
-        """Whether `ancestor` is reached from `of`, as `git merge-base --is-ancestor`."""
+        """Returns whether `ancestor` is reachable from `of`, like `git merge-base --is-ancestor`.
+
+        A commit is reachable from itself, but an id that is not in the history is not.
+
+        Premises: ordered generations. Without it True is still right, but False may be wrong.
+        Cycles do not matter.
+        """
         return self._call("is_ancestor", _one(ancestor), _one(of))
 
     def independent(self, ids: Sequence[Id]) -> list[str]:
-        """Those that are reached from no other of them, as `git merge-base --independent`."""
+        """Returns those of `ids` that no other one reaches, like `git merge-base --independent`.
+
+        Each is returned once, in the order of the first places in `ids`.
+
+        Premises: acyclic, ordered generations.
+        """
         out, count = _many(ids), _SIZE()
         self._call("independent", _many(ids), len(ids), out, len(ids), count)
         return [_hex(id) for id in out[: count.value]]
 
     def ahead_behind(self, ours: Id, theirs: Id) -> tuple[int, int]:
-        """How many commits `ours` alone reaches and how many `theirs` alone, as `git rev-list --left-right --count`."""
+        """Returns how many commits only `ours` reaches, and how many only `theirs` reaches.
+
+        This is `git rev-list --left-right --count`.
+
+        Premises: ordered generations. Without it a count may be too great, but not too small.
+        Cycles do not matter.
+        """
         ahead, behind = _SIZE(), _SIZE()
         self._call("ahead_behind", _one(ours), _one(theirs), ahead, behind)
         return ahead.value, behind.value
 
     def newest_first(self, ids: Sequence[Id]) -> list[str]:
-        """Those that the history has, each once, by falling generation, then falling time, then rising id."""
+        """Returns those of `ids` that the history has, each once, in the order of `merge_bases`."""
         out, count = _many(ids), _SIZE()
         self._call("newest_first", _many(ids), len(ids), out, len(ids), count)
         return [_hex(id) for id in out[: count.value]]
 
     def missing(self, page: int = 1000) -> Iterator[str]:
-        """The ids that commits have as parents and that the history lacks, by rising id."""
+        """Yields the missing parents in rising order, fetched `page` at a time.
+
+        A missing parent is an id that a commit of the history has as a parent, and that is not in
+        the history.
+        """
         return self._pages("missing", (), page)
 
     def describe(
@@ -269,7 +331,19 @@ class History:
         always: bool = False,
         long: bool = False,
     ) -> Description | None:
-        """The commit by its own name or that of an ancestor, as git-describe prints it. Raises NoCommit and TooMany."""
+        """Describes `commit` by its own name or by that of an ancestor, like `git describe`.
+
+        The text is NAME-DEPTH-gHEX, or the name alone at depth 0 unless `long` is set. If no name
+        is found, the result is the digits alone with `always`, otherwise None. If `names` has
+        several names for one commit, the first one counts.
+
+        A commit with a name of its own has depth 0. Otherwise the depth is at least the number of
+        commits that `commit` reaches and the named commit does not. With older parents, and if at
+        most `candidates` and at most 32 ancestors have names, it is the least such number of all
+        named ancestors.
+
+        Raises NoCommit or TooMany.
+        """
         given = [_Name(_one(id), name, len(name)) for id, name in names]
         how = _How(candidates, digits, first_parent, always, long)
         room, size, depth = 64, _SIZE(), ctypes.c_uint32()
@@ -283,15 +357,27 @@ class History:
             room = size.value
 
     def name(self, name: bytes, id: Id) -> None:
-        """Says what a name stands for in texts, `HEAD` too."""
+        """Gives a ref name, such as HEAD or main, to an id, for revisions.
+
+        A revision finds only names that were given, letter for letter: refs/heads/main is not found
+        as main unless main was given, too. If the name was given before, it now stands for the new
+        id.
+        """
         self._call("name", name, len(name), _one(id))
 
     def resolve(self, text: bytes, seconds: int = 0, offset: int = 0) -> Span:
-        """The set of commits that a text means, first digits of an id before names. Raises Fault."""
+        """Resolves a revision such as main~2..topic to a set of commits.
+
+        An abbreviated id wins over a ref name. Relative dates count back from `seconds` since 1970;
+        `offset` is the UTC offset in seconds. Raises Fault.
+        """
         return self._span("resolve", text, seconds, offset)
 
     def rev_parse(self, text: bytes, seconds: int = 0, offset: int = 0) -> Span:
-        """As resolve, with names before first digits of an id, as git has them. Raises Fault."""
+        """Resolves like `resolve`, but a ref name wins over an abbreviated id, as in git.
+
+        Raises Fault.
+        """
         return self._span("rev_parse", text, seconds, offset)
 
     def _span(self, call: str, text: bytes, seconds: int, offset: int) -> Span:
@@ -303,11 +389,14 @@ class History:
         return Span(Kind(span.kind), _hex(span.first), _hex(span.second))
 
     def list(self, span: Span, page: int = 1000) -> Iterator[str]:
-        """The commits of a set, by rising id."""
+        """Yields the commits of a set in rising order of their ids, fetched `page` at a time.
+
+        Each page computes the whole list. Raises NoKind.
+        """
         return self._pages("list", (self._raw(span),), page)
 
     def count(self, span: Span) -> int:
-        """How many commits a set has, as `git rev-list --count`."""
+        """Returns the number of commits of a set, like `git rev-list --count`. Raises NoKind."""
         count = _SIZE()
         self._call("count", self._raw(span), count)
         return count.value
@@ -317,7 +406,7 @@ class History:
         return _Span(span.kind, _one(span.first), _one(span.second))
 
     def _pages(self, call: str, given: tuple[object, ...], page: int) -> Iterator[str]:
-        """The ids of a call that answers pages."""
+        """Yields the ids of a function that returns pages."""
         after, out, count = _many([]), (_Id * page)(), _SIZE(page)
         passed = 0
         while count.value == page:

@@ -1,12 +1,18 @@
-/* Prints the merge bases of two commits, over the history that git tells:
- *     git log --all --format='%H %ct %P' | bases $(git rev-parse main feature)
- * cc -o bases bases.c $(pkg-config --cflags --libs gix_revision) */
+/*
+ * Prints the merge bases of two commits. It reads the history from git:
+ *
+ *     git log --all --format='%H %ct %P' | ./bases $(git rev-parse main feature)
+ *
+ * Compile it with
+ *
+ *     cc -o bases bases.c $(pkg-config --cflags --libs gix_revision)
+ */
 #include <gix_revision.h>
 #include <stdio.h>
 #include <stdlib.h>
 #include <string.h>
 
-/* Reads the 40 digits of an id; 0 where there are none. */
+/* Reads the 40 hex digits of an id. Returns 0 if there are none. */
 static int read_id(const char *text, gix_id *id) {
     unsigned byte;
     for (int i = 0; i < 20; i++) {
@@ -16,7 +22,7 @@ static int read_id(const char *text, gix_id *id) {
     return 1;
 }
 
-/* Puts the commit of a line: its id, its time, its parents. */
+/* Adds the commit of a line: its id, its commit date and its parents. */
 static int put(gix_history *history, char *line) {
     gix_id id, parents[64];
     size_t count = 0;

@@ -1,4 +1,5 @@
-//! The declarations of `gix_revision.h`, which says what each function does and what its caller owes.
+//! The declarations of the C header `gix_revision.h`. The header says what each function does, and
+//! what its caller has to ensure.
 #![no_std]
 #![allow(non_camel_case_types)]
 

@@ -1,4 +1,27 @@
-//! Merge bases, described commits and revision texts over a history in memory: a safe hand on the proved library `gix_revision`.
+//! Merge bases, commit descriptions and revisions: safe types over the proved library
+//! `gix_revision`.
+//!
+//! A [`History`] has commits: those of git's commit-graph file, commits that the program adds, or
+//! both. Its methods answer questions about it. Each of them calls a function of the library, whose
+//! contract is proved; `docs/PROVED.md` says what it promises. Every method that returns a `Result`
+//! can fail with [`Error::OutOfMemory`]; "Errors" lists the other errors.
+//!
+//! # Premises
+//!
+//! Some answers are promised only for a history with these properties. They concern only the
+//! commits that the arguments of the call can reach. Without them a call is still safe. A method
+//! that names no premise has none.
+//!
+//! - *Acyclic*: no chain of parents leads from a commit back to it.
+//! - *Ordered generations*: no parent has a greater generation number than its child. A missing
+//!   number counts as infinity.
+//! - *Older parents*: each parent is strictly older than its child.
+//!
+//! The commits of an opened commit-graph file are acyclic and have ordered generations. The history
+//! stays acyclic if the commits that are added later form no cycle. Its generations stay ordered if
+//! these commits have no generation number.
+//!
+//! # Example
 //!
 //! ```
 //! use gix_revision_proved::{History, Id};
@@ -34,23 +57,24 @@ impl fmt::Display for Id {
     }
 }
 
-/// Why a call gives no answer. The history has the commits that it had, and can be used again.
+/// Why a call failed. The history keeps its commits and can be used again.
 #[derive(Clone, Copy, Debug, PartialEq, Eq)]
 pub enum Error {
-    /// There was no memory.
+    /// An allocation failed.
     OutOfMemory,
-    /// The history has a commit under that id, and keeps it.
+    /// The history has a commit with this id, and keeps it.
     AlreadyThere,
-    /// The history lacks the commit that is to be described.
+    /// The history does not have the commit to describe.
     NoCommit,
-    /// There are more commits than a count of 32 bits can say.
+    /// 2^32 commits or more are reachable.
     TooMany,
-    /// The bytes are no commit-graph file that is read.
+    /// The bytes are not a commit-graph file that can be opened.
     NoGraph,
-    /// A commit of the commit-graph file has no level, or a parent no lesser one.
+    /// A commit of the file has no level, or a level that is not greater than its parents'.
     NoLevels,
-    /// The text is refused, by the number of its fault, from 1 to 27, which names the part that begins at a byte of the
-    /// text and has so many. Of several places at which the text has these bytes `start` is the last.
+    /// The revision has a fault, with a number from 1 to 27. The part of the text that it names
+    /// begins at the byte `start` and has `length` bytes. If the text has these bytes at several
+    /// places, `start` is the last one.
     Fault {
         number: u8,
         start: usize,
@@ -81,7 +105,7 @@ impl fmt::Display for Error {
 
 impl std::error::Error for Error {}
 
-/// Whether there is an answer.
+/// Returns whether the code is `GIX_OK` and not `GIX_NONE`, or the error that it means.
 fn answered(code: i32) -> Result<bool, Error> {
     match code {
         sys::GIX_OK => Ok(true),
@@ -95,7 +119,7 @@ fn answered(code: i32) -> Result<bool, Error> {
     }
 }
 
-/// The set of commits that a text means, once it is asked for.
+/// Returns the set that a revision resolves to, or the error that the code means.
 fn meant(code: i32, span: &sys::gix_span, fault: &sys::gix_fault) -> Result<Span, Error> {
     if code > sys::GIX_FAULT {
         return Err(Error::Fault {
@@ -114,23 +138,24 @@ const NO_FAULT: sys::gix_fault = sys::gix_fault {
     length: 0,
 };
 
-/// How a commit is described: git-describe, "Options".
+/// Options of [`History::describe`] (git-describe, "Options").
 #[derive(Clone, Copy, Debug)]
 pub struct How {
-    /// How many names are weighed, at most 32.
+    /// How many names are considered; more than 32 count as 32. With 0 only the commit's own name
+    /// is used.
     pub max_candidates: usize,
-    /// How many digits of the id are printed.
+    /// How many hex digits of the id are printed; more than 40 count as 40.
     pub hex_len: usize,
-    /// Whether first parents alone are followed.
+    /// Follow only first parents.
     pub first_parent: bool,
-    /// Whether the digits alone are the answer where no name is found.
+    /// Print the digits alone if no name is found.
     pub fallback_to_id: bool,
-    /// Whether depth and digits are printed behind the commit's own name, too.
+    /// Print depth and digits also if the commit itself has a name.
     pub long_form: bool,
 }
 
 impl Default for How {
-    /// 10 names, 7 digits, nothing else.
+    /// Returns 10 names, 7 digits, and no other option.
     fn default() -> How {
         How {
             max_candidates: 10,
@@ -142,14 +167,20 @@ impl Default for How {
     }
 }
 
-/// A set of commits: gitrevisions, "Specifying Ranges".
+/// A set of commits (gitrevisions, "Specifying Ranges").
 #[derive(Clone, Copy, Debug, PartialEq, Eq)]
 pub enum Span {
+    /// `id`: what it reaches.
     Include(Id),
+    /// `^id`: no commit.
     Exclude(Id),
+    /// `from..to`: what `to` reaches and `from` does not.
     Range { from: Id, to: Id },
+    /// `theirs...ours`: what exactly one of the two reaches.
     Merge { theirs: Id, ours: Id },
+    /// `id^@`: what its parents reach.
     OnlyParents(Id),
+    /// `id^!`: the commit alone.
     WithoutParents(Id),
 }
 
@@ -189,21 +220,27 @@ impl Span {
     }
 }
 
-/// Commits in memory, or of a commit-graph file and in memory, and what is asked of them.
+/// Commits, ref names for revisions, and what earlier queries have cached.
 pub struct History(NonNull<sys::gix_history>);
 
-// What it points to is its own, and nothing there is of the thread that made it.
+// It owns what it points to, and nothing there belongs to the thread that made it.
 unsafe impl Send for History {}
 
 impl History {
-    /// A history without commits.
+    /// Makes a history without commits.
     pub fn new() -> Result<History, Error> {
         let mut at = ptr::null_mut();
         answered(unsafe { sys::gix_history_new(&mut at) })?;
         NonNull::new(at).map(History).ok_or(Error::OutOfMemory)
     }
 
-    /// A history over the bytes of git's commit-graph file, which are copied. [`History::insert`] adds what the file lacks.
+    /// Makes a history of the commits in git's commit-graph file.
+    ///
+    /// The bytes are copied. [`History::insert`] adds newer commits.
+    ///
+    /// # Errors
+    ///
+    /// [`Error::NoGraph`] and [`Error::NoLevels`].
     pub fn open(bytes: &[u8]) -> Result<History, Error> {
         let mut at = ptr::null_mut();
         answered(unsafe { sys::gix_history_open(bytes.as_ptr(), bytes.len(), &mut at) })?;
@@ -214,7 +251,14 @@ impl History {
         self.0.as_ptr()
     }
 
-    /// Puts a commit under an id that has none.
+    /// Adds a commit.
+    ///
+    /// `parents` are in git's order; they may be added before the commit, after it, or never.
+    /// `time` is the commit date in seconds since 1970.
+    ///
+    /// # Errors
+    ///
+    /// [`Error::AlreadyThere`].
     pub fn insert(
         &mut self,
         id: Id,
@@ -237,7 +281,13 @@ impl History {
         Ok(())
     }
 
-    /// The merge bases of `first` and a hypothetical merge of `others`: `git merge-base --all`.
+    /// Returns the merge bases of `first` and a hypothetical merge of `others`, like
+    /// `git merge-base --all`.
+    ///
+    /// They are sorted: greatest generation number first (a missing one counts as infinity), then
+    /// latest date, then smallest id. The list is empty if there is no merge base.
+    ///
+    /// Premises: [acyclic, ordered generations](crate#premises).
     pub fn merge_bases(&mut self, first: Id, others: &[Id]) -> Result<Vec<Id>, Error> {
         let mut out = vec![Id([0; 20]); 8];
         let mut count = 0;
@@ -262,7 +312,12 @@ impl History {
         }
     }
 
-    /// The best commit that is common to all: `git merge-base --octopus`.
+    /// Returns the best common ancestor of `first` and all of `others`, like
+    /// `git merge-base --octopus`.
+    ///
+    /// If there are several, it is the first in the order of [`History::merge_bases`].
+    ///
+    /// Premises: [acyclic, ordered generations](crate#premises).
     pub fn octopus(&mut self, first: Id, others: &[Id]) -> Result<Option<Id>, Error> {
         let mut out = Id([0; 20]);
         let room = ptr::from_mut(&mut out).cast();
@@ -278,12 +333,22 @@ impl History {
         Ok(found.then_some(out))
     }
 
-    /// Whether `ancestor` is reached from `of`: `git merge-base --is-ancestor`.
+    /// Returns whether `ancestor` is reachable from `of`, like `git merge-base --is-ancestor`.
+    ///
+    /// A commit is reachable from itself, but an id that is not in the history is not.
+    ///
+    /// Premises: [ordered generations](crate#premises). Without it `true` is still right, but
+    /// `false` may be wrong. Cycles do not matter.
     pub fn is_ancestor(&mut self, ancestor: Id, of: Id) -> Result<bool, Error> {
         answered(unsafe { sys::gix_history_is_ancestor(self.at(), ancestor.raw(), of.raw()) })
     }
 
-    /// Those of `ids` that are reached from no other of them: `git merge-base --independent`.
+    /// Returns those of `ids` that no other one of them reaches, like
+    /// `git merge-base --independent`.
+    ///
+    /// Each is returned once, in the order of the first places in `ids`.
+    ///
+    /// Premises: [acyclic, ordered generations](crate#premises).
     pub fn independent(&mut self, ids: &[Id]) -> Result<Vec<Id>, Error> {
         let mut out = ids.to_vec();
         let mut count = 0;
@@ -302,7 +367,11 @@ impl History {
         Ok(out)
     }
 
-    /// How many commits `ours` alone reaches and how many `theirs` alone: `git rev-list --left-right --count`.
+    /// Returns how many commits only `ours` reaches, and how many only `theirs` reaches, like
+    /// `git rev-list --left-right --count`.
+    ///
+    /// Premises: [ordered generations](crate#premises). Without it a count may be too great, but
+    /// not too small. Cycles do not matter.
     pub fn ahead_behind(&mut self, ours: Id, theirs: Id) -> Result<(usize, usize), Error> {
         let (mut ahead, mut behind) = (0, 0);
         answered(unsafe {
@@ -317,7 +386,8 @@ impl History {
         Ok((ahead, behind))
     }
 
-    /// Those of `ids` that the history has, each once, by falling generation, then falling time, then rising id.
+    /// Returns those of `ids` that the history has, each once, in the order of
+    /// [`History::merge_bases`].
     pub fn newest_first(&mut self, ids: &[Id]) -> Result<Vec<Id>, Error> {
         let mut out = ids.to_vec();
         let mut count = 0;
@@ -336,7 +406,10 @@ impl History {
         Ok(out)
     }
 
-    /// The ids past `after` that commits have as parents and that the history lacks, by rising id, at most `page` of them.
+    /// Returns at most `page` missing parents in rising order, those after the id `after`.
+    ///
+    /// A missing parent is an id that a commit of the history has as a parent, and that is not in
+    /// the history. Without `after` the page is the first. A page with fewer ids is the last.
     ///
     /// ```
     /// use gix_revision_proved::{History, Id};
@@ -367,7 +440,21 @@ impl History {
         Ok(out)
     }
 
-    /// The commit by its own name or that of an ancestor, as git-describe prints it, and how many commits lie between.
+    /// Returns the description of `commit` by its own name or by that of an ancestor, and its
+    /// depth, like `git describe`.
+    ///
+    /// The text is `NAME-DEPTH-gHEX`, or the name alone at depth 0 unless `how.long_form` is set.
+    /// If no name is found, the answer is the digits alone or `None`, as `how.fallback_to_id` says.
+    /// If `names` has several names for one commit, the first one counts.
+    ///
+    /// A commit with a name of its own has depth 0. Otherwise the depth is at least the number of
+    /// commits that `commit` reaches and the named commit does not. With [older
+    /// parents](crate#premises), and if at most `how.max_candidates` and at most 32 ancestors have
+    /// names, it is the least such number of all named ancestors.
+    ///
+    /// # Errors
+    ///
+    /// [`Error::NoCommit`] and [`Error::TooMany`].
     pub fn describe(
         &mut self,
         commit: Id,
@@ -421,13 +508,24 @@ impl History {
         }
     }
 
-    /// Says what a name stands for in texts, `HEAD` too.
+    /// Gives a ref name, such as `HEAD` or `main`, to an id, for revisions.
+    ///
+    /// A revision finds only names that were given, letter for letter: `refs/heads/main` is not
+    /// found as `main` unless `main` was given, too. If the name was given before, it now stands
+    /// for the new id.
     pub fn name(&mut self, name: &[u8], id: Id) -> Result<(), Error> {
         answered(unsafe { sys::gix_history_name(self.at(), name.as_ptr(), name.len(), id.raw()) })?;
         Ok(())
     }
 
-    /// The set of commits that a text means, read at so many seconds since 1970 and that offset: first digits of an id before names.
+    /// Resolves a revision such as `main~2..topic` to a set of commits. An abbreviated id wins over
+    /// a ref name.
+    ///
+    /// Relative dates count back from `seconds` since 1970; `offset` is the UTC offset in seconds.
+    ///
+    /// # Errors
+    ///
+    /// [`Error::Fault`].
     pub fn resolve(&mut self, text: &[u8], seconds: i64, offset: i32) -> Result<Span, Error> {
         let mut raw = Span::Include(Id([0; 20])).to_raw();
         let mut fault = NO_FAULT;
@@ -445,7 +543,12 @@ impl History {
         meant(code, &raw, &fault)
     }
 
-    /// As [`History::resolve`], with names before first digits of an id, as git has them.
+    /// Resolves a revision like [`History::resolve`], but a ref name wins over an abbreviated id,
+    /// as in git.
+    ///
+    /// # Errors
+    ///
+    /// [`Error::Fault`].
     pub fn rev_parse(&mut self, text: &[u8], seconds: i64, offset: i32) -> Result<Span, Error> {
         let mut raw = Span::Include(Id([0; 20])).to_raw();
         let mut fault = NO_FAULT;
@@ -463,7 +566,10 @@ impl History {
         meant(code, &raw, &fault)
     }
 
-    /// The commits of a set by rising id, of which `page` are fetched at a time, at least one.
+    /// Returns the commits of a set in rising order of their ids. They are fetched `page` at a
+    /// time, but at least one.
+    ///
+    /// Each page computes the whole list.
     ///
     /// ```
     /// use gix_revision_proved::{History, Id, Span};
@@ -489,7 +595,7 @@ impl History {
         }
     }
 
-    /// How many commits a set has: `git rev-list --count`.
+    /// Returns the number of commits of a set, like `git rev-list --count`.
     pub fn count(&mut self, span: Span) -> Result<usize, Error> {
         let mut count = 0;
         let raw = span.to_raw();
@@ -524,7 +630,7 @@ impl Drop for History {
     }
 }
 
-/// The commits of a set, a page fetched at a time. It ends after an error.
+/// Iterator over the commits of a set, which fetches a page at a time. It ends after an error.
 pub struct Commits<'a> {
     history: &'a mut History,
     span: Span,
