@@ -4,19 +4,19 @@ use Rattle.std.specs.List.{AllPass}
 use Rattle.std.specs.Result.{result_unwrap_or}
 use Rattle.hex.specs.Hex.{is_hex_digit, encode_lower, decode_of}
 
--- each byte of the text is a hex digit: `0` to `9`, `a` to `f` or `A` to `F`
+-- Each byte of the text is a hex digit: `0` to `9`, `a` to `f` or `A` to `F`.
 abbrev pub AreDigits : List ℕ → Type 0
 AreDigits text = AllPass is_hex_digit text
 
--- some byte of the text is no hex digit
+-- Some byte of the text is not a hex digit.
 abbrev pub HasOther : List ℕ → Type 0
 HasOther text = Any (λ byte. is_hex_digit byte ≡ false) text
 
--- the digits of some bytes: two for each, the high four bits first, letters in lower case
+-- The digits of some bytes: two for each byte, its high four bits first, in lower case.
 abbrev pub digits_of : List ℕ → List ℕ
 digits_of bytes = encode_lower bytes
 
--- the bytes that a text's digits say, two digits for each, letters in either case; the empty list
--- where the text is no pairs of digits
+-- The bytes that the digits of a text say, two digits for each byte, in either case. If the text is
+-- not made of pairs of digits, it is the empty list.
 abbrev pub bytes_of : List ℕ → List ℕ
 bytes_of text = result_unwrap_or (decode_of text) []

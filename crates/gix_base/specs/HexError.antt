@@ -3,7 +3,7 @@ use Rattle.std.specs.Prelude.{ℕ, List, codes}
 use Rattle.gix_base.specs.declared.hash.HexError.{HexError}
 use Rattle.gix_base.specs.declared.hash.HexError.TheVariants.{WrongLength, NotHex, TooShort, TooLong}
 
--- what each prints
+-- What each error prints.
 abbrev pub error_text : HexError → List ℕ
 error_text WrongLength = codes "WrongLength"
 error_text NotHex = codes "NotHex"

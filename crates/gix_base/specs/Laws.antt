@@ -9,37 +9,37 @@ use Rattle.gix_base.specs.Prefix.{prefix_text, IsPrefixText, IsFullPrefix, Begin
 use Rattle.gix_base.specs.declared.hash.ObjectId.{ObjectId}
 use Rattle.gix_base.specs.declared.hash.Prefix.{Prefix}
 
--- an order answers `Equal` exactly where the two values are equal
+-- An order answers `Equal` exactly for two values that are equal.
 abbrev pub OrderAgrees : {T : Type 0} → (T → T → Ordering) → (T → T → Bool) → Type 0
 OrderAgrees {T} order equal = (a b : T) → (order a b ≡ Equal) ↔ (equal a b ≡ true)
 
--- equal values are hashed by the same writes
+-- Equal values are hashed by the same writes.
 abbrev pub HashAgrees : {T W : Type 0} → (T → W) → (T → T → Bool) → Type 0
 HashAgrees {T} {W} writes equal = (a b : T) → equal a b ≡ true → writes a ≡ writes b
 
--- equal means the same value
+-- Two values are equal exactly if they are the same value.
 abbrev pub EqualIsSame : {T : Type 0} → (T → T → Bool) → Type 0
 EqualIsSame {T} equal = (a b : T) → (equal a b ≡ true) ↔ (a ≡ b)
 
--- an order answers what its definition says
+-- An order answers what its definition says.
 abbrev pub OrderIs : {T : Type 0} → (T → T → Ordering) → (T → T → Ordering) → Type 0
 OrderIs {T} order definition = (a b : T) → order a b ≡ definition a b
 
--- the text of an id can be read as an id, and its digits say the id's bytes
+-- The text of an id can be read as an id, and its digits say the bytes of the id.
 abbrev pub IdsReadBack : Type 0
 IdsReadBack = (id : ObjectId) → IsId id → IsIdText (id_text id) × (bytes_of (id_text id) ≡ id.0)
 
--- the text of a prefix can be read as a prefix, is in lower case, and no other prefix has it
+-- The text of a prefix can be read as a prefix and is in lower case. No other prefix has this text.
 abbrev pub PrefixesReadBack : Type 0
 PrefixesReadBack =
     (p : Prefix) → IsPrefixText (prefix_text p)
     × (str_to_ascii_lowercase (prefix_text p) ≡ prefix_text p)
     × ((q : Prefix) → prefix_text q ≡ prefix_text p → q ≡ p)
 
--- each id has a prefix of all its digits
+-- Each id has a prefix of all its digits.
 abbrev pub IdsHaveFullPrefixes : Type 0
 IdsHaveFullPrefixes = (id : ObjectId) → IsId id → (p : Prefix) × IsFullPrefix p id
 
--- the order of a prefix against an id is `Equal` exactly where the id begins with the prefix
+-- A prefix compares as `Equal` with an id exactly if the id begins with the prefix.
 abbrev pub EqualIsBeginning : Type 0
 EqualIsBeginning = (p : Prefix) (id : ObjectId) → (order_against p id ≡ Equal) ↔ BeginsWith id p

@@ -4,19 +4,19 @@ use Rattle.gix_base.specs.declared.error.Exn.{Exn}
 use Rattle.gix_base.specs.declared.error.Exn.TheOpen.{Exn-F}
 use Rattle.gix_base.specs.declared.error.Exn.TheFolds.{fold-Exn}
 
--- the sum of a list
+-- The sum of a list.
 abbrev pub sum_of : List ℕ → ℕ
 sum_of [] = 0
 sum_of (n ∷ ns) = n + sum_of ns
 
--- one refusal, and those that led to it, each of which stands there as a number
+-- One more than the sum of the list, which has a number for each refusal that led to this one.
 abbrev pub refusal_step : Exn-F ℕ → ℕ
 refusal_step exn = 1 + sum_of exn.causes.items
 
--- a refusal and all that led to it
+-- The number of refusals in a refusal: itself and all that led to it.
 abbrev pub refusals_in : Exn → ℕ
 refusals_in = fold-Exn ℕ refusal_step
 
--- the same of several
+-- The number of refusals in a list of refusals.
 abbrev pub refusals_among : List Exn → ℕ
 refusals_among exns = sum_of (map refusals_in exns)

@@ -1,12 +1,12 @@
-//! Moments in time.
+//! Has moments in time.
 
-/// A moment and the clock that it was read from.
+/// Is a moment, with the offset of the clock that it was read from.
 ///
-/// Ordered by `seconds`, then by `offset`.
+/// Times are ordered by `seconds`, then by `offset`.
 #[derive(Clone, Copy, Debug, PartialEq, Eq, PartialOrd, Ord, Hash)]
 pub struct Time {
-    /// Seconds since 1970-01-01 00:00:00 UTC, negative before it.
+    /// Counts the seconds since 1970-01-01 00:00:00 UTC; it is negative before that.
     pub seconds: i64,
-    /// How far the clock is ahead of UTC, in seconds, negative west of it.
+    /// Says how many seconds the clock is ahead of UTC; it is negative if it is behind.
     pub offset: i32,
 }

@@ -1,4 +1,4 @@
-//! Refusals of a delegate, and lists that are never empty.
+//! Has the refusals of a delegate, and lists that are never empty.
 
 ghost use Rattle.gix_base.specs.Exn.{causes_of};
 ghost use Rattle.gix_base.specs.NonEmpty.{all_of, left_of};
@@ -15,7 +15,7 @@ use std::borrow::CowStr;
 use std::mem::swap;
 use std::slice::Iter;
 
-/// A list that has a first item.
+/// Is a list that is never empty.
 #[derive(Drop)]
 #[derive_where(Debug, PartialEq, Eq, PartialOrd, Ord, Hash; T)]
 pub struct NonEmpty<T, A: Allocator = Global> {
@@ -24,7 +24,7 @@ pub struct NonEmpty<T, A: Allocator = Global> {
 }
 
 impl<T, A: Allocator> NonEmpty<T, A> {
-    /// The list of `head` alone. It takes no memory.
+    /// Makes the list of `head` alone. Allocates nothing.
     pub fn new(alloc: A, head: T) -> NonEmpty<T, A>
         ensures { all_of result ≡ head ∷ [] }
     {
@@ -34,7 +34,7 @@ impl<T, A: Allocator> NonEmpty<T, A> {
         }
     }
 
-    /// The same items in the same order; `None` where `items` is empty. It takes no memory.
+    /// Takes over a list, in the same order; `None` if `items` is empty. Allocates nothing.
     pub fn from_vec(mut items: Vec<T, A>) -> Option<NonEmpty<T, A>>
         ensures none { IsNone result ↔ (items.items ≡ []) }
         ensures same { IfSome result (λ list. all_of list ≡ items.items) }
@@ -47,14 +47,14 @@ impl<T, A: Allocator> NonEmpty<T, A> {
         Some(NonEmpty { head, tail: items })
     }
 
-    /// The first item.
+    /// Returns the first item.
     pub fn first(&self) -> &T
         ensures { slice_get (all_of self.now) 0 ≡ Some result.now }
     {
         &self.head
     }
 
-    /// The items, the head first.
+    /// Iterates over the items, the head first.
     pub fn iter(&self) -> NonEmptyIter<'_, T>
         ensures { left_of result ≡ all_of self.now }
     {
@@ -64,7 +64,7 @@ impl<T, A: Allocator> NonEmpty<T, A> {
         }
     }
 
-    /// How many items there are, at most the greatest `usize`.
+    /// Returns the number of items, or the greatest `usize` if there are more.
     pub fn len(&self) -> usize
         ensures { result ≡ min (length (all_of self.now)) usize.MAX }
     {
@@ -72,7 +72,7 @@ impl<T, A: Allocator> NonEmpty<T, A> {
     }
 }
 
-/// The items of a [`NonEmpty`] that are still to come, the head first.
+/// Iterates over the items of a [`NonEmpty`], the head first.
 #[derive(Drop)]
 pub struct NonEmptyIter<'a, T> {
     head: Option<&'a T>,
@@ -94,23 +94,23 @@ impl<'a, T> Iterator for NonEmptyIter<'a, T> {
     }
 }
 
-/// A refusal by a delegate, with what led to it.
+/// Is a refusal by a delegate, with the refusals that led to it.
 #[derive(Debug)]
 pub struct Exn {
-    /// What was refused, for a reader.
+    /// Says what was refused, for a reader.
     pub message: CowStr<'static>,
-    /// The text that was refused, where there is one.
+    /// Has the text that was refused, if there is one.
     pub input: Option<BString>,
-    /// The refusals that led to this one.
+    /// Has the refusals that led to this one.
     pub causes: Vec<Exn>,
-    /// Whether memory was wanting: then no alternative is tried.
+    /// Says whether an allocation failed. Then no alternative is tried.
     pub out_of_memory: bool,
 }
 
 impl Exn {
     ghost use Rattle.gix_base.specs.Exn.{message_of, input_of, is_out_of_memory};
 
-    /// A refusal with that message, no input and no causes. It takes no memory.
+    /// Makes a refusal with a message, no input and no causes. Allocates nothing.
     pub fn new(alloc: Global, message: &'static str) -> Exn
         ensures message { message_of result ≡ message.now }
         ensures input { input_of result ≡ None }
@@ -125,7 +125,7 @@ impl Exn {
         }
     }
 
-    /// The refusal for want of memory, `out of memory`. It takes no memory.
+    /// Makes the refusal `out of memory`. Allocates nothing.
     pub fn out_of_memory(alloc: Global) -> Exn
         ensures message { message_of result ≡ codes "out of memory" }
         ensures input { input_of result ≡ None }
@@ -140,7 +140,7 @@ impl Exn {
         }
     }
 
-    // What led to it. All else is let go.
+    // Returns the refusals that led to it, and drops the rest.
     fn into_causes(self) -> Vec<Exn>
         ensures causes { result.items ≡ causes_of self }
         ensures count { refusals_among result.items + 1 ≡ refusals_in self }
@@ -155,12 +155,12 @@ impl Exn {
     }
 }
 
-// All refusals but one, without memory.
+// Drops the first refusal, and returns those that led to it with the others. Allocates nothing.
 fn without_one(mut last: Exn, mut others: Vec<Exn>) -> Vec<Exn>
     ensures { refusals_among result.items + 1
         ≡ refusals_in last + refusals_among others.items }
 {
-    // `last` goes to the place of the first that led to it, and the others to the place of all that led to `last`.
+    // The first refusal that led to `last` takes its place, and the others join its list.
     while !others.is_empty() && !last.causes.is_empty() {
         swap(&mut last.causes, &mut others);
         swap(&mut last, &mut others[0]);
@@ -176,7 +176,7 @@ fn without_one(mut last: Exn, mut others: Vec<Exn>) -> Vec<Exn>
 }
 
 impl Drop for Exn {
-    // In a loop, so that the stack does not grow with what led to it.
+    // Drops in a loop, so that the stack does not grow with the causes.
     fn drop(self) {
         let Exn {
             message: _,

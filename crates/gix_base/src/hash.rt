@@ -1,4 +1,4 @@
-//! Ids and prefixes.
+//! Has ids and prefixes, which are abbreviated object names.
 
 ghost use Rattle.std.proofs.Common.{rules};
 ghost use Rattle.std.specs.Cmp.Rules.{hashing};
@@ -15,12 +15,12 @@ use std::fmt;
 use std::hash::{Hash, Hasher};
 use thiserror::Error;
 
-/// Why a text of hex digits was not read.
+/// Says why a text is not the hex digits of an id or of a prefix.
 #[derive(Clone, Copy, Debug, PartialEq, Eq, Drop, Error)]
 pub enum HexError {
-    /// The text of an id has not 40 bytes.
+    /// The text of an id does not have 40 bytes.
     WrongLength,
-    /// A byte is no hex digit.
+    /// A byte is not a hex digit.
     NotHex,
     /// The text of a prefix has fewer than 4 bytes.
     TooShort,
@@ -41,13 +41,13 @@ impl fmt::Display for HexError {
     }
 }
 
-/// The SHA-1 id of an object: gitglossary, "object name".
+/// Is the SHA-1 id of an object (gitglossary, "object name").
 ///
-/// Ordered by its bytes: the first that differs decides.
+/// Ids are ordered by their bytes: the first byte that differs decides.
 #[derive(Clone, Copy, Debug, PartialEq, Eq, PartialOrd, Ord)]
 pub struct ObjectId(pub [u8; 20]);
 
-/// By one write of its 20 bytes, since each look-up of an id hashes it.
+/// Hashes an id by one write of its 20 bytes, since each look-up of an id hashes it.
 impl Hash for ObjectId {
     ghost hash_input = { λ id. id.0 ∷ [] };
 
@@ -59,13 +59,14 @@ impl Hash for ObjectId {
 }
 
 impl ObjectId {
-    /// The id that 40 hex digits name, letters in either case (git-rev-parse, "Specifying
-    /// Revisions"): its bytes are those that the digits say, and its text is theirs in lower case.
+    /// Reads an id from its 40 hex digits, in upper or lower case.
+    ///
+    /// See git-rev-parse, "Specifying Revisions". The id prints as these digits in lower case.
     ///
     /// # Errors
     ///
-    /// [`HexError::WrongLength`] where there are not 40 bytes, whatever they are; otherwise
-    /// [`HexError::NotHex`] where one of them is no hex digit.
+    /// - [`HexError::WrongLength`]: there are not 40 bytes, whatever they are.
+    /// - [`HexError::NotHex`]: there are 40 bytes, and one of them is not a hex digit.
     pub fn from_hex(text: &[u8]) -> Result<ObjectId, HexError>
         ensures wrong_length { IsErrOf result HexError.WrongLength ↔ (length text.now ≢ 40) }
         ensures not_hex { IsErrOf result HexError.NotHex ↔ ((length text.now ≡ 40) × HasOther text.now) }
@@ -83,15 +84,17 @@ impl ObjectId {
         }
     }
 
-    /// The 20 bytes of the id.
+    /// Returns the 20 bytes of the id.
     pub fn as_bytes(&self) -> &[u8]
         ensures { result.now ≡ self.now.0 }
     {
         &self.0
     }
 
-    /// Writes the first `len` of the 40 lower-case digits to the front of `out`, all 40 where
-    /// `len` is greater, and leaves the rest of `out` as it was. Answers how many it wrote.
+    /// Writes the first `len` of the id's 40 lower-case digits to the front of `out`.
+    ///
+    /// If `len` is greater than 40 it writes all 40 digits. The rest of `out` is unchanged. Returns
+    /// the number of digits that it wrote.
     pub fn write_hex(&self, len: usize, out: &mut [u8; 40]) -> usize
         ensures count { result ≡ min len 40 }
         ensures written { out.new ≡ take result (id_text self.now) ++ drop result out.old }
@@ -101,7 +104,7 @@ impl ObjectId {
         count
     }
 
-    // All the digits.
+    // Returns the 40 digits.
     fn digits(&self) -> [u8; 40]
         ensures { result ≡ id_text self.now }
     {
@@ -121,7 +124,7 @@ impl fmt::Display for ObjectId {
     }
 }
 
-// The digits, filled up with zeros.
+// Fills up the digits with zeros.
 fn fill_up(text: &[u8]) -> [u8; 40]
     requires { length text.now ≤ 40 }
     ensures value { result ≡ padded text.now }
@@ -132,9 +135,10 @@ fn fill_up(text: &[u8]) -> [u8; 40]
     digits
 }
 
-/// The first 4 to 40 digits of ids: git-rev-parse, "Specifying Revisions".
+/// Is an abbreviated object name: the leading 4 to 40 digits of an id.
 ///
-/// Ordered by the bytes of its digits filled up with zeros, then by the number of digits.
+/// See git-rev-parse, "Specifying Revisions". Prefixes are ordered by the bytes of their digits,
+/// filled up with zeros, and then by the number of digits.
 #[derive(Clone, Copy, Debug, PartialEq, Eq, PartialOrd, Ord, Hash)]
 pub struct Prefix {
     id: ObjectId,
@@ -142,22 +146,23 @@ pub struct Prefix {
     ghost at_least: { 4 ≤ hex_len },
     ghost at_most: { hex_len ≤ 40 },
     ghost bytes: { IsBytes id.0 },
-    // No digit is set past its end.
+    // No digit is set past the end.
     ghost zeros: { padded (take hex_len (digits_of id.0)) ≡ digits_of id.0 },
 }
 
 impl Prefix {
     ghost use Rattle.gix_base.specs.Prefix.{prefix_text, order_against, IsPrefixText};
 
-    /// The least number of digits: git-config, `core.abbrev`.
+    /// Is the least number of digits of a prefix (git-config, `core.abbrev`).
     pub const MIN_HEX_LEN: usize = 4;
 
-    /// The prefix of 4 to 40 hex digits, letters in either case.
+    /// Reads a prefix from 4 to 40 hex digits, in upper or lower case.
     ///
     /// # Errors
     ///
-    /// [`HexError::TooShort`] under 4 bytes and [`HexError::TooLong`] over 40, whatever they are;
-    /// otherwise [`HexError::NotHex`] where one of them is no hex digit.
+    /// - [`HexError::TooShort`]: there are fewer than 4 bytes, whatever they are.
+    /// - [`HexError::TooLong`]: there are more than 40 bytes, whatever they are.
+    /// - [`HexError::NotHex`]: there are 4 to 40 bytes, and one of them is not a hex digit.
     pub fn from_hex(text: &[u8]) -> Result<Prefix, HexError>
         ensures too_short { IsErrOf result HexError.TooShort ↔ (length text.now < 4) }
         ensures too_long { IsErrOf result HexError.TooLong ↔ (40 < length text.now) }
@@ -180,22 +185,23 @@ impl Prefix {
         })
     }
 
-    /// The number of digits, from 4 to 40.
+    /// Returns the number of digits, from 4 to 40.
     pub fn hex_len(&self) -> usize
         ensures { result ≡ length (prefix_text self.now) }
     {
         self.hex_len
     }
 
-    /// The id of the digits filled up with the digit 0 to 40.
+    /// Returns the id that has these digits, filled up to 40 with the digit 0.
     pub fn as_oid(&self) -> &ObjectId
         ensures { id_text result.now ≡ padded (prefix_text self.now) }
     {
         &self.id
     }
 
-    /// How the digits compare with as many first digits of `id`, the first that differs deciding:
-    /// `Equal` where `id` begins with them.
+    /// Compares the digits with as many leading digits of `id`.
+    ///
+    /// The first digit that differs decides. The answer is `Equal` if `id` begins with the prefix.
     pub fn cmp_oid(&self, id: &ObjectId) -> Ordering
         ensures { result ≡ order_against self.now id.now }
     {

@@ -1,4 +1,4 @@
-//! Ids and prefixes, refusals, object kinds and times: what every other crate speaks of.
+//! Has ids and prefixes, refusals, object kinds and times, which every other crate uses.
 #![tactic(auto)]
 
 pub mod date;

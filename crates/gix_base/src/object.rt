@@ -1,8 +1,8 @@
-//! What an object can be.
+//! Has the kinds of objects.
 
-/// The kind of an object: gitglossary, "object type".
+/// Is the kind of an object (gitglossary, "object type").
 ///
-/// Ordered as the cases stand here.
+/// Kinds are ordered as the cases are listed here.
 #[derive(Clone, Copy, Debug, PartialEq, Eq, PartialOrd, Ord, Hash)]
 pub enum Kind {
     Tree,

@@ -1,4 +1,4 @@
-//! The fault of `describe`.
+//! Has the fault of `describe`.
 
 ghost use Rattle.std.specs.Prelude.{◌≡◌, Some};
 
@@ -7,16 +7,16 @@ use std::alloc::AllocError;
 use std::fmt;
 use thiserror::Error;
 
-/// Why a commit is not described.
+/// Says why a commit was not described.
 #[derive(Clone, Copy, Debug, PartialEq, Eq, Drop, Error)]
 pub enum Message {
-    /// The source failed while the parents of this commit were asked for.
+    /// The source failed when the walk asked for the parents of this commit.
     ParentsOf(ObjectId),
-    /// The commit that was to be described is not in the source.
+    /// The source does not have the commit that was to be described.
     MissingStart(ObjectId),
-    /// There are more commits than a count of 32 bits can say.
+    /// The commit reaches 2^32 commits or more, which a count of 32 bits cannot hold.
     CounterFull,
-    /// There was no memory.
+    /// An allocation failed.
     OutOfMemory,
 }
 
