@@ -7,11 +7,11 @@ use Rattle.gix_date.specs.Shape.{is_word}
 use Rattle.gix_date.specs.Numerals.{is_number, number_of}
 use Rattle.gix_date.specs.DateWords.{words_of}
 
--- whether a word names a unit, in the singular or with an `s`
+-- Whether a word names a unit, in the singular or with an `s`.
 abbrev pub names : (unit word : List ℕ) → Bool
 names unit word = is_word unit word || is_word (unit ++ codes "s") word
 
--- one of the unit that a word names: so many months, and so many seconds
+-- One of the unit that a word names, as a number of months and a number of seconds.
 unfoldable pub unit_of : List ℕ → Option Ago
 unit_of word =
     if names (codes "second") word then Some (record { months = 0; seconds = 1 })
@@ -22,12 +22,12 @@ unit_of word =
     else (if names (codes "month") word then Some (record { months = 1; seconds = 0 })
     else (if names (codes "year") word then Some (record { months = 12; seconds = 0 }) else None))))))
 
--- a number of a unit
+-- A number of a unit.
 pub record Count : Type 0 where
   pub number : ℕ
   pub each : Ago
 
--- the counts that words are, up to the last word `ago`, where each is a number and a unit
+-- The counts in some words up to the last word `ago`, if each count is a number and a unit.
 unfoldable pub counts_of : List (List ℕ) → Option (List Count)
 counts_of [] = None
 counts_of (word ∷ []) = if is_word (codes "ago") word then Some [] else None
@@ -36,24 +36,24 @@ counts_of (number ∷ unit ∷ words) =
     then option_and_then (λ each. option_map (λ counts. record { number = number_of number; each = each } ∷ counts) (counts_of words)) (unit_of unit)
     else None
 
--- the months that counts come to, and the seconds
+-- The months that some counts add up to, and the seconds.
 abbrev pub months_in : List Count → ℕ
 months_in counts = sum_by (λ count. count.number * count.each.months) counts
 
 abbrev pub seconds_in : List Count → ℕ
 seconds_in counts = sum_by (λ count. count.number * count.each.seconds) counts
 
--- so many months and so many seconds, neither of them past the greatest `i64`
+-- A number of months and a number of seconds, neither of them past the greatest `i64`.
 abbrev pub total_of : (months seconds : ℕ) → Result Ago DateError
 total_of months seconds =
     if nat_lt months (2 ^ 63) && nat_lt seconds (2 ^ 63)
     then Ok (record { months = months; seconds = seconds }) else Err OutOfRange
 
--- what one or more counts come to
+-- The sum of one or more counts.
 abbrev pub ago_in : List Count → Option (Result Ago DateError)
 ago_in [] = None
 ago_in (count ∷ counts) = Some (total_of (months_in (count ∷ counts)) (seconds_in (count ∷ counts)))
 
--- how far back a text counts, where it counts back
+-- How far back a text counts, if it counts back.
 abbrev pub ago_of : List ℕ → Option (Result Ago DateError)
 ago_of text = option_and_then ago_in (counts_of (words_of text))

@@ -8,33 +8,33 @@ use Rattle.gix_date.specs.Numerals.{is_number, number_of}
 use Rattle.gix_date.specs.DateSteps.{result_and_then}
 use Rattle.gix_date.specs.Ago.{unit_of}
 
--- a total, which must not pass the greatest `i64`
+-- A total, which must not pass the greatest `i64`.
 unfoldable pub total : ℕ → Result ℕ DateError
 total n = if nat_lt n (2 ^ 63) then Ok n else Err OutOfRange
 
--- so many more of a unit
+-- A number of a unit more.
 unfoldable pub more : Ago → (number : ℕ) → (each : Ago) → Result Ago DateError
 more ago number each =
     result_and_then (total (ago.months + number * each.months)) (λ months.
     result_and_then (total (ago.seconds + number * each.seconds)) (λ seconds.
     Ok (record { months = months; seconds = seconds })))
 
--- nothing yet, or what the counts before came to
+-- Nothing yet, or the sum of the counts before.
 abbrev pub so_far : Option (Result Ago DateError) → Result Ago DateError
 so_far None = Ok (record { months = 0; seconds = 0 })
 so_far (Some sum) = sum
 
--- the same and so many more of a unit
+-- The sum of the counts before, and a number of a unit more.
 unfoldable pub with_more : Option (Result Ago DateError) → (number : ℕ) → (each : Ago) → Result Ago DateError
 with_more sum number each = result_and_then (so_far sum) (λ ago. more ago number each)
 
--- the same with one more count, where two words are a number and a unit
+-- The sum of the counts before with one more count, if two words are a number and a unit.
 unfoldable pub with_count : Option (Result Ago DateError) → (number unit : List ℕ) → Option (Result Ago DateError)
 with_count sum number unit =
     if is_number number
     then option_map (λ each. with_more sum (number_of number) each) (unit_of unit) else None
 
--- what words come to after that sum: counts, then `ago`
+-- The sum after some more words: counts, then `ago`.
 unfoldable pub ago_from : (sum : Option (Result Ago DateError)) → List (List ℕ) → Option (Result Ago DateError)
 ago_from sum [] = None
 ago_from sum (word ∷ []) = if is_word (codes "ago") word then sum else None

@@ -1,4 +1,4 @@
--- What a text means as a date.
+-- The time that a date stands for.
 use Rattle.std.specs.Prelude.{ℕ, List, Result, Err, unwrap_or, if◌then◌else◌}
 use Rattle.std.specs.Str.{is_utf8}
 use Rattle.gix_base.specs.declared.date.Time.{Time}
@@ -11,7 +11,8 @@ use Rattle.gix_date.specs.WordDate.{word_date}
 use Rattle.gix_date.specs.RelativeDate.{relative_date}
 use Rattle.gix_date.specs.Rfc2822Date.{rfc2822_date}
 
--- The time that a text means at a moment, as the form reads it whose shape it has, and else as RFC 2822 has it.
+-- The time that a text stands for at a moment: by the form whose shape it has, and otherwise by
+-- RFC 2822.
 unfoldable pub date_of : List ℕ → Time → Result Time DateError
 date_of text now =
     if is_utf8 text

@@ -3,7 +3,7 @@ use Rattle.std.specs.Prelude.{ℕ, List, codes}
 use Rattle.gix_date.specs.declared.date.error.DateError.{DateError}
 use Rattle.gix_date.specs.declared.date.error.DateError.TheVariants.{NotADate, OutOfRange, OutOfMemory}
 
--- what each prints
+-- What each error prints.
 abbrev pub date_error_text : DateError → List ℕ
 date_error_text NotADate = codes "NotADate"
 date_error_text OutOfRange = codes "OutOfRange"

@@ -15,23 +15,23 @@ use Rattle.gix_date.specs.RelativeDate.{relative_date}
 use Rattle.gix_date.specs.Months.{months_before}
 use Rattle.gix_date.specs.Date.{date_of}
 
--- no text is read by both
+-- No text is read by both forms.
 abbrev pub Excludes : Reading → Reading → Type 0
 Excludes a b = IsSome a → IsSome b → ⊥
 
--- no text has the shape of two forms
+-- No text has the shape of two of the first five forms.
 abbrev pub FormsAreApart : Type 0
 FormsAreApart =
     (text : List ℕ) (now : Time)
     → AllPairs Excludes (raw_date text ∷ short_date text ∷ iso8601_date text now ∷ word_date text now ∷ relative_date text now ∷ [])
 
--- what is counted back to lies at the moment or before it, on its clock
+-- A time that is counted back to is not after the moment, and is on its clock.
 abbrev pub AgoIsNeverLater : Type 0
 AgoIsNeverLater =
     (text : List ℕ) (now time : Time) → relative_date text now ≡ Some (Ok time)
     → (time.seconds ≤ℤ now.seconds) × (time.offset ≡ now.offset)
 
--- that month lies so many months before the date's
+-- A month is a number of months before the month of a date.
 abbrev pub LiesMonthsBefore : (year : ℤ) (month : ℕ) (months : ℕ) (date : Date) → Type 0
 LiesMonthsBefore year month months date =
     IsInRange 1 12 month × ((year *ℤ pos 12 +ℤ pos (month + months)) ≡ (date.year *ℤ pos 12 +ℤ pos date.month))
@@ -44,12 +44,12 @@ MonthsArePulledBack =
     → (months_before (epoch_day date) months ≡ Ok (days_from_civil year month (min date.day (days_in_month year month))))
     × IsCivilDate year month (min date.day (days_in_month year month))
 
--- and there is none where the calendar has no such year
+-- There is no such date if the calendar does not have that year.
 abbrev pub MonthsBeforeYearsAreRefused : Type 0
 MonthsBeforeYearsAreRefused =
     (date : Date) (months : ℕ) (year : ℤ) (month : ℕ) → LiesMonthsBefore year month months date → ¬ (IsYear year)
     → months_before (epoch_day date) months ≡ Err OutOfRange
 
--- no text is refused for want of memory: it is no date, or out of range
+-- No text gives `OutOfMemory`: it is not a date, or out of range.
 abbrev pub NoneWantsMemory : Type 0
 NoneWantsMemory = (text : List ℕ) (now : Time) → IfErr (date_of text now) (λ e. (e ≡ NotADate) ⊎ (e ≡ OutOfRange))

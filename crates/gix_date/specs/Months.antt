@@ -5,25 +5,26 @@ use Rattle.jiff_core.specs.Calendar.{days_in_month, days_from_civil}
 use Rattle.gix_date.specs.declared.date.error.DateError.{DateError}
 use Rattle.gix_date.specs.declared.date.error.DateError.TheVariants.{OutOfRange}
 
--- the first day of a month, where months count from January of the year 0
+-- The first day of a month. Months are counted from January of the year 0.
 abbrev pub first_day : (month : ℤ) → ℤ
 first_day month = days_from_civil (int_div_euclid month (pos 12)) (unsigned_abs (int_rem_euclid month (pos 12)) + 1) 1
 
--- the last of some months from January of the year -9999 on that begins on a day or before it
+-- The last of some months, from January of the year -9999 on, that begins on a day or before it.
 unfoldable pub month_among : (count : ℕ) (day : ℤ) → ℤ
 month_among zero day = neg_ℤ (pos 119_988)
 month_among (suc n) day =
     if int_le (first_day (pos (suc n) -ℤ pos 119_988)) day then pos (suc n) -ℤ pos 119_988 else month_among n day
 
--- the month in which a day of the years -9999 to 9999 lies
+-- The month that has a day of the years -9999 to 9999.
 abbrev pub month_of : (day : ℤ) → ℤ
 month_of day = month_among 239_987 day
 
--- the day's place in its month, from 1
+-- The place of a day in its month, from 1.
 abbrev pub day_of_month : (day : ℤ) → ℕ
 day_of_month day = unsigned_abs (day -ℤ first_day (month_of day)) + 1
 
--- the day number at that place of a month of the years -9999 to 9999, or of its last day where it is shorter
+-- The day number at a place of a month of the years -9999 to 9999, or of its last day if it is
+-- shorter.
 unfoldable pub day_in : (month : ℤ) (place : ℕ) → Result ℤ DateError
 day_in month place =
     let year = int_div_euclid month (pos 12) in
@@ -31,7 +32,8 @@ day_in month place =
     if int_le (neg_ℤ (pos 9999)) year && int_le year (pos 9999)
     then Ok (days_from_civil year month_of_year (min place (days_in_month year month_of_year))) else Err OutOfRange
 
--- the day so many months before a day, at the same place of its month or pulled back to the month's end
+-- The day a number of months before a day: at the same place of its month, or the last day of that
+-- month.
 unfoldable pub months_before : (day : ℤ) (months : ℕ) → Result ℤ DateError
 months_before day months =
     if int_le (neg_ℤ (pos 4_371_587)) day && int_le day (pos 2_932_896)

@@ -4,17 +4,17 @@ use Rattle.gix_date.specs.declared.date.error.DateError.{DateError}
 use Rattle.gix_date.specs.declared.date.error.DateError.TheVariants.{OutOfRange}
 use Rattle.gix_date.specs.Numerals.{number_of}
 
--- the seconds of so many hours and minutes, ahead of UTC or behind it
+-- The seconds of some hours and minutes, ahead of UTC or behind it.
 abbrev pub offset_seconds : (behind : Bool) (hours minutes : ℕ) → ℤ
 offset_seconds behind hours minutes =
     if behind then neg_ℤ (pos (hours * 3600 + minutes * 60)) else pos (hours * 3600 + minutes * 60)
 
--- the same of at most 23 hours and 59 minutes
+-- The seconds of at most 23 hours and 59 minutes, ahead of UTC or behind it.
 unfoldable pub offset_by : (behind : Bool) (hours minutes : ℕ) → Result ℤ DateError
 offset_by behind hours minutes =
     if nat_le hours 23 && nat_le minutes 59 then Ok (offset_seconds behind hours minutes) else Err OutOfRange
 
--- the seconds of an offset such as `+0100` or `-01:00`
+-- The seconds of an offset such as `+0100` or `-01:00`.
 unfoldable pub offset_of : List ℕ → Result ℤ DateError
 offset_of text =
     offset_by (slice_index text 0 == 45) (number_of (slice_range text 1 3)) (number_of (drop (length text - 2) text))

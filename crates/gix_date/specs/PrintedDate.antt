@@ -9,22 +9,23 @@ use Rattle.gix_base.specs.declared.date.Time.{Time}
 use Rattle.gix_date.specs.Offset.{offset_seconds}
 use Rattle.gix_date.specs.Date.{date_of}
 
--- an offset as a sign and four digits: git's date-formats, `<time-zone-offset>`
+-- An offset as a sign and four digits (git's date-formats, `<time-zone-offset>`).
 abbrev pub zone_text : (behind : Bool) (hours minutes : ℕ) → List ℕ
 zone_text behind hours minutes = (if behind then 45 else 43) ∷ (pad2 hours ++ pad2 minutes)
 
--- seconds and an offset, as git log's `--date=raw` prints them
+-- Seconds and an offset, as git log's `--date=raw` prints them.
 abbrev pub raw_text : (seconds : ℤ) (behind : Bool) (hours minutes : ℕ) → List ℕ
 raw_text seconds behind hours minutes = signed_decimal seconds ++ (32 ∷ zone_text behind hours minutes)
 
--- a time that is printed so reads back at every moment: any seconds of an `i64`, and an offset below 24 hours
+-- A time that is printed so reads back at every moment: any seconds of an `i64`, and an offset below
+-- 24 hours.
 abbrev pub TimesReadBack : Type 0
 TimesReadBack =
     (seconds : ℤ) (behind : Bool) (hours minutes : ℕ) (now : Time) → FitsSigned w64 seconds → hours ≤ 23 → minutes ≤ 59
     → date_of (raw_text seconds behind hours minutes) now
     ≡ Ok (record { seconds = seconds; offset = offset_seconds behind hours minutes })
 
--- a day of the years 0 to 9999, as jiff prints it, reads back as its midnight at every moment
+-- A day of the years 0 to 9999, as jiff prints it, reads back as its midnight at every moment.
 abbrev pub DaysReadBack : Type 0
 DaysReadBack =
     (date : Date) (now : Time) → pos 0 ≤ℤ date.year

@@ -8,11 +8,11 @@ use Rattle.gix_date.specs.Offset.{offset_of}
 use Rattle.gix_date.specs.DateSteps.{result_and_then}
 use Rattle.gix_date.specs.DateReading.{Reading, time_at}
 
--- the time of the seconds and the offset that two texts write
+-- The time of the seconds and the offset that two texts have.
 unfoldable pub raw_time : (seconds zone : List ℕ) → Result Time DateError
 raw_time seconds zone = result_and_then (offset_of zone) (λ offset. time_at (integer_of seconds) offset)
 
--- a text of seconds, a space and an offset: its last six bytes are the space and the offset
+-- How seconds, a space and an offset are read: the last six bytes are the space and the offset.
 unfoldable pub raw_date : List ℕ → Reading
 raw_date text =
     let front = take (length text - 6) text in

@@ -10,7 +10,8 @@ use Rattle.gix_date.specs.DateReading.{Reading, time_at}
 use Rattle.gix_date.specs.Months.{months_before}
 use Rattle.gix_date.specs.Ago.{ago_of}
 
--- the seconds so many months before a moment, by the calendar and at the time of day that its own clock shows
+-- The seconds a number of months before a moment, by the calendar and at the time of day of its own
+-- clock.
 unfoldable pub seconds_before : Time → (months : ℕ) → Result ℤ DateError
 seconds_before now months =
     let local = now.seconds +ℤ now.offset in
@@ -18,14 +19,14 @@ seconds_before now months =
     else (result_and_then (months_before (int_div_euclid local (pos 86400)) months)
     (λ day. Ok (seconds_at day (int_rem_euclid local (pos 86400)) now.offset)))
 
--- the time so far before a moment, by its clock: the months first, then the seconds
+-- The time that is so far before a moment, by its clock: first the months, then the seconds.
 unfoldable pub time_before : Time → Ago → Result Time DateError
 time_before now ago = result_and_then (seconds_before now ago.months) (λ start. time_at (start -ℤ pos ago.seconds) now.offset)
 
--- the same of a sum, where it is not out of range
+-- The time that is a sum before a moment, if the sum is in range.
 unfoldable pub time_before_sum : Time → Result Ago DateError → Result Time DateError
 time_before_sum now sum = result_and_then sum (λ ago. time_before now ago)
 
--- a text of units counted back
+-- How units counted back are read.
 unfoldable pub relative_date : List ℕ → Time → Reading
 relative_date text now = option_map (λ sum. time_before_sum now sum) (ago_of text)

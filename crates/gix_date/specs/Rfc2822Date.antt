@@ -7,7 +7,8 @@ use Rattle.gix_base.specs.declared.date.Time.{Time}
 use Rattle.gix_date.specs.declared.date.error.DateError.{DateError}
 use Rattle.gix_date.specs.declared.date.error.DateError.TheVariants.{NotADate}
 
--- the whole seconds and the offset of the instant that the crate `jiff` reads, a weekday checked against its day
+-- The whole seconds and the offset of the instant that the crate `jiff` reads. A weekday has to be
+-- that of its day.
 unfoldable pub rfc2822_date : List ℕ → Result Time DateError
 rfc2822_date text =
     result_map_both

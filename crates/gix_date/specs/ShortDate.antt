@@ -7,10 +7,10 @@ use Rattle.gix_date.specs.Civil.{day_of}
 use Rattle.gix_date.specs.DateSteps.{result_and_then}
 use Rattle.gix_date.specs.DateReading.{Reading}
 
--- the midnight that begins a day, at UTC
+-- The midnight that begins a day, in UTC.
 unfoldable pub midnight_of : List ℕ → Result Time DateError
 midnight_of text = result_and_then (day_of text) (λ day. Ok (record { seconds = day *ℤ pos 86400; offset = pos 0 }))
 
--- a text of a day alone
+-- How a day alone is read.
 unfoldable pub short_date : List ℕ → Reading
 short_date text = if has_shape (codes "0000-00-00") text then Some (midnight_of text) else None

@@ -4,7 +4,7 @@ use Rattle.gix_base.specs.declared.date.Time.{Time}
 use Rattle.gix_date.specs.Shape.{is_word}
 use Rattle.gix_date.specs.DateReading.{Reading, time_at}
 
--- the moment itself, and 86400 seconds before it by the same clock
+-- The moment itself for `now`, and 86400 seconds before it, by the same clock, for `yesterday`.
 unfoldable pub word_date : List ℕ → Time → Reading
 word_date text now =
     if is_word (codes "now") text then Some (Ok now)

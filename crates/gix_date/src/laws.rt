@@ -1,40 +1,42 @@
-//! Laws of dates: each is the contract of a function.
+//! States laws of dates, each as the contract of a function.
 
 ghost use Rattle.gix_date.specs.DateLaws.{FormsAreApart, AgoIsNeverLater, MonthsArePulledBack, MonthsBeforeYearsAreRefused, NoneWantsMemory};
 ghost use Rattle.gix_date.specs.PrintedDate.{TimesReadBack, DaysReadBack};
 
-/// No text has the shape of two forms, so the order in which they are tried decides nothing.
+/// States that no text has the shape of two of the first five forms, so their order decides nothing.
 pub fn forms_are_apart()
     ensures { FormsAreApart }
 {}
 
-/// A number of units with `ago` never lies after `now`, and has its offset.
+/// States that units counted back never lead to a time after `now`, and keep its offset.
 pub fn ago_is_never_later()
     ensures { AgoIsNeverLater }
 {}
 
-/// So many months before a date lies in the month so many before, on the same day of it or on its
-/// last: a month that is shorter never runs over into the next. Where the calendar ends before it, it
-/// is refused.
+/// States that counting months back leads to the same day of that month, or to its last day.
+///
+/// A shorter month never runs over into the next. A date before the beginning of the calendar is
+/// refused.
 pub fn months_are_pulled_back()
     ensures back { MonthsArePulledBack }
     ensures refused { MonthsBeforeYearsAreRefused }
 {}
 
-/// Seconds and an offset, printed as `1234567890 +0200`, read back at every moment: any seconds that
-/// an `i64` holds, and any offset of up to 23 hours and 59 minutes.
+/// States that seconds and an offset, printed as `1234567890 +0200`, read back at every moment.
+///
+/// The seconds are any that an `i64` holds, and the offset is at most 23 hours and 59 minutes.
 #[tactic(auto, using(crate::proofs::Printed::times_read_back))]
 pub fn times_read_back()
     ensures { TimesReadBack }
 {}
 
-/// A day of the years 0 to 9999, printed as `1979-02-26`, reads back at every moment.
+/// States that a day of the years 0 to 9999, printed as `1979-02-26`, reads back at every moment.
 #[tactic(auto, using(crate::proofs::Printed::days_read_back))]
 pub fn days_read_back()
     ensures { DaysReadBack }
 {}
 
-/// No text is refused for want of memory: [`parse`](crate::date::parse) takes none.
+/// States that no text gives `OutOfMemory`: [`parse`](crate::date::parse) allocates nothing.
 #[tactic(auto, using(crate::proofs::Refused::none_wants_memory))]
 pub fn none_wants_memory()
     ensures { NoneWantsMemory }

@@ -1,6 +1,6 @@
-//! Dates as texts: the time that a text means at a moment, or why it means none.
+//! Reads dates: the time that a date stands for at a given moment, or why it is not one.
 //!
-//! This crate stands apart from the others so that only those that read dates load `jiff`.
+//! This is a crate of its own so that only crates that read dates load `jiff`.
 #![tactic(auto)]
 
 pub mod date;

@@ -1,4 +1,4 @@
-//! Units counted back: the months and the seconds of `1 year 2 weeks ago`.
+//! Counts units back: the months and the seconds of `1 year 2 weeks ago`.
 
 ghost use Rattle.gix_date.specs.Ago.{unit_of, ago_of};
 ghost use Rattle.gix_date.specs.AgoSteps.{total, more, with_more, with_count};
@@ -11,21 +11,21 @@ use super::numerals::{is_digits, number};
 use super::shape::is_named;
 use super::words::first_word;
 
-/// So many months back, and so many seconds.
+/// Is a number of months back, and a number of seconds.
 #[derive(Clone, Copy)]
 pub struct Ago {
     pub months: u64,
     pub seconds: u64,
 }
 
-// Whether a word is one of two.
+// Tests whether a word is one of two.
 fn is_either(word: &[u8], one: &[u8], many: &[u8]) -> bool
     ensures { result ≡ (is_word one.now word.now || is_word many.now word.now) }
 {
     is_named(word, one) || is_named(word, many)
 }
 
-// One of the unit that a word names, in the singular or the plural.
+// Returns one of the unit that a word names, in the singular or the plural.
 #[tactic(auto, unfolding(crate::specs::Ago::unit_of))]
 fn unit_named(word: &[u8]) -> Option<Ago>
     ensures value { result ≡ unit_of word.now }
@@ -51,7 +51,7 @@ fn unit_named(word: &[u8]) -> Option<Ago>
     Some(Ago { months, seconds })
 }
 
-// A total and so many times as much of a unit, up to the greatest `i64`.
+// Adds a number of units to a total, up to the greatest `i64`.
 #[tactic(auto, unfolding(crate::specs::AgoSteps::total))]
 fn total(before: u64, number: u64, each: u64) -> Result<u64, DateError>
     ensures { result ≡ total (before + number * each) }
@@ -65,7 +65,7 @@ fn total(before: u64, number: u64, each: u64) -> Result<u64, DateError>
     }
 }
 
-// So many more of a unit. A number that no 64 bits hold makes a total that is out of range too.
+// Adds a number of units. A number that 64 bits cannot hold gives a total out of range, too.
 #[tactic(auto, unfolding(crate::specs::AgoSteps::more, crate::specs::AgoSteps::total))]
 fn more(ago: Ago, digits: &[u8], each: Ago) -> Result<Ago, DateError>
     requires { 1 ≤ each.months + each.seconds }
@@ -77,7 +77,7 @@ fn more(ago: Ago, digits: &[u8], each: Ago) -> Result<Ago, DateError>
     Ok(Ago { months, seconds })
 }
 
-// What the counts before came to, and one more.
+// Adds one more count to the sum of the counts before.
 #[tactic(auto, unfolding(crate::specs::AgoSteps::with_more))]
 fn with_more(
     sum: Option<Result<Ago, DateError>>,
@@ -97,7 +97,7 @@ fn with_more(
     more(ago, digits, each)
 }
 
-// The same, where two words are a number and a unit.
+// Adds one more count, if two words are a number and a unit.
 #[tactic(auto, unfolding(crate::specs::AgoSteps::with_count))]
 fn with_count(
     sum: Option<Result<Ago, DateError>>,
@@ -113,8 +113,10 @@ fn with_count(
     Some(with_more(sum, number, each))
 }
 
-/// How far back a text counts: one or more numbers of units, then `ago`; `None` for another text.
-/// A text whose sum is out of range is read to its end all the same, since it may be no such text.
+/// Reads how far back a text counts: one or more numbers of units, then `ago`.
+///
+/// The answer is `None` for another text. A text whose sum is out of range is read to its end, too,
+/// because it may turn out not to be such a text.
 #[tactic(auto, unfolding(crate::specs::AgoSteps::ago_from))]
 pub fn ago_of(text: &[u8]) -> Option<Result<Ago, DateError>>
     ensures { result ≡ ago_of text.now }

@@ -1,4 +1,4 @@
-//! Days of the calendar and times of a day.
+//! Reads days of the calendar and times of a day.
 
 ghost use Rattle.gix_date.specs.Civil.{day_number, day_of, second_of_day, clock_of, seconds_at};
 ghost use Rattle.jiff_core.specs.Calendar.{IsBetween, IsEpochDay};
@@ -9,7 +9,7 @@ use super::DateError;
 use super::numerals::number;
 use jiff_core::civil::Date;
 
-/// The day number of a date.
+/// Returns the day number of a date.
 pub fn epoch_day(date: Date) -> i64
     ensures value { result ≡ epoch_day date }
     ensures bound { IsEpochDay result }
@@ -17,7 +17,7 @@ pub fn epoch_day(date: Date) -> i64
     i64::from(date.to_unix_epoch_day())
 }
 
-// The day number of a date, where the calendar has that date.
+// Returns the day number of a date, if the calendar has that date.
 #[tactic(auto, unfolding(crate::specs::Civil::day_number))]
 fn day_number(year: u64, month: u64, day: u64) -> Result<i64, DateError>
     ensures value { result ≡ day_number year month day }
@@ -32,7 +32,7 @@ fn day_number(year: u64, month: u64, day: u64) -> Result<i64, DateError>
     }
 }
 
-/// The day that `YYYY-MM-DD` begins a text with.
+/// Reads the day with which a text begins, as `YYYY-MM-DD`.
 #[tactic(auto, unfolding(crate::specs::Civil::day_of, crate::specs::Civil::day_number))]
 pub fn day_at(text: &[u8]) -> Result<i64, DateError>
     requires { 10 ≤ length text.now }
@@ -45,7 +45,7 @@ pub fn day_at(text: &[u8]) -> Result<i64, DateError>
     day_number(year, month, day)
 }
 
-// The second of the day at a time of it, where there is that time.
+// Returns the second of the day at a time of day, if there is that time.
 #[tactic(auto, unfolding(crate::specs::Civil::second_of_day))]
 fn second_of_day(hour: u64, minute: u64, second: u64) -> Result<i64, DateError>
     ensures value { result ≡ second_of_day hour minute second }
@@ -57,7 +57,7 @@ fn second_of_day(hour: u64, minute: u64, second: u64) -> Result<i64, DateError>
     Ok((hour * 3600 + minute * 60 + second) as i64)
 }
 
-/// The second of the day that `HH:MM:SS` begins a text with.
+/// Reads the second of the day with which a text begins, as `HH:MM:SS`.
 #[tactic(auto, unfolding(crate::specs::Civil::clock_of, crate::specs::Civil::second_of_day))]
 pub fn clock_at(text: &[u8]) -> Result<i64, DateError>
     requires { 8 ≤ length text.now }
@@ -70,7 +70,7 @@ pub fn clock_at(text: &[u8]) -> Result<i64, DateError>
     second_of_day(hour, minute, second)
 }
 
-/// The seconds since 1970-01-01 00:00:00 UTC at a second of a day, by a clock at an offset.
+/// Returns the seconds since 1970-01-01 00:00:00 UTC at a second of a day, by a clock at an offset.
 pub fn seconds_at(day: i64, second: i64, offset: i32) -> i64
     requires day { IsEpochDay day }
     requires second { IsBetween (pos 0) (pos 86_399) second }

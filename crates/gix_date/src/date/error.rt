@@ -1,4 +1,4 @@
-//! Why a text is no date.
+//! Has the reasons why a text is not a date.
 
 ghost use Rattle.gix_date.specs.DateError.{date_error_text};
 ghost use Rattle.std.specs.Prelude.{Some};
@@ -6,14 +6,14 @@ ghost use Rattle.std.specs.Prelude.{Some};
 use std::fmt;
 use thiserror::Error;
 
-/// Why a text was not read as a date.
+/// Says why a text is not a date.
 #[derive(Clone, Copy, Debug, PartialEq, Eq, Drop, Error)]
 pub enum DateError {
-    /// It has none of the forms.
+    /// The text has none of the forms.
     NotADate,
-    /// It has one of the forms, and a number of it or the time that it means is out of range.
+    /// The text has one of the forms, and a number in it or its time is out of range.
     OutOfRange,
-    /// There was no memory. [`parse`](super::parse) takes none, and never answers this.
+    /// An allocation failed. [`parse`](super::parse) allocates nothing, and never returns this.
     OutOfMemory,
 }
 

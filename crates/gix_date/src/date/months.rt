@@ -1,4 +1,4 @@
-//! Months of the calendar.
+//! Counts months back by the calendar.
 
 ghost use Rattle.gix_date.specs.Months.{months_before};
 ghost use Rattle.jiff_core.specs.Calendar.{IsWithin, IsEpochDay};
@@ -9,7 +9,7 @@ use super::civil::epoch_day;
 use jiff_core::civil::Date;
 use jiff_span::date::add_months;
 
-// So many months the other way.
+// Returns a number of months as a step back.
 fn backward(months: u64) -> i32
     requires { months ≤ 500_000 }
     ensures value { result ≡ neg_ℤ (pos months) }
@@ -18,7 +18,8 @@ fn backward(months: u64) -> i32
     -(months as i32)
 }
 
-/// The day so many months before a day, pulled back to its month's end where the month is shorter.
+/// Returns the day a number of months before a day, or the last day of that month if it is shorter.
+///
 /// More than 500,000 months lead out of the calendar from each of its days.
 pub fn months_before(day: i64, months: u64) -> Result<i64, DateError>
     ensures value { result ≡ months_before day months }

@@ -1,10 +1,10 @@
-//! Numbers as decimal digits.
+//! Reads decimal numbers.
 
 ghost use Rattle.gix_date.specs.Numerals.{is_number, number_of, is_integer, integer_of};
 ghost use Rattle.std.specs.Int.{w64};
 ghost use Rattle.std.specs.Prelude.{◌≡◌, ◌<◌, ◌^◌, ◌+◌, ◌-◌, ◌*◌, SomeIff, FitsSigned};
 
-/// Whether a text is one or more digits.
+/// Tests whether a text is one or more digits.
 #[tactic(auto, unfolding(crate::specs::Numerals::is_number))]
 pub fn is_digits(text: &[u8]) -> bool
     ensures { result ≡ is_number text.now }
@@ -17,7 +17,7 @@ pub fn is_digits(text: &[u8]) -> bool
     !text.is_empty()
 }
 
-// The number that a digit after those of a number writes, where 64 bits hold it.
+// Appends a digit to a number, if 64 bits hold the result.
 fn with_digit(number: u64, byte: u8) -> Option<u64>
     ensures { SomeIff result (number * 10 + (byte - 48) < 2 ^ 64) (number * 10 + (byte - 48)) }
 {
@@ -25,7 +25,7 @@ fn with_digit(number: u64, byte: u8) -> Option<u64>
     number.checked_mul(10)?.checked_add(digit)
 }
 
-/// The number that digits write, where 64 bits hold it.
+/// Reads a number, if 64 bits hold it.
 #[tactic(auto, unfolding(crate::specs::Numerals::number_after))]
 pub fn number(digits: &[u8]) -> Option<u64>
     ensures { SomeIff result (number_of digits.now < 2 ^ 64) (number_of digits.now) }
@@ -39,7 +39,7 @@ pub fn number(digits: &[u8]) -> Option<u64>
     Some(number)
 }
 
-/// Whether a text is digits after an optional minus.
+/// Tests whether a text is digits after an optional minus.
 pub fn is_signed_digits(text: &[u8]) -> bool
     ensures { result ≡ is_integer text.now }
 {
@@ -49,7 +49,7 @@ pub fn is_signed_digits(text: &[u8]) -> bool
     }
 }
 
-/// The integer that digits after an optional minus write, where an `i64` holds it.
+/// Reads an integer, digits after an optional minus, if an `i64` holds it.
 pub fn integer(text: &[u8]) -> Option<i64>
     ensures { SomeIff result (FitsSigned w64 (integer_of text.now)) (integer_of text.now) }
 {

@@ -1,4 +1,4 @@
-//! Offsets from UTC.
+//! Reads offsets from UTC.
 
 ghost use Rattle.gix_date.specs.Offset.{offset_by, offset_of};
 ghost use Rattle.std.specs.Prelude.{◌≡◌, ◌≤◌, length};
@@ -6,7 +6,7 @@ ghost use Rattle.std.specs.Prelude.{◌≡◌, ◌≤◌, length};
 use super::DateError;
 use super::numerals::number;
 
-// The seconds of so many hours and minutes, ahead of UTC or behind it.
+// Returns the seconds of some hours and minutes, ahead of UTC or behind it.
 #[tactic(auto, unfolding(crate::specs::Offset::offset_by))]
 fn offset_by(behind: bool, hours: u64, minutes: u64) -> Result<i32, DateError>
     ensures { result ≡ offset_by behind hours minutes }
@@ -18,7 +18,7 @@ fn offset_by(behind: bool, hours: u64, minutes: u64) -> Result<i32, DateError>
     Ok(if behind { -seconds } else { seconds })
 }
 
-/// The seconds of an offset such as `+0100` or `-01:00`.
+/// Reads the seconds of an offset such as `+0100` or `-01:00`.
 #[tactic(auto, unfolding(crate::specs::Offset::offset_of, crate::specs::Offset::offset_by))]
 pub fn offset_at(text: &[u8]) -> Result<i32, DateError>
     requires { 5 ≤ length text.now }

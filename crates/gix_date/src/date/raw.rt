@@ -1,4 +1,4 @@
-//! Seconds and an offset: `1234567890 +0200`.
+//! Reads seconds and an offset: `1234567890 +0200`.
 
 ghost use Rattle.gix_date.specs.RawDate.{raw_time, raw_date};
 ghost use Rattle.std.specs.Prelude.{◌≡◌, ◌≤◌, length};
@@ -10,7 +10,7 @@ use super::seconds::timed;
 use super::shape::is_shaped;
 use gix_base::date::Time;
 
-// The time of the seconds and the offset that two texts write.
+// Makes the time of the seconds and the offset that two texts have.
 #[tactic(auto, unfolding(crate::specs::RawDate::raw_time))]
 fn raw_time(seconds: &[u8], zone: &[u8]) -> Result<Time, DateError>
     requires { 5 ≤ length zone.now }
@@ -20,7 +20,7 @@ fn raw_time(seconds: &[u8], zone: &[u8]) -> Result<Time, DateError>
     timed(integer(seconds), offset)
 }
 
-/// The time of a text of seconds, a space and an offset; `None` for a text of another shape.
+/// Reads seconds, a space and an offset; `None` if the text has another shape.
 #[tactic(auto, unfolding(crate::specs::RawDate::raw_date))]
 pub fn read(text: &[u8]) -> Option<Result<Time, DateError>>
     ensures { result ≡ raw_date text.now }

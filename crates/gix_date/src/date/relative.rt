@@ -1,4 +1,4 @@
-//! The moment so far back: `2 weeks ago`.
+//! Reads a moment in the past: `2 weeks ago`.
 
 ghost use Rattle.gix_date.specs.RelativeDate.{seconds_before, time_before, time_before_sum, relative_date};
 ghost use Rattle.std.specs.Prelude.{◌≡◌};
@@ -10,7 +10,7 @@ use super::months::months_before;
 use super::seconds::earlier;
 use gix_base::date::Time;
 
-// The seconds so many months before a moment, at the time of day that its own clock shows.
+// Returns the seconds a number of months before a moment, at the same time of day by its clock.
 #[tactic(auto, unfolding(crate::specs::RelativeDate::seconds_before))]
 fn seconds_before(now: Time, months: u64) -> Result<i64, DateError>
     ensures { result ≡ seconds_before now months }
@@ -25,7 +25,7 @@ fn seconds_before(now: Time, months: u64) -> Result<i64, DateError>
     Ok(seconds_at(day, local.rem_euclid(86400), now.offset))
 }
 
-// The time so far before a moment.
+// Returns the time that is so far before a moment.
 #[tactic(auto, unfolding(crate::specs::RelativeDate::time_before))]
 fn time_before(now: Time, ago: Ago) -> Result<Time, DateError>
     ensures { result ≡ time_before now ago }
@@ -34,7 +34,7 @@ fn time_before(now: Time, ago: Ago) -> Result<Time, DateError>
     earlier(start, ago.seconds, now.offset)
 }
 
-// The same of a sum, where it is not out of range.
+// Returns the time that is a sum before a moment, if the sum is in range.
 #[tactic(auto, unfolding(crate::specs::RelativeDate::time_before_sum))]
 fn time_before_sum(now: Time, sum: Result<Ago, DateError>) -> Result<Time, DateError>
     ensures { result ≡ time_before_sum now sum }
@@ -42,7 +42,7 @@ fn time_before_sum(now: Time, sum: Result<Ago, DateError>) -> Result<Time, DateE
     time_before(now, sum?)
 }
 
-/// The time so far before a moment; `None` for a text that does not count units back.
+/// Reads units counted back from a moment; `None` if the text does not count back.
 #[tactic(auto, unfolding(crate::specs::RelativeDate::relative_date))]
 pub fn read(text: &[u8], now: Time) -> Option<Result<Time, DateError>>
     ensures { result ≡ relative_date text.now now }

@@ -1,4 +1,4 @@
-//! Times of seconds that an `i64` may not hold.
+//! Makes times of seconds that an `i64` may not hold.
 
 ghost use Rattle.gix_date.specs.DateReading.{time_at, time_if};
 ghost use Rattle.std.specs.Prelude.{◌≡◌, ◌-ℤ◌, pos};
@@ -6,7 +6,7 @@ ghost use Rattle.std.specs.Prelude.{◌≡◌, ◌-ℤ◌, pos};
 use super::DateError;
 use gix_base::date::Time;
 
-/// The time of the seconds of a checked sum, where there are some.
+/// Makes a time of the seconds of a checked sum, if the sum has any.
 pub fn timed(seconds: Option<i64>, offset: i32) -> Result<Time, DateError>
     ensures { result ≡ time_if seconds offset }
 {
@@ -16,7 +16,7 @@ pub fn timed(seconds: Option<i64>, offset: i32) -> Result<Time, DateError>
     }
 }
 
-/// The time so many seconds before others, where an `i64` holds its seconds.
+/// Makes the time that is a number of seconds before `start`, if an `i64` holds its seconds.
 pub fn earlier(start: i64, seconds: u64, offset: i32) -> Result<Time, DateError>
     ensures { result ≡ time_at (start -ℤ pos seconds) offset }
 {

@@ -1,10 +1,10 @@
-//! Texts of a given shape, and words.
+//! Tests for texts of a given shape, and for words.
 
 ghost use Rattle.gix_date.specs.Shape.{fits, has_shape, is_word};
 ghost use Rattle.std.specs.Prelude.{◌≡◌, length, IsTrue};
 ghost use Rattle.std.specs.Str.{is_utf8};
 
-/// Whether bytes are UTF-8.
+/// Tests whether bytes are UTF-8.
 pub fn is_text(bytes: &[u8]) -> bool
     ensures { result ≡ is_utf8 bytes.now }
 {
@@ -14,7 +14,7 @@ pub fn is_text(bytes: &[u8]) -> bool
     }
 }
 
-// Whether a byte is one that a mark of a shape stands for.
+// Tests whether a mark of a shape stands for a byte.
 fn is_marked(mark: u8, byte: u8) -> bool
     ensures { result ≡ fits mark byte }
 {
@@ -25,8 +25,8 @@ fn is_marked(mark: u8, byte: u8) -> bool
     }
 }
 
-/// Whether a text is written as a shape says: its `0` stands for any digit, its `+` for either
-/// sign, and any other byte for itself.
+/// Tests whether a text has a shape: `0` stands for any digit, `+` for either sign, and any other
+/// byte for itself.
 #[tactic(auto, unfolding(crate::specs::Shape::has_shape))]
 pub fn is_shaped(text: &[u8], shape: &[u8]) -> bool
     ensures value { result ≡ has_shape shape.now text.now }
@@ -46,7 +46,7 @@ pub fn is_shaped(text: &[u8], shape: &[u8]) -> bool
     rest.is_empty()
 }
 
-/// Whether a text is that word, in any ASCII letter case.
+/// Tests whether a text is a word, in any ASCII letter case.
 pub fn is_named(text: &[u8], word: &[u8]) -> bool
     ensures { result ≡ is_word word.now text.now }
 {

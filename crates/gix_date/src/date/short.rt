@@ -1,4 +1,4 @@
-//! A day: `1979-02-26`.
+//! Reads a day: `1979-02-26`.
 
 ghost use Rattle.gix_date.specs.ShortDate.{midnight_of, short_date};
 ghost use Rattle.std.specs.Prelude.{◌≡◌, ◌≤◌, length};
@@ -8,7 +8,7 @@ use super::civil::day_at;
 use super::shape::is_shaped;
 use gix_base::date::Time;
 
-// The midnight that begins a day, at UTC.
+// Returns the midnight that begins a day, in UTC.
 #[tactic(auto, unfolding(crate::specs::ShortDate::midnight_of))]
 fn midnight(text: &[u8]) -> Result<Time, DateError>
     requires { 10 ≤ length text.now }
@@ -21,7 +21,7 @@ fn midnight(text: &[u8]) -> Result<Time, DateError>
     })
 }
 
-/// The time of a text of a day alone; `None` for a text of another shape.
+/// Reads a day alone; `None` if the text has another shape.
 #[tactic(auto, unfolding(crate::specs::ShortDate::short_date))]
 pub fn read(text: &[u8]) -> Option<Result<Time, DateError>>
     ensures { result ≡ short_date text.now }

@@ -1,4 +1,4 @@
-//! `now` and `yesterday`.
+//! Reads `now` and `yesterday`.
 
 ghost use Rattle.gix_date.specs.WordDate.{word_date};
 ghost use Rattle.std.specs.Prelude.{◌≡◌};
@@ -8,7 +8,7 @@ use super::seconds::earlier;
 use super::shape::is_named;
 use gix_base::date::Time;
 
-/// The moment itself for `now`, 86400 seconds before it for `yesterday`; `None` for another text.
+/// Reads `now` as the moment, and `yesterday` as 86400 seconds before it; `None` for another text.
 #[tactic(auto, unfolding(crate::specs::WordDate::word_date))]
 pub fn read(text: &[u8], now: Time) -> Option<Result<Time, DateError>>
     ensures { result ≡ word_date text.now now }
