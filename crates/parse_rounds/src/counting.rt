@@ -1,4 +1,4 @@
-//! A delegate that accepts each call and counts it.
+//! Has a delegate that accepts every call and counts it.
 
 use gix_revision::error::Exn;
 use gix_revision::hash::Prefix;
@@ -8,17 +8,17 @@ use gix_revision::spec::parse::delegate::{
     Kind, Listener, Navigate, PeelTo, PrefixHint, ReflogLookup, Revision, SiblingBranch, Traversal,
 };
 
-/// The number of calls so far, or the greatest `u64` where there were more.
+/// Counts calls, up to the greatest `u64`.
 #[derive(Clone, Copy)]
 pub struct Counting(u64);
 
 impl Counting {
-    /// No call was made yet.
+    /// Starts with no calls.
     pub fn new() -> Counting {
         Counting(0)
     }
 
-    /// The number of calls so far, or the greatest `u64` where there were more.
+    /// Returns the number of calls so far, or the greatest `u64` if there were more.
     pub fn calls(&self) -> u64 {
         self.0
     }

@@ -1,5 +1,7 @@
-//! Reads revision texts, one a line, parses each ten thousand times with a delegate that only counts
-//! its calls, and prints how many there were. An empty line is skipped. `bin/bench` times it.
+//! Parses each line of its input ten thousand times, and prints the number of calls.
+//!
+//! Each line is a revision; empty lines are skipped. The delegate only counts its calls.
+//! `tools/bench` times this program.
 #![tactic(auto)]
 
 mod counting;
@@ -11,7 +13,7 @@ use std::alloc::Global;
 use std::io::{self, Read, Write};
 use std::process::ExitCode;
 
-/// How often each text is parsed.
+/// Is how often each revision is parsed.
 const ROUNDS: u32 = 10_000;
 
 const NOW: Time = Time {

@@ -1,5 +1,5 @@
-//! Tests of `gix_resolve`: texts that are resolved, lists and counts, over worked histories, hostile sources and memory;
-//! and the example of the README.
+//! Tests `gix_resolve`: resolved revisions, lists and counts, over worked histories, with look-ups
+//! and allocations that fail. It also has the example of docs/RATTLE.md.
 #![tactic(auto)]
 
 #[cfg(test)]

@@ -1,8 +1,8 @@
-//! The example of the README, which has the lines between the two marks.
+//! Is the example of docs/RATTLE.md, which shows the lines between the two marks.
 
 use std::alloc::AllocError;
 use std::collections::{BTreeMap, BTreeSet};
-// README: begin
+// RATTLE: begin
 use gix_resolve::{Table, commits, resolve};
 use gix_revision::date::Time;
 use gix_revision::describe::{Options, describe};
@@ -13,7 +13,7 @@ use std::alloc::Global;
 use std::borrow::CowSlice;
 use std::string::String;
 
-/// Adds a commit whose id repeats one byte; none where there is no memory.
+/// Adds a commit whose id repeats one byte. Returns `None` if the id is taken or memory runs out.
 fn add(alloc: Global, source: &mut MemorySource, byte: u8, parents: &[ObjectId]) -> Option<()> {
     let commit = SourceCommit {
         parents: parents.to_vec(alloc).ok()?,
@@ -23,7 +23,9 @@ fn add(alloc: Global, source: &mut MemorySource, byte: u8, parents: &[ObjectId])
     source.insert(ObjectId([byte; 20]), commit).ok()
 }
 
-/// Where two branches part, as git-describe writes it by one name; none where there is no base, no name or no memory.
+/// Returns the merge base of two branches as `git describe` writes it, with one commit named v1.
+///
+/// Returns `None` if there is no merge base, if it has no name, or if a call fails.
 fn fork_point(
     alloc: Global,
     source: MemorySource,
@@ -41,7 +43,7 @@ fn fork_point(
     format!(in alloc; "{}", outcome.into_format(7)).ok()
 }
 
-/// How many commits a text such as `main..HEAD` means; none where it is refused.
+/// Counts the commits of a revision such as `main..HEAD`. Returns `None` if a call fails.
 fn count(alloc: Global, source: MemorySource, table: &Table, text: &[u8]) -> Option<usize> {
     let now = Time {
         seconds: 0,
@@ -51,7 +53,7 @@ fn count(alloc: Global, source: MemorySource, table: &Table, text: &[u8]) -> Opt
     let spec = resolve(alloc, alloc, text, now, table, &mut graph).ok()?;
     Some(commits(alloc, &spec, &mut graph).ok()?.len())
 }
-// README: end
+// RATTLE: end
 
 const ROOT: ObjectId = ObjectId([0x11; 20]);
 

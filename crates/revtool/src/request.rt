@@ -5,17 +5,34 @@ use std::string::String;
 
 /// What is printed for `--help`.
 pub const HELP: &str = "\
-usage: revtool [--commit-graph FILE]
+usage: revtool [--commit-graph FILE] < LINES
 
-Reads the lines of standard input, `commit`, `name` and `ref` lines among them, and prints an answer for each of the other lines, as
-`base ID ID..`, `describe ID` or `rev-parse TEXT`; README.md has a table of them. Each answer is that of a proved call.
+Answer questions about a commit history. revtool reads commits, names, refs and
+questions from standard input, one a line, and prints one line for each
+question. Each answer comes from a proved call.
 
-    --commit-graph FILE   the commits of a commit-graph file of git (.git/objects/info/commit-graph); `commit` lines add what it lacks
-    -h, --help            this text
-    -V, --version         the version
+    commit ID TIME GEN PARENT..   add a commit; GEN may be -
+    name ID NAME                  give the commit a name for describe
+    ref ID NAME                   add a ref for the questions about revisions
 
-Status: 0; 1 where a command was refused or there was no memory; 2 where a line, the input, the output or the command line is at fault;
-4 where the file can't be used. Where it is not 0 for another reason than a refused command, nothing is answered.
+    base ID ID..                  print the merge bases of the first and others
+    describe ID                   print the name of the commit or of an ancestor
+    rev-list TEXT                 print the commits of a revision range
+
+These are some of the lines. docs/LINES.md and `man revtool` have all of them.
+
+options
+    --commit-graph FILE   read commits from git's commit-graph file, too
+    -h, --help            print this text
+    -V, --version         print the version
+
+exit status
+    0    every question was answered
+    1    a question was refused (its line says so), or memory ran out
+    2    a line or the command line is wrong, or reading or writing failed
+    4    the commit-graph file cannot be used
+
+If standard error has a message, no question was answered.
 ";
 
 /// What is printed for `--version`.

@@ -1,4 +1,5 @@
-//! The program: hands the standard streams to `revtool`, with a commit-graph file where the command line names one.
+//! Is the program: passes the standard streams to `revtool`, with a commit-graph file if the command
+//! line names one.
 #![tactic(auto)]
 
 use revtool::{FileFault, HELP, Request, VERSION, read_graph, run, run_over};
@@ -8,13 +9,13 @@ use std::io::{self, Write};
 use std::process::ExitCode;
 use std::string::String;
 
-/// The status where the command line is not read.
+/// Is the status of a wrong command line.
 const UNREAD: u8 = 2;
 
-/// The status where the file can't be used.
+/// Is the status if the file cannot be used.
 const UNUSED: u8 = 4;
 
-/// The words behind the program's name.
+/// Returns the words after the program's name.
 fn words(rt: &HostRuntime) -> io::Result<Vec<String>> {
     let mut words = Vec::new(rt.alloc());
     for word in env::args(rt)?.skip(1) {
@@ -23,7 +24,7 @@ fn words(rt: &HostRuntime) -> io::Result<Vec<String>> {
     Ok(words)
 }
 
-/// A text on standard output, and the status.
+/// Prints a text on standard output, and returns the status.
 fn print(rt: &HostRuntime, text: &str) -> u8 {
     match rt.stdout().write_all(text.as_bytes()) {
         Ok(()) => 0,
@@ -31,7 +32,7 @@ fn print(rt: &HostRuntime, text: &str) -> u8 {
     }
 }
 
-/// The answers over no file.
+/// Answers without a file, and returns the status.
 fn answer(rt: &HostRuntime) -> u8 {
     run(
         rt.alloc(),
@@ -42,7 +43,7 @@ fn answer(rt: &HostRuntime) -> u8 {
     )
 }
 
-/// The answers over a file.
+/// Answers over a file, and returns the status.
 fn answer_over(rt: &HostRuntime, path: &str) -> Result<u8, FileFault> {
     let mut file = File::open(rt, path)?;
     let size = file.metadata()?.len() as usize;
@@ -57,7 +58,7 @@ fn answer_over(rt: &HostRuntime, path: &str) -> Result<u8, FileFault> {
     ))
 }
 
-/// The status of a request.
+/// Serves a request, and returns the status.
 fn serve(rt: &HostRuntime, request: Request<'_>) -> u8 {
     match request {
         Request::Answers => answer(rt),
