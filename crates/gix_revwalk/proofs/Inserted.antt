@@ -1,4 +1,4 @@
--- A graph of commits over a history that gets one commit more.
+-- A graph of commits stays right if its history gets one more commit.
 use Rattle.std.proofs.Common.{◌≡◌, ℕ, zero, suc, true, false, cond, refl, ap, sym, subst, ◌∙◌, List, [], ◌∷◌, Option, Some, None, is_some, map}
 use Rattle.std.specs.List.{AllByRecursion, filter}
 use Rattle.std.specs.Map.{lookup}
@@ -18,14 +18,14 @@ use Rattle.gix_revwalk.proofs.Places.{each-at}
 use Rattle.gix_revwalk.proofs.NodeSteps.{held-at}
 use Rattle.gix_revwalk.proofs.Filters.{filter-more}
 
--- what holds of the item at each place
+-- A property that holds for the item at each place.
 pub all-at : {X : Type 0} (P : X → Type 0) (xs : List X) → ((k : ℕ) (x : X) → item_at xs k ≡ Some x → P x) → AllByRecursion P xs
 all-at P [] each = tt
 all-at P (x ∷ xs) each = (each zero x refl, all-at P xs (λ k y at. each (suc k) y at))
 
--- n is h with the commit d under k, which had none
+-- History n is h with the commit d under k, which had none.
 module _ (h n : History) (k : ObjectId) (d : Entry) (new : entry_at h k ≡ None) (put : (q : ObjectId) → entry_at n q ≡ cond (same_id k q) (Some d) (entry_at h q)) where
-  -- what was there is there
+  -- Entries that were there are unchanged.
   pub entry-stays : (q : ObjectId) → is_some (entry_at h q) ≡ true → entry_at n q ≡ entry_at h q
   entry-stays q has =
       put q ∙ elim (same_id k q) as (λ b. same_id k q ≡ b → cond b (Some d) (entry_at h q) ≡ entry_at h q) [
@@ -51,7 +51,7 @@ module _ (h n : History) (k : ObjectId) (d : Entry) (new : entry_at h k ≡ None
       (filter-more (λ p. is_some (entry_at h p)) (λ p. is_some (entry_at n p)) (λ p there. ap is_some (entry-stays p there) ∙ there) (parents_in (entry_at h id)) is.2) in
       (is.0, is.1 ∙ ap (map (place_of ids)) (is.2 ∙ ap parents_in (sym e) ∙ sym full), full)
 
-  -- the nodes stay right, with what is remembered
+  -- The nodes stay right, and so does what is remembered.
   pub nodes-stay : {D A : Type 0} (ns : List (Node (Commit D A))) (past : Pasts) (edges : List Number) (turn : ℕ)
       → Agree h (λ q. lookup (same_id q) (map pair_of ns)) → AreNodes h ns past edges turn → AreNodes n ns past edges turn
   nodes-stay ns past edges turn agree are = record {
@@ -65,7 +65,7 @@ module _ (h n : History) (k : ObjectId) (d : Entry) (new : entry_at h k ≡ None
     begun = are.begun;
   }
 
--- a graph after an insert into its source, taken or refused
+-- A graph after an insert into its source, successful or not.
 pub graph-inserted : {D A X E : Type 0} (h n : History) (k : ObjectId) (d : Entry) (r : Result X E)
     → OnOk r (entry_at h k ≡ None) → OnOk r ((q : ObjectId) → entry_at n q ≡ cond (same_id k q) (Some d) (entry_at h q)) → OnErr r (n ≡ h)
     → (ns : List (Node (Commit D A))) (past : Pasts) (edges : List Number) (turn : ℕ)
@@ -75,7 +75,7 @@ graph-inserted h n k d (Ok x) new put same ns past edges turn is =
     (agree-stays h n k d new put (λ q. lookup (same_id q) (map pair_of ns)) is.0, nodes-stay h n k d new put ns past edges turn is.0 is.1)
 graph-inserted h n k d (Err x) new put same ns past edges turn is = rw same is
 
--- a source that was refused has its history
+-- A source whose insert failed has its old history.
 pub same-on-err : {S X E : Type 0} (f : S → History) (a b : S) (r : Result X E) → OnErr r (a ≡ b) → OnErr r (f a ≡ f b)
 same-on-err f a b (Ok x) same = tt
 same-on-err f a b (Err x) same = ap f same

@@ -1,4 +1,4 @@
--- Places of ids in lists, and look-ups by them.
+-- Places of ids in lists, and look-ups by places.
 use Rattle.std.proofs.Common.{◌≡◌, ℕ, zero, suc, true, false, cond, refl, ap, sym, subst, ◌∙◌, List, [], ◌∷◌, ◌++◌, Option, Some, None, is_some, map, set, length, get_or, ◌<◌, arith}
 use Rattle.std.specs.Option.{option_map}
 use Rattle.std.proofs.lemmas.List.{length-map}
@@ -81,7 +81,7 @@ place-once (x ∷ ids) apart (suc k) id e =
     let other : same_id id x ≡ false = same_id-sym id x ∙ each-at (λ z. same_id x z ≡ false) ids k id apart.0 e in
     rw (other, place-once ids apart.1 k id e) refl
 
--- what stands at the place of an id is that id
+-- The item at the place of an id is that id.
 pub place-item : (xs : List ObjectId) (q : ObjectId) (k : ℕ) → place_of xs q ≡ Some k → item_at xs k ≡ Some q
 place-item [] q k e = cc
 place-item (x ∷ xs) q k e =
@@ -93,7 +93,7 @@ place-item (x ∷ xs) q k e =
       ] refl is
     ] refl e
 
--- what stands where an id does
+-- The item at the place of an id.
 abbrev pub under : {Y : Type 0} → List (ObjectId × Y) → Option ℕ → Option Y
 under es None = None
 under es (Some k) = option_map (λ e. e.1) (item_at es k)
@@ -110,7 +110,7 @@ lookup-place {Y} (e ∷ es) q =
       | false ↦ lookup-place es q ∙ sym (under-next e es _)
     ]
 
--- an id is held where it has a place
+-- An id is held if it has a place.
 pub lookup-has : {Y : Type 0} (es : List (ObjectId × Y)) (q : ObjectId) → is_some (lookup (same_id q) es) ≡ is_some (place_of (map (λ e. e.0) es) q)
 lookup-has [] q = refl
 lookup-has {Y} (e ∷ es) q =
@@ -159,7 +159,7 @@ lookup-push {Y} (y ∷ es) x q w e =
           ] refl
     ] refl e
 
--- another value under the place of an id
+-- Another value at the place of an id.
 pub lookup-set : {Y : Type 0} (es : List (ObjectId × Y)) (k : ℕ) (id : ObjectId) (w : Y) → place_of (map (λ e. e.0) es) id ≡ Some k
     → (q : ObjectId) → lookup (same_id q) (set es k (id, w)) ≡ cond (same_id id q) (Some w) (lookup (same_id q) es)
 lookup-set [] k id w e q = cc
@@ -188,7 +188,7 @@ lookup-set {Y} (y ∷ es) k id w e q =
       ] refl is
     ] refl e
 
--- the ids stay where a value is changed
+-- The ids are unchanged if a value changes.
 pub ids-set : {Y : Type 0} (es : List (ObjectId × Y)) (k : ℕ) (id : ObjectId) (w : Y) → item_at (map (λ e. e.0) es) k ≡ Some id → map (λ e. e.0) (set es k (id, w)) ≡ map (λ e. e.0) es
 ids-set [] k id w e = cc
 ids-set {Y} (y ∷ es) zero id w e = let same : y.0 ≡ id = cc in ap (λ i. i ∷ map (λ (e : ObjectId × Y). e.0) es) (sym same)

@@ -1,4 +1,4 @@
--- What a source in memory notes of the generations of its commits stays right.
+-- What a source in memory notes about generation numbers stays right.
 use Rattle.std.proofs.Common.{◌≡◌, ◌≤◌, ℕ, true, false, cond, refl, ap, sym, subst, ◌∙◌, Some, None, is_some, Bool, IsTrue, List}
 use Rattle.std.proofs.lemmas.List.Folds.{Any-from_list_any}
 use Rattle.std.specs.List.{All}
@@ -10,14 +10,14 @@ use Rattle.gix_revwalk.specs.Stored.{IsUpTo, AreLevelled, AreNoted}
 use Rattle.gix_revwalk.specs.declared.graph.find.Generations.{Generations}
 use Rattle.gix_revwalk.specs.declared.graph.find.Generations.TheVariants.{Unknown, Absent, NeverRise}
 
--- of what is found
+-- The generation number of what is found.
 pub is-up_to : (h : History) (n : ℕ) (id : ObjectId) (e : Entry) → Some e ≡ entry_at h id → generation_in (Some e) ≤ n → IsUpTo h n id
 is-up_to h n id e is le = (ap is_some (sym is), subst (λ o. generation_in o ≤ n) is le)
 
--- where one commit more is put in, under an id that had none
+-- One more commit is added, under an id that had none.
 module _ (h more : History) (id : ObjectId) (e : Entry) (lacks : entry_at h id ≡ None)
     (put : (q : ObjectId) → entry_at more q ≡ cond (same_id id q) (Some e) (entry_at h q)) where
-  -- what was there stands under its id as before
+  -- Commits that were there are unchanged.
   kept : (q : ObjectId) → Has h q → entry_at more q ≡ entry_at h q
   kept q has = put q ∙ by (same_id id q) refl
     where
@@ -25,7 +25,7 @@ module _ (h more : History) (id : ObjectId) (e : Entry) (lacks : entry_at h id �
       by true is = cc (has, ap is_some (ap (entry_at h) (sym (same_id-true id q is)) ∙ lacks))
       by false is = refl
 
-  -- parents that were there are so still
+  -- Parents that were there still are.
   up_to : (n : ℕ) (ids : List ObjectId) → All (IsUpTo h n) ids → All (IsUpTo more n) ids
   up_to n ids all k d lt =
       let there = all k d lt in
@@ -39,7 +39,7 @@ module _ (h more : History) (id : ObjectId) (e : Entry) (lacks : entry_at h id �
       by true is = subst (λ o. All (IsUpTo more (generation_in o)) (parents_in o)) (sym is) (up_to _ _ parents)
       by false is = subst (λ o. All (IsUpTo more (generation_in o)) (parents_in o)) (sym is) (up_to _ _ (levelled a))
 
--- so no generation rises
+-- No generation number rises, then.
 levelled-falls : (h : History) → AreLevelled h → GenerationsNeverRise h
 levelled-falls h levelled a b edge =
     let (k, x, lt, is, same) = Any-from_list_any (same_id b) (parents_in (entry_at h a)) edge.0 in

@@ -4,10 +4,11 @@ use Rattle.gix_revwalk.specs.History.{History}
 use Rattle.gix_revwalk.specs.Graph.{Graphed, KeepsHeld}
 use Rattle.gix_revwalk.specs.Faults.{count_after}
 
--- `is_fault` says of an answer whether it is a refusal since the source failed
+-- `is_fault` says of an answer whether it is an error because the source failed.
 module _ {S T R : Type 0} (history : S → History) (faults : S → ℕ) (is_fault : R → Bool) where
-  -- the graph after a call that answered r: over the same history, with the failure of the source
-  -- counted if that is why it was refused, and with all that was held
+  -- The graph after a call that answered r. It has the same history and holds all that it held. The
+  -- fault count has grown by one failure if r is an error because the source failed, and is
+  -- unchanged otherwise.
   pub record GraphAfter (before after : Graphed S T) (r : R) : Type 0 where
     pub same_history : history after.source ≡ history before.source
     pub count : faults after.source ≡ count_after (is_fault r) (faults before.source)

@@ -1,4 +1,4 @@
--- A number as the place that it stands for.
+-- The place that a number stands for.
 use Rattle.std.specs.Prelude.{ℕ}
 use Rattle.gix_revwalk.specs.declared.numbers.Number.{Number}
 

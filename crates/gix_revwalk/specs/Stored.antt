@@ -1,4 +1,4 @@
--- What a source in memory keeps right of the generations of its commits.
+-- What a source in memory notes about the generation numbers of its commits.
 use Rattle.std.specs.Prelude.{◌≡◌, ◌≤◌, ℕ, ⊤, None, Some, if◌then◌else◌}
 use Rattle.std.specs.List.{All}
 use Rattle.gix_base.specs.declared.hash.ObjectId.{ObjectId}
@@ -7,21 +7,22 @@ use Rattle.gix_revwalk.specs.Generations.{HasNoGenerations}
 use Rattle.gix_revwalk.specs.declared.graph.find.Generations.{Generations}
 use Rattle.gix_revwalk.specs.declared.graph.find.Generations.TheVariants.{Unknown, Absent, NeverRise}
 
--- id is in the history, with no greater generation than n
+-- The history h has id, with a generation number of at most n.
 abbrev pub IsUpTo : History → ℕ → ObjectId → Type 0
 IsUpTo h n id = Has h id × (generation_of h id ≤ n)
 
--- each parent of a commit is in the history, with no greater generation
+-- For each commit of the history h, h has every parent, with no greater generation number.
 abbrev pub AreLevelled : History → Type 0
 AreLevelled h = (a : ObjectId) → All (IsUpTo h (generation_of h a)) (parents_in (entry_at h a))
 
--- what is noted of the generations is so; and where they never rise no parent is missing, so that what is put in is nobody's parent
+-- What is noted about generation numbers is true of the history h. If it is `NeverRise`, no parent
+-- is missing from h, and so a new commit is nobody's parent.
 abbrev pub AreNoted : Generations → History → Type 0
 AreNoted Unknown h = ⊤
 AreNoted Absent h = HasNoGenerations h
 AreNoted NeverRise h = AreLevelled h
 
--- that is noted of a history once it has one more commit
+-- What is noted is true of every history that has one commit e more than h.
 abbrev pub AreNotedWith : Generations → History → Entry → Type 0
 AreNotedWith known h e =
     (id : ObjectId) (more : History) → entry_at h id ≡ None

@@ -1,4 +1,4 @@
-//! The graph of commits that was taken from a source, reused from call to call.
+//! A graph of commits that are loaded from a source, reused from call to call.
 
 ghost use Rattle.std.specs.Prelude.{◌≡◌, Some, None, is_some, IfSome, IfOk};
 ghost use Rattle.std.specs.Option.{option_copied, option_map};
@@ -27,12 +27,12 @@ use std::fmt;
 use std::marker::Model;
 use thiserror::Error as StdError;
 
-/// Why a graph gives no answer. What it held it still holds.
+/// Why a call on a graph failed. The graph still holds what it held.
 #[derive(Clone, Copy, Debug, PartialEq, Eq, Drop, StdError)]
 pub enum Error {
-    /// The source failed: its count of faults grew in this call, or stands at the greatest `u64`.
+    /// The source failed. Its [fault count](crate#fault-count) grew in this call, or is `u64::MAX`.
     Source,
-    /// There was no memory, for the graph or for the source's answer.
+    /// An allocation failed, for the graph or for the source's answer.
     OutOfMemory,
 }
 
@@ -69,9 +69,10 @@ impl<T: Drop> From<AllocFailed<T>> for Error {
     }
 }
 
-/// When a value that stands under an id agrees with what the source has there: a [`Commit`] where
-/// its parents, time and generation are the source's, a number always. Every value in a graph
-/// agrees.
+/// States when a held value agrees with what the source has under its id.
+///
+/// A [`Commit`] agrees if its parents, time and generation are the source's. A number always
+/// agrees. Every value in a graph agrees.
 pub trait Held: Drop {
     ghost use Rattle.std.specs.Prelude.{Option};
     ghost use Rattle.gix_revwalk.specs.History.{Entry};
@@ -79,20 +80,20 @@ pub trait Held: Drop {
     ghost agrees: { Self → Option Entry → Type 0 };
 }
 
-/// What a graph has of one held id.
+/// What a graph stores for one held id.
 #[derive(Drop)]
 pub(crate) struct Node<T> {
     pub(crate) id: ObjectId,
-    /// Where the numbers of its parents stand, once all of them are held.
+    /// Where the numbers of its parents are stored, once all of them are held.
     pub(crate) row: Option<Row>,
-    /// The walk that last marked it.
+    /// The turn of the walk that last marked it.
     pub(crate) turn: u32,
-    /// How often that walk has it in its queue.
+    /// How many entries of that walk's queue are this node.
     pub(crate) queued: u32,
     pub(crate) value: T,
 }
 
-/// A part of a list: where it begins, and how long it is.
+/// A part of a list: its start and its length.
 #[derive(Clone, Copy)]
 pub(crate) struct Row {
     pub(crate) start: u32,
@@ -100,7 +101,7 @@ pub(crate) struct Row {
 }
 
 impl Row {
-    /// The part of a list that begins at a place; refused where there is no number for it.
+    /// Returns the part of a list from a place on, or fails if its start or length is not a `u32`.
     pub(crate) fn of(start: usize, len: usize) -> Result<Row, AllocError>
         ensures start { IfOk result (λ row. row.start ≡ start) }
         ensures len { IfOk result (λ row. row.len ≡ len) }
@@ -112,10 +113,10 @@ impl Row {
     }
 }
 
-/// Ids that were asked for, with one value beside each, over the source that they came from.
+/// A set of ids with one value each, over the source that it owns.
 ///
-/// It owns its source and is used again from call to call: what one call took from the source the
-/// next one finds. Every value in it agrees with the source ([`Held`]), also after a refusal.
+/// A graph is used again from call to call: what one call has loaded from the source, the next call
+/// finds. Every value agrees with the source ([`Held`]), also after an error.
 #[derive(Drop)]
 pub struct Graph<S: Find, T: Held, A: Allocator = Global> {
     pub(crate) source: S,
@@ -141,7 +142,7 @@ impl<S: Find, T: Held, A: Allocator> Model for Graph<S, T, A> {
       marked = map (mark_of g.turn) g.nodes.items;
     } };
 
-    // Every held value agrees with the source's entry for its id, and what is remembered, the rows and
+    // Every held value agrees with the source's entry for its id. What is remembered, the rows and
     // the turns are right.
     ghost invariant = { λ g. ((id : ObjectId) (x : T)
         → lookup (same_id id) (map pair_of g.nodes.items) ≡ Some x
@@ -150,7 +151,7 @@ impl<S: Find, T: Held, A: Allocator> Model for Graph<S, T, A> {
 }
 
 impl<S: Find, T: Held, A: Allocator> Graph<S, T, A> {
-    /// An empty graph over a source, in the memory of `alloc`. It takes none yet.
+    /// Creates an empty graph over `source`, in the memory of `alloc`. This allocates nothing yet.
     pub fn new(alloc: A, source: S) -> Self
     where
         A: Copy,
@@ -167,14 +168,14 @@ impl<S: Find, T: Held, A: Allocator> Graph<S, T, A> {
         }
     }
 
-    /// Where its commits come from.
+    /// Returns the source of the commits.
     pub fn source(&self) -> &S
         ensures { result.now ≡ self.now.source }
     {
         &self.source
     }
 
-    /// The source back.
+    /// Returns the source, and drops the rest of the graph.
     pub fn into_source(self) -> S
         ensures { result ≡ self.source }
     {
@@ -188,11 +189,11 @@ impl<S: Find, T: Held, A: Allocator> Graph<S, T, A> {
         source
     }
 
-    /// Empties it. The source stays as it is.
+    /// Removes all held ids. The source is unchanged.
     ///
-    /// What the source told of commits that `describe` met stays in memory until the graph is dropped, with the
-    /// ids that were held, so that a further walk does not ask for it again. Nothing is remembered of an id that
-    /// the source lacked.
+    /// What the source returned for commits that `describe` met stays in memory until the graph is
+    /// dropped, and so do the ids that were held. A further walk does not ask for them again.
+    /// Nothing is remembered of an id that the source did not have.
     pub fn clear(&mut self)
         ensures source { self.new.source ≡ self.old.source }
         ensures empty { (id : ObjectId) → held_at self.new id ≡ None }
@@ -202,7 +203,7 @@ impl<S: Find, T: Held, A: Allocator> Graph<S, T, A> {
         self.edges.clear();
     }
 
-    /// How many ids are held. Each is held once.
+    /// Returns the number of held ids. Each is held once.
     pub fn len(&self) -> usize
         ensures len { result ≡ held_len self.now }
         ensures once { IsDistinct same_id (held_ids self.now) }
@@ -210,14 +211,14 @@ impl<S: Find, T: Held, A: Allocator> Graph<S, T, A> {
         self.nodes.len()
     }
 
-    /// Whether an id is held.
+    /// Returns whether `id` is held.
     pub fn contains(&self, id: &ObjectId) -> bool
         ensures { result ≡ is_some (held_at self.now id.now) }
     {
         numbers::number_of(self, id).is_some()
     }
 
-    /// The value under an id, which agrees with the source; `None` where the id is not held.
+    /// Returns the value of `id`, which agrees with the source; `None` if `id` is not held.
     pub fn get(&self, id: &ObjectId) -> Option<&T>
         ensures value { option_copied result ≡ held_at self.now id.now }
         ensures agrees { IfSome result
@@ -229,7 +230,7 @@ impl<S: Find, T: Held, A: Allocator> Graph<S, T, A> {
 }
 
 impl<S: Find, T: Held, A: Allocator + Copy> Graph<S, T, A> {
-    /// What the source has under an id.
+    /// Asks the source for the commit `id`.
     pub(crate) fn ask(&mut self, alloc: A, id: ObjectId) -> Result<Option<SourceCommit<A>>, Error>
         ensures held { self.new.held ≡ self.old.held }
         ensures marked { self.new.marked ≡ self.old.marked }

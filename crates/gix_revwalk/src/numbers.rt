@@ -1,9 +1,11 @@
-//! The held ids of a graph by their numbers, for walks: a look-up by a number asks no hash, and the
-//! parents of a commit that was walked once are remembered as numbers.
+//! Numbers of the ids that a graph holds, for walks.
 //!
-//! A number stands for one held id of one graph, until that graph is cleared. The spot of an id, which is
-//! held or was, stays the same after that. It is handed in as a guess: one that is right saves a look-up by
-//! hash, and one that is wrong costs nothing more.
+//! A look-up by number needs no hash, and the parents of a commit that was walked once are
+//! remembered as numbers.
+//!
+//! A number names one held id of one graph, until that graph is cleared. Each id that is or was
+//! held also has a *spot*, which stays the same after that. A spot is passed as a guess: a right
+//! guess saves a look-up by hash, and a wrong one costs nothing more.
 
 ghost use Rattle.std.specs.Prelude.{◌≡◌, ◌<◌, ◌||◌, List, [], ◌∷◌, ◌++◌, length, Some, None, IsTrue, IsOk, is_some, IfSome, IfOk, OnOk, OnErr, false, map};
 ghost use Rattle.std.specs.Option.{option_map};
@@ -34,7 +36,7 @@ use std::alloc::{AllocError, Allocator};
 pub struct Number(u32);
 
 impl Number {
-    /// The number of a place; refused where there are no more numbers.
+    /// Returns the number of a place, or fails if there are no more numbers.
     #[inline(always)]
     pub(crate) fn at(place: usize) -> Result<Number, AllocError>
         ensures { IfOk result (λ number. place_in number ≡ place) }
@@ -45,7 +47,7 @@ impl Number {
         }
     }
 
-    /// Its place.
+    /// Returns its place.
     #[inline(always)]
     pub(crate) fn place(&self) -> usize
         ensures { result ≡ place_in self.now }
@@ -54,19 +56,22 @@ impl Number {
     }
 }
 
-/// What a walk gives a commit: marks, and how many entries of its queue are this commit.
+/// What a walk records for a commit: marks, and how many entries of its queue are this commit.
 #[derive(Clone, Copy)]
 pub struct Mark<D> {
     pub marks: D,
     pub queued: u32,
 }
 
-/// What the source has under an id, whether or not the id is held. None becomes held.
+/// Asks the source for a commit, whether or not it is held. No id becomes held.
 ///
 /// # Errors
 ///
-/// [`Error::Source`] only where the source failed in this call, or its count of faults is full;
-/// [`Error::OutOfMemory`] where there was no memory. The graph holds what it held.
+/// - [`Error::Source`]: the source failed. Its [fault count](crate#fault-count) has grown by one,
+///   or is `u64::MAX`.
+/// - [`Error::OutOfMemory`]: an allocation failed.
+///
+/// The graph holds what it held.
 pub fn ask<S: Find, T: Held, A: Allocator + Copy>(
     graph: &mut Graph<S, T, A>,
     alloc: A,
@@ -83,7 +88,7 @@ pub fn ask<S: Find, T: Held, A: Allocator + Copy>(
     graph.ask(alloc, id)
 }
 
-/// The number of an id; `None` where it is not held.
+/// Returns the number of an id; `None` if the id is not held.
 pub fn number_of<S: Find, T: Held, A: Allocator>(
     graph: &Graph<S, T, A>,
     id: &ObjectId,
@@ -93,7 +98,7 @@ pub fn number_of<S: Find, T: Held, A: Allocator>(
     number_near(graph, id, NOWHERE)
 }
 
-/// The number of an id, by a guess at its spot; `None` where it is not held.
+/// Returns the number of an id, by a guess at its spot; `None` if the id is not held.
 #[inline(always)]
 pub fn number_near<S: Find, T: Held, A: Allocator>(
     graph: &Graph<S, T, A>,
@@ -115,7 +120,7 @@ pub fn number_near<S: Find, T: Held, A: Allocator>(
     }
 }
 
-/// The id of a number.
+/// Returns the id of a number.
 pub fn id_of<S: Find, T: Held, A: Allocator>(graph: &Graph<S, T, A>, number: Number) -> ObjectId
     requires { place_in number < held_len graph.now }
     ensures named { named graph.now (place_in number) ≡ Some result }
@@ -124,7 +129,7 @@ pub fn id_of<S: Find, T: Held, A: Allocator>(graph: &Graph<S, T, A>, number: Num
     graph.nodes[number.place()].id
 }
 
-/// The value under a number.
+/// Returns the value that is held under a number.
 #[inline(always)]
 pub fn value<S: Find, T: Held, A: Allocator>(graph: &Graph<S, T, A>, number: Number) -> &T
     requires { place_in number < held_len graph.now }
@@ -135,7 +140,7 @@ pub fn value<S: Find, T: Held, A: Allocator>(graph: &Graph<S, T, A>, number: Num
     &graph.nodes[number.place()].value
 }
 
-/// Puts a node at the end that no walk has marked. Its number.
+/// Appends a node that no walk has marked, and returns its number.
 #[inline(always)]
 fn push_node<T: Drop, A: Allocator>(
     nodes: &mut Vec<Node<T>, A>,
@@ -158,12 +163,13 @@ fn push_node<T: Drop, A: Allocator>(
     Ok(number)
 }
 
-/// Holds an id that is not held yet, whether or not the source has it. It gets the next number, and
-/// no walk has marked it.
+/// Holds an id that is not held yet, whether or not the source has it, and returns its number.
+///
+/// This is the next number. No walk has marked the id.
 ///
 /// # Errors
 ///
-/// Where there was no memory, or no number more. The graph is then as it was.
+/// [`AllocError`]: an allocation failed, or there are no more numbers. The graph is then unchanged.
 pub fn add<S: Find, T: Held, A: Allocator + Copy>(
     graph: &mut Graph<S, T, A>,
     id: ObjectId,
@@ -183,11 +189,13 @@ pub fn add<S: Find, T: Held, A: Allocator + Copy>(
     Ok(number)
 }
 
-/// [`add`] by a guess at the spot of the id. Its number and its spot.
+/// Holds an id that is not held yet, by a guess at its spot, and returns its number and its spot.
+///
+/// Like [`add`], it does so whether or not the source has the id.
 ///
 /// # Errors
 ///
-/// As [`add`].
+/// Those of [`add`]. The graph is then unchanged.
 pub fn add_near<S: Find, T: Held, A: Allocator + Copy>(
     graph: &mut Graph<S, T, A>,
     id: ObjectId,
@@ -214,12 +222,14 @@ pub fn add_near<S: Find, T: Held, A: Allocator + Copy>(
     }
 }
 
-/// Holds an id that is not held, where the source has told of it before. Its time, its number and its spot;
-/// `None` where the source has not told of it, and then nothing is held.
+/// Holds an id that is not held yet, if the source has returned its commit before.
+///
+/// Returns its time, its number and its spot. The answer is `None` if the source has not returned
+/// its commit before; then nothing is added to the graph.
 ///
 /// # Errors
 ///
-/// As [`add`].
+/// Those of [`add`]. The graph is then unchanged.
 #[inline(always)]
 pub fn hold_told<S: Find, T: Held, A: Allocator + Copy>(
     graph: &mut Graph<S, T, A>,
@@ -250,7 +260,7 @@ pub fn hold_told<S: Find, T: Held, A: Allocator + Copy>(
     Ok(Some((time, number, spot)))
 }
 
-/// What the source told of an id is remembered. Its spot.
+/// Remembers what the source returned for an id, and returns the spot of the id.
 fn learn<S: Find, T: Held, A: Allocator + Copy>(
     graph: &mut Graph<S, T, A>,
     id: ObjectId,
@@ -263,12 +273,14 @@ fn learn<S: Find, T: Held, A: Allocator + Copy>(
     Ok(spot)
 }
 
-/// The time of what the source has under an id, and the spot of the id: what the source tells is remembered.
-/// `None` where it lacks the id; then nothing is remembered.
+/// Asks the source for the time of a commit, and returns it with the spot of the id.
+///
+/// What the source returns is remembered. The answer is `None` if the source does not have the
+/// commit; then nothing is remembered.
 ///
 /// # Errors
 ///
-/// As [`ask`], and where it could not be remembered.
+/// Those of [`ask`]; [`Error::OutOfMemory`] also if the commit could not be remembered.
 pub fn ask_time<S: Find, T: Held, A: Allocator + Copy>(
     graph: &mut Graph<S, T, A>,
     alloc: A,
@@ -289,12 +301,14 @@ pub fn ask_time<S: Find, T: Held, A: Allocator + Copy>(
     Ok(Some((found.time, spot)))
 }
 
-/// Puts the parents of a commit into `into`, in order, each with a guess at its spot, in place of what was
-/// there; none where the source lacks the commit. The source is asked where it has not told of it before.
+/// Replaces what is in `into` by the parents of a commit, in order, each with a guess at its spot.
+///
+/// There are no parents if the source does not have the commit. The source is asked if it has not
+/// returned the commit before.
 ///
 /// # Errors
 ///
-/// As [`ask`]; also where `into` could not grow.
+/// Those of [`ask`]; [`Error::OutOfMemory`] also if `into` could not grow.
 #[inline(always)]
 pub fn parents_near<S: Find, T: Held, A: Allocator + Copy>(
     graph: &mut Graph<S, T, A>,
@@ -321,7 +335,7 @@ pub fn parents_near<S: Find, T: Held, A: Allocator + Copy>(
     Ok(())
 }
 
-/// Puts parents into `into`, which is empty, with no guesses.
+/// Appends parents to `into`, which is empty, without guesses.
 fn copy_parents<A: Allocator>(
     parents: &[ObjectId],
     into: &mut Vec<Link, A>,
@@ -338,7 +352,7 @@ fn copy_parents<A: Allocator>(
     Ok(())
 }
 
-/// Gives a held id of a graph of numbers another value. The old one.
+/// Replaces the value of a held id in a graph of numbers, and returns the old value.
 #[inline(always)]
 pub fn put<S: Find, A: Allocator>(graph: &mut Graph<S, u32, A>, number: Number, value: u32) -> u32
     requires { place_in number < held_len graph.old }
@@ -351,7 +365,7 @@ pub fn put<S: Find, A: Allocator>(graph: &mut Graph<S, u32, A>, number: Number, 
     old
 }
 
-/// Notes a held id in the walk that is going on. Its value stays.
+/// Notes a held id in the current walk. Its value is unchanged.
 #[inline(always)]
 pub fn note<S: Find, T: Held, A: Allocator>(graph: &mut Graph<S, T, A>, number: Number)
     requires { place_in number < held_len graph.old }
@@ -366,7 +380,7 @@ pub fn note<S: Find, T: Held, A: Allocator>(graph: &mut Graph<S, T, A>, number: 
     node.turn = turn;
 }
 
-/// Whether the walk that is going on has noted a held id.
+/// Returns whether the current walk has noted a held id.
 #[inline(always)]
 pub fn is_noted<S: Find, T: Held, A: Allocator>(graph: &Graph<S, T, A>, number: Number) -> bool
     requires { place_in number < held_len graph.now }
@@ -376,7 +390,7 @@ pub fn is_noted<S: Find, T: Held, A: Allocator>(graph: &Graph<S, T, A>, number: 
     graph.nodes[number.place()].turn == graph.turn
 }
 
-/// How many nodes that have another turn lack the bit of a place in their values.
+/// Counts the nodes of another turn whose value lacks the bit at `place`.
 fn nodes_lacking(nodes: &[Node<u32>], turn: u32, place: usize) -> usize
     requires few { place < 32 }
     ensures { result ≡ sum_by (node_lacks turn place) nodes.now }
@@ -390,8 +404,8 @@ fn nodes_lacking(nodes: &[Node<u32>], turn: u32, place: usize) -> usize
     lacking
 }
 
-/// How many of the held ids that the walk that is going on has not noted lack the bit of a place in
-/// their values.
+/// Counts the held ids that the current walk has not noted and whose value lacks the bit at
+/// `place`.
 pub fn unnoted_lacking<S: Find, A: Allocator>(graph: &Graph<S, u32, A>, place: usize) -> usize
     requires few { place < 32 }
     ensures once { IsDistinct same_id (held_ids graph.now) }
@@ -400,7 +414,7 @@ pub fn unnoted_lacking<S: Find, A: Allocator>(graph: &Graph<S, u32, A>, place: u
     nodes_lacking(&graph.nodes, graph.turn, place)
 }
 
-/// Takes the turn of each node from it.
+/// Sets the turn of each node to 0.
 fn forget_turns<T>(nodes: &mut [Node<T>])
     ensures { nodes.new ≡ map unturned nodes.old }
 {
@@ -409,7 +423,7 @@ fn forget_turns<T>(nodes: &mut [Node<T>])
     }
 }
 
-/// Begins a walk, which has marked nothing yet. What is held stays, with its data.
+/// Begins a walk, which has marked nothing yet. Held ids keep their data.
 pub fn begin_walk<S: Find, D: Drop, A: Allocator>(graph: &mut Graph<S, Commit<D, A>, A>)
     ensures source { graph.new.source ≡ graph.old.source }
     ensures held { graph.new.held ≡ graph.old.held }
@@ -423,7 +437,7 @@ pub fn begin_walk<S: Find, D: Drop, A: Allocator>(graph: &mut Graph<S, Commit<D,
     graph.turn = 1;
 }
 
-/// What the walk that is going on gave a commit; `None` where it gave it nothing.
+/// Returns what the current walk has recorded for a commit; `None` if it has recorded nothing.
 pub fn mark_of<S: Find, D: Drop + Copy, A: Allocator>(
     graph: &Graph<S, Commit<D, A>, A>,
     number: Number,
@@ -443,8 +457,9 @@ pub fn mark_of<S: Find, D: Drop + Copy, A: Allocator>(
     })
 }
 
-/// Gives a commit marks and a count of entries in the queue, as the walk that is going on. The
-/// marks are its data from then on.
+/// Records marks and a count of queue entries for a commit, in the current walk.
+///
+/// The marks are the data of the commit from then on.
 pub fn set_mark<S: Find, D: Drop, A: Allocator>(
     graph: &mut Graph<S, Commit<D, A>, A>,
     number: Number,
@@ -460,7 +475,7 @@ pub fn set_mark<S: Find, D: Drop, A: Allocator>(
     node.turn = turn;
 }
 
-/// The number of a held commit; `None` where it is not held.
+/// Returns the number of a held commit; `None` if the commit is not held.
 fn known<S: Find, D: Drop, A: Allocator>(
     graph: &Graph<S, Commit<D, A>, A>,
     id: &ObjectId,
@@ -470,27 +485,29 @@ fn known<S: Find, D: Drop, A: Allocator>(
         (λ _. IsTrue (is_some (entry_at (S.history graph.now.source) id.now))) }
     ensures ids { map (λ e. e.0) graph.now.marked ≡ held_ids graph.now }
 {
-    // What is held agrees with the source.
+    // A held commit agrees with the source.
     let _turn = graph.turn;
     number_of(graph, id)
 }
 
-/// The number of a commit, which is taken in from the source with data `new` unless it is held;
-/// `None` where the source lacks it.
+/// Returns the number of a commit, and loads it from the source if the graph does not hold it yet.
+///
+/// A newly loaded commit gets the data `new`. The answer is `None` if the source does not have the
+/// commit.
 ///
 /// # Errors
 ///
-/// As [`Graph::get_or_insert_full_commit`].
+/// Those of [`Graph::get_or_insert_full_commit`].
 pub fn take<S: Find, D: Drop, A: Allocator + Copy>(
     graph: &mut Graph<S, Commit<D, A>, A>,
     alloc: A,
     id: ObjectId,
     new: D,
 ) -> Result<Option<Number>, Error>
-    // A held id is not asked for.
+    // The source is not asked for a held id.
     ensures held { IsTrue (is_some (held_at graph.old id)) → IsOk result × (graph.new ≡ graph.old) }
 
-    // What is held then, and under which number.
+    // What is held afterwards, and under which number.
     ensures has { IfOk result
         (λ n. is_some n ≡ is_some (entry_at (S.history graph.old.source) id)) }
     ensures number { IfOk result (λ n. option_map place_in n ≡ number_at graph.new id) }
@@ -502,7 +519,7 @@ pub fn take<S: Find, D: Drop, A: Allocator + Copy>(
     ensures len { OnOk result
         (held_len graph.new ≡ len_after (S.history graph.old.source) graph.old id) }
 
-    // A refusal, and the source.
+    // The graph after an error, and the source.
     ensures refused { OnErr result
         ((graph.new.held ≡ graph.old.held) × (graph.new.marked ≡ graph.old.marked)) }
     ensures refused_data { OnErr result (SameData graph.old graph.new) }
@@ -520,7 +537,7 @@ pub fn take<S: Find, D: Drop, A: Allocator + Copy>(
     Ok(Some(add(graph, id, Commit::copy_of(found, new))?))
 }
 
-/// How many parents a commit has, with those that the source lacks.
+/// Returns how many parents a commit has, with those that the source does not have.
 fn parent_count<S: Find, D: Drop, A: Allocator>(
     graph: &Graph<S, Commit<D, A>, A>,
     number: Number,
@@ -532,7 +549,7 @@ fn parent_count<S: Find, D: Drop, A: Allocator>(
     value(graph, number).parents().len()
 }
 
-/// The parent of a commit at a place.
+/// Returns the parent of a commit at place `i`.
 fn parent<S: Find, D: Drop, A: Allocator>(
     graph: &Graph<S, Commit<D, A>, A>,
     number: Number,
@@ -547,7 +564,7 @@ fn parent<S: Find, D: Drop, A: Allocator>(
     value(graph, number).parents()[i]
 }
 
-/// Takes one parent in, and puts its number at the end where the source has it.
+/// Loads one parent, and appends its number to `into` if the source has it.
 fn take_parent<S: Find, D: Drop, A: Allocator + Copy>(
     graph: &mut Graph<S, Commit<D, A>, A>,
     alloc: A,
@@ -570,8 +587,8 @@ fn take_parent<S: Find, D: Drop, A: Allocator + Copy>(
     Ok(())
 }
 
-/// Takes the parents of a commit in, and puts the numbers of those that the source has into `into`,
-/// which is empty.
+/// Loads the parents of a commit, and appends to `into`, which is empty, the numbers of those that
+/// the source has.
 fn take_parents<S: Find, D: Drop + Copy, A: Allocator + Copy>(
     graph: &mut Graph<S, Commit<D, A>, A>,
     alloc: A,
@@ -599,7 +616,7 @@ fn take_parents<S: Find, D: Drop + Copy, A: Allocator + Copy>(
     Ok(())
 }
 
-/// The remembered numbers of the known parents of a commit; `None` where they are not remembered.
+/// Returns the remembered numbers of a commit's known parents; `None` if they are not remembered.
 fn row_of<S: Find, D: Drop, A: Allocator>(
     graph: &Graph<S, Commit<D, A>, A>,
     number: Number,
@@ -620,8 +637,7 @@ fn row_of<S: Find, D: Drop, A: Allocator>(
     }
 }
 
-/// Remembers the numbers of the known parents of a commit, where the source has all of its parents and there
-/// is memory for them.
+/// Remembers the numbers of a commit's parents, if the source has them all and there is memory.
 fn remember<S: Find, D: Drop, A: Allocator>(
     graph: &mut Graph<S, Commit<D, A>, A>,
     number: Number,
@@ -647,14 +663,17 @@ fn remember<S: Find, D: Drop, A: Allocator>(
     node.row = Some(kept);
 }
 
-/// Puts the numbers of those parents of a commit that the source has into `into`, in order, in
-/// place of what was there. Those that were not held are taken in, with data `new`, and marked by
-/// no walk. Where the source has all of them their numbers are remembered, if there is memory for them, until
-/// the graph is cleared.
+/// Replaces what is in `into` by the numbers of those parents of a commit that the source has, in
+/// order.
+///
+/// Parents that were not held are loaded with the data `new`, and marked by no walk. If the source
+/// has all the parents, their numbers are remembered until the graph is cleared, as far as there is
+/// memory.
 ///
 /// # Errors
 ///
-/// As [`Graph::get_or_insert_full_commit`]; also where `into` could not grow.
+/// Those of [`Graph::get_or_insert_full_commit`]; [`Error::OutOfMemory`] also if `into` could not
+/// grow.
 pub fn known_parents<S: Find, D: Drop + Copy, A: Allocator + Copy>(
     graph: &mut Graph<S, Commit<D, A>, A>,
     alloc: A,

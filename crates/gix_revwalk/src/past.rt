@@ -1,8 +1,11 @@
-//! What a graph remembers of ids: where each was last held, and what the source told of its commit. It stays
-//! where the graph is cleared, so that a further walk need not ask the source again, nor a hash.
+//! What a graph remembers about ids: the number under which each was last held, and what the source
+//! returned for it.
 //!
-//! A spot is the place of an id in it. A spot that is handed in is a guess: the id that stands there is
-//! compared, and a guess that is wrong costs a look-up by hash.
+//! It stays when the graph is cleared, so that a further walk need not ask the source again, nor
+//! look up a hash.
+//!
+//! The *spot* of an id is its place in this memory. A spot that a caller passes is a guess: the id
+//! stored there is compared, and a wrong guess costs a look-up by hash.
 
 ghost use Rattle.std.specs.Prelude.{◌≡◌, ◌≤◌, ◌+◌, [], is_some, false, cond, Some, None, IfSome, IfOk, OnOk, OnErr, map, take, drop, length};
 ghost use Rattle.std.specs.Option.{option_map};
@@ -21,15 +24,15 @@ use std::collections::HashMap;
 use std::hash::{BuildHasherDefault, FoldHasher};
 use std::marker::Model;
 
-/// What is remembered of one id.
+/// What is remembered about one id.
 #[derive(Clone, Copy)]
 pub(crate) struct Memory {
     pub(crate) id: ObjectId,
     /// Its number when it was last held.
     pub(crate) home: Option<Number>,
-    /// Where its parents stand, once the source has told of its commit.
+    /// Where its parents are stored, once the source has returned its commit.
     pub(crate) row: Option<Row>,
-    /// Its time, where there is a row; 0 otherwise.
+    /// Its time if there is a row; 0 otherwise.
     pub(crate) time: i64,
 }
 
@@ -40,10 +43,10 @@ pub struct Link {
     pub spot: usize,
 }
 
-/// No guess: there is no such spot.
+/// Stands for no guess: no id has this spot.
 pub const NOWHERE: usize = usize::MAX;
 
-/// Eight bytes of an id as a number, from a place on.
+/// Returns eight bytes of an id, from a place on, as a number.
 #[inline(always)]
 fn word(id: &ObjectId, at: usize) -> u64
     requires { at + 8 ≤ 20 }
@@ -64,7 +67,7 @@ fn word(id: &ObjectId, at: usize) -> u64
     ])
 }
 
-/// Whether two ids have the same bytes, by words of them, the last of which overlap.
+/// Returns whether two ids have the same bytes, by three words of which the last two overlap.
 #[inline(always)]
 pub(crate) fn is_same(a: &ObjectId, b: &ObjectId) -> bool
     ensures { result ≡ same_id a.now b.now }
@@ -78,14 +81,15 @@ pub(crate) fn is_same(a: &ObjectId, b: &ObjectId) -> bool
     word(a, 12) == word(b, 12)
 }
 
-/// What is remembered, by spots, with an index from ids to their spots, and the parents of all commits of
-/// which the source told, row by row.
+/// All that is remembered, in the order of spots, with an index from ids to spots.
+///
+/// It also has the parents of all commits that the source returned, row by row.
 #[derive(Drop)]
 pub(crate) struct Past<A: Allocator> {
     memories: Vec<Memory, A>,
     index: HashMap<ObjectId, Number, BuildHasherDefault<FoldHasher>, A>,
     parents: Vec<ObjectId, A>,
-    /// A guess at the spot of each parent, as far as they were looked up.
+    /// A guess at the spot of each parent, as far as these were looked up.
     guesses: Vec<usize, A>,
 }
 
@@ -101,7 +105,7 @@ impl<A: Allocator> Model for Past<A> {
 }
 
 impl<A: Allocator + Copy> Past<A> {
-    /// Nothing is remembered.
+    /// Creates an empty memory.
     pub(crate) fn new(alloc: A) -> Self
         ensures homes { (q : ObjectId) → home_in result q ≡ None }
         ensures told { (q : ObjectId) → told_in result q ≡ None }
@@ -116,7 +120,7 @@ impl<A: Allocator + Copy> Past<A> {
 }
 
 impl<A: Allocator> Past<A> {
-    /// The spot of an id; `None` where it is not remembered.
+    /// Returns the spot of an id; `None` if the id is not remembered.
     #[inline(always)]
     fn spot(&self, id: &ObjectId, guess: usize) -> Option<usize>
         ensures { result ≡ spot_in self.now id.now }
@@ -132,7 +136,7 @@ impl<A: Allocator> Past<A> {
         }
     }
 
-    /// The number that an id had when it was last held.
+    /// Returns the number that an id had when it was last held.
     #[inline(always)]
     pub(crate) fn home(&self, id: &ObjectId, guess: usize) -> Option<Number>
         ensures { option_map place_in result ≡ home_in self.now id.now }
@@ -143,7 +147,7 @@ impl<A: Allocator> Past<A> {
         }
     }
 
-    /// The spot of an id and its time, where the source has told of its commit.
+    /// Returns the spot of an id and its time, if the source has returned its commit.
     #[inline(always)]
     pub(crate) fn recall(&self, id: &ObjectId, guess: usize) -> Option<(usize, i64)>
         ensures time { option_map (λ r. r.1) result ≡ option_map (λ t. t.time) (told_in self.now id.now) }
@@ -163,7 +167,7 @@ impl<A: Allocator> Past<A> {
 }
 
 impl<A: Allocator + Copy> Past<A> {
-    /// The spot of an id, which is remembered from then on; nothing more is known of one that is new.
+    /// Returns the spot of an id, and remembers the id if it is new, with nothing more about it.
     fn enter(&mut self, id: ObjectId, guess: usize) -> Result<usize, AllocError>
         ensures spot { IfOk result (λ k. spot_in self.new id ≡ Some k) }
         ensures homes { SameHomes self.old self.new }
@@ -199,7 +203,7 @@ impl<A: Allocator + Copy> Past<A> {
         memory.home = Some(home);
     }
 
-    /// Remembers the number of an id. Its spot.
+    /// Remembers the number of an id, and returns its spot.
     pub(crate) fn settle(
         &mut self,
         id: ObjectId,
@@ -216,7 +220,7 @@ impl<A: Allocator + Copy> Past<A> {
         Ok(spot)
     }
 
-    /// Remembers what the source told of the commit of an id. Its spot.
+    /// Remembers what the source returned for an id, and returns its spot.
     pub(crate) fn learn(
         &mut self,
         id: ObjectId,
@@ -238,7 +242,7 @@ impl<A: Allocator + Copy> Past<A> {
         Ok(spot)
     }
 
-    /// A guess at the spot of the parent at a place. One that was looked up is kept.
+    /// Returns a guess at the spot of the parent at a place, and keeps one that it looked up.
     #[inline(always)]
     fn guess(&mut self, at: usize, id: &ObjectId) -> Result<usize, AllocError>
         ensures { self.new ≡ self.old }
@@ -259,7 +263,8 @@ impl<A: Allocator + Copy> Past<A> {
         Ok(spot)
     }
 
-    /// Where the parents of an id stand; `None` where the source has not told of its commit.
+    /// Returns where the parents of an id are stored; `None` if the source has not returned its
+    /// commit.
     #[inline(always)]
     fn row(&self, id: &ObjectId, guess: usize) -> Option<Row>
         ensures parents { option_map (λ r. take r.len (drop r.start self.now.parents)) result
@@ -272,7 +277,7 @@ impl<A: Allocator + Copy> Past<A> {
         }
     }
 
-    /// Puts the parents of a row into `into`, which is empty, each with a guess at its spot.
+    /// Appends the parents of a row to `into`, which is empty, each with a guess at its spot.
     #[inline(always)]
     fn copy_row(&mut self, row: Row, into: &mut Vec<Link, A>) -> Result<(), AllocError>
         requires fits { row.start + row.len ≤ length self.old.parents }
@@ -292,8 +297,9 @@ impl<A: Allocator + Copy> Past<A> {
         Ok(())
     }
 
-    /// Puts the parents of an id into `into`, in place of what was there. `false`, and none, where the source
-    /// has not told of its commit.
+    /// Replaces what is in `into` by the parents of an id, and returns `true`.
+    ///
+    /// Returns `false`, and no parents, if the source has not returned the commit of the id.
     #[inline(always)]
     pub(crate) fn parents_of(
         &mut self,

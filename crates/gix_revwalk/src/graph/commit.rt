@@ -1,4 +1,4 @@
-//! Held commits, and a graph of them: what was taken from the source, with data beside each.
+//! Commits that a graph holds, with the caller's data, and calls that load them from the source.
 
 ghost use Rattle.std.specs.Prelude.{◌≡◌, IfOk, IsOkAnd, IsTrue, is_some, map};
 ghost use Rattle.std.specs.Option.{option_copied_mut, option_map};
@@ -12,8 +12,9 @@ use crate::numbers;
 use gix_base::hash::ObjectId;
 use std::alloc::{Allocator, Global};
 
-/// A commit that a graph holds. Its parents, time and generation are the source's, and can be read
-/// but not written; the data beside them is the caller's.
+/// A commit that a graph holds, with data of the caller.
+///
+/// Its parents, time and generation are the source's. They can be read but not written.
 #[derive(Drop)]
 #[derive_where(Debug, PartialEq, Eq; D)]
 pub struct Commit<D: Drop, A: Allocator = Global> {
@@ -33,7 +34,7 @@ impl<D: Drop, A: Allocator> Commit<D, A> {
     ghost use Rattle.gix_revwalk.specs.Commit.{copied_entry, data_of};
     ghost use Rattle.gix_revwalk.specs.Held.{entry_of};
 
-    /// What a source gave, with data beside it.
+    /// Makes a held commit of what a source returned, with the data `new`.
     pub(crate) fn copy_of(found: SourceCommit<A>, new: D) -> Self
         ensures entry { copied_entry result ≡ entry_of found }
         ensures payload { data_of result ≡ new }
@@ -51,28 +52,28 @@ impl<D: Drop, A: Allocator> Commit<D, A> {
         }
     }
 
-    /// Its parents, in the source's order; also those that the source lacks.
+    /// Returns its parents in the source's order, also those that the source does not have.
     pub fn parents(&self) -> &[ObjectId]
         ensures { result.now ≡ (copied_entry self.now).parents }
     {
         &self.parents
     }
 
-    /// Its time, in seconds since the Unix epoch.
+    /// Returns its time, in seconds since the Unix epoch.
     pub fn commit_time(&self) -> i64
         ensures { result ≡ (copied_entry self.now).time }
     {
         self.time
     }
 
-    /// Its generation, where the source knows one.
+    /// Returns its generation number; `None` if the source knows none.
     pub fn generation(&self) -> Option<u32>
         ensures { result ≡ (copied_entry self.now).generation }
     {
         self.generation
     }
 
-    /// The data beside it.
+    /// Returns its data.
     pub fn data(&self) -> &D
         ensures { result.now ≡ data_of self.now }
     {
@@ -80,7 +81,7 @@ impl<D: Drop, A: Allocator> Commit<D, A> {
     }
 }
 
-/// Gives the commit of each node the data `value`.
+/// Sets the data of each node's commit to `value`.
 fn give_all<D: Drop + Copy, A: Allocator>(nodes: &mut [Node<Commit<D, A>>], value: D)
     ensures { nodes.new ≡ map (given value) nodes.old }
 {
@@ -94,21 +95,25 @@ impl<S: Find, D: Drop, A: Allocator + Copy> Graph<S, Commit<D, A>, A> {
     ghost use Rattle.gix_revwalk.specs.Data.{TakesIn, data_at, len_after};
     ghost use Rattle.gix_base.specs.declared.hash.ObjectId.{ObjectId};
 
-    /// The place of the commit under `id`, which is taken from the source with data `new` unless it
-    /// is held already. [`FullCommit::data`] of the answer lends its data, and is `None` where the
-    /// source lacks the commit.
+    /// Looks up the commit `id`, and loads it from the source if the graph does not hold it yet.
+    ///
+    /// A newly loaded commit gets the data `new`. A held one keeps its data, and the source is not
+    /// asked. Use [`FullCommit::data`] to read and write the data. It returns `None` if the source
+    /// does not have the commit.
     ///
     /// # Errors
     ///
-    /// [`Error::Source`] where the source failed, [`Error::OutOfMemory`] where it or the graph had
-    /// no memory. What was held is then still held with its data, and nothing else is.
+    /// - [`Error::Source`]: the source failed.
+    /// - [`Error::OutOfMemory`]: an allocation failed, in the source or in the graph.
+    ///
+    /// The graph then holds what it held before, with the same data, and nothing else.
     pub fn get_or_insert_full_commit(
         &mut self,
         alloc: A,
         id: ObjectId,
         new: D,
     ) -> Result<FullCommit<'_, S, D, A>, Error>
-        // The graph ends as the one in the place; what it ends as after a refusal.
+        // How the graph ends: as the one in the place, or what it is after an error.
         ensures* rests { sem 𝓛 (rests_full S.row D.row A.row S.Find A.Allocator self.entry result) }
 
         // The place: this graph, and this id.
@@ -116,12 +121,12 @@ impl<S: Find, D: Drop, A: Allocator + Copy> Graph<S, Commit<D, A>, A> {
             (λ p. (graph_of p).ghost_name ≡ self.entry.ghost_name) }
         ensures id { IfOk result (λ p. id_of p ≡ id) }
 
-        // A held commit is not asked for.
+        // The source is not asked for a held commit.
         ensures held { IsTrue (is_some (held_at self.old id))
             → IsOkAnd result (λ p. (graph_of p).now ≡ self.old) }
 
-        // The graph in the place: the source has answered, and the commit is held where it has
-        // one.
+        // The graph in the place: the source has answered, and the commit is held if the source has
+        // it.
         ensures history { IfOk result
             (λ p. S.history (graph_of p).now.source ≡ S.history self.old.source) }
         ensures count { IfOk result
@@ -139,7 +144,7 @@ impl<S: Find, D: Drop, A: Allocator + Copy> Graph<S, Commit<D, A>, A> {
         Ok(FullCommit { graph: self, id })
     }
 
-    /// Gives every held commit the data `value`. The same commits are held.
+    /// Sets the data of every held commit to `value`. The same commits are held.
     pub fn clear_commit_data(&mut self, value: D)
     where
         D: Copy,
@@ -151,7 +156,7 @@ impl<S: Find, D: Drop, A: Allocator + Copy> Graph<S, Commit<D, A>, A> {
         give_all(&mut self.nodes, value);
     }
 
-    /// The data of a held commit; `None` where the id is not held.
+    /// Lends the data of the held commit `id`; `None` if `id` is not held.
     pub fn data_mut(&mut self, id: &ObjectId) -> Option<&mut D>
         ensures* writes_back { sem 𝓛
             (lends_data S.row D.row A.row S.Find A.Allocator self.entry id.now result) }
@@ -165,10 +170,10 @@ impl<S: Find, D: Drop, A: Allocator + Copy> Graph<S, Commit<D, A>, A> {
     }
 }
 
-/// The place in a graph of a commit that was asked for ([`Graph::get_or_insert_full_commit`]).
+/// The place in a graph of a commit that was looked up ([`Graph::get_or_insert_full_commit`]).
 ///
-/// A caller that has written through [`FullCommit::data`] knows what the graph is then, which it
-/// could not know if the `Option<&mut D>` itself came inside a `Result`.
+/// A caller that has written through [`FullCommit::data`] knows what the graph is then. It could
+/// not know this if the call returned the `Option<&mut D>` itself inside a `Result`.
 #[derive(Drop)]
 pub struct FullCommit<'a, S: Find, D: Drop, A: Allocator> {
     graph: &'a mut Graph<S, Commit<D, A>, A>,
@@ -179,7 +184,7 @@ impl<'a, S: Find, D: Drop, A: Allocator + Copy> FullCommit<'a, S, D, A> {
     ghost use Rattle.gix_revwalk.specs.Lends.{lends_place, graph_of, id_of};
     ghost use Rattle.gix_revwalk.specs.Data.{data_at};
 
-    /// The data of the commit; none where the source lacks it.
+    /// Lends the data of the commit; `None` if the source does not have the commit.
     pub fn data(self) -> Option<&'a mut D>
         ensures* writes_back { sem 𝓛
             (lends_place S.row D.row A.row S.Find A.Allocator self.entry result) }

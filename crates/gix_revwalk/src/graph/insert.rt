@@ -1,4 +1,4 @@
-//! Sources that take commits, and graphs of commits over them.
+//! Sources to which commits can be added, and graphs of commits over them.
 
 ghost use Rattle.std.specs.Prelude.{◌≡◌, IfErr, OnOk, OnErr, Some, None, if◌then◌else◌};
 ghost use Rattle.gix_revwalk.specs.History.{entry_at, same_id};
@@ -8,24 +8,24 @@ use crate::graph::{Commit, Find, Graph, SourceCommit};
 use gix_base::hash::ObjectId;
 use std::alloc::{Allocator, Global};
 
-/// Why a commit was not put into a source. It comes back.
+/// Why a source did not take a commit. The commit is handed back.
 #[derive(Drop)]
 #[derive_where(Debug, PartialEq, Eq)]
 pub enum InsertError<A: Allocator = Global> {
-    /// The source has a commit under that id already, and keeps it.
+    /// The source already has a commit with this id, and keeps it.
     AlreadyThere(SourceCommit<A>),
-    /// There was no memory.
+    /// An allocation failed.
     OutOfMemory(SourceCommit<A>),
 }
 
-/// A source that takes commits: its history grows by one where a call says so, and by nothing else.
+/// A source to which commits can be added.
 ///
-/// An implementor names which commit it is that it is handed (`entry`), and what a refusal says
-/// (`says_why`).
+/// The history grows by one commit in a call that says so, and by nothing else. An implementor
+/// names the entry that a commit stands for (`entry`), and what an error says (`says_why`).
 pub trait Insert: Find {
     ghost use Rattle.gix_revwalk.specs.History.{Entry, History};
 
-    /// A commit as it is handed over.
+    /// A commit in the form in which it is handed over.
     type Commit: Drop;
 
     /// Why a commit was not taken.
@@ -35,13 +35,15 @@ pub trait Insert: Find {
 
     ghost says_why: { History → ObjectId → Self.Commit → Self.Refused → Type 0 };
 
-    /// Puts a commit under an id that has none yet. A look-up finds it from then on, and each other
-    /// commit as before; the count of faults stays.
+    /// Adds a commit under an id that the history does not have yet.
+    ///
+    /// From then on a look-up finds it, and every other commit as before. The fault count is
+    /// unchanged.
     ///
     /// # Errors
     ///
-    /// Where the history has a commit under `id`, or there was no memory. The source is then as it
-    /// was.
+    /// Fails if the history has a commit `id`, or if an allocation failed. The source is then
+    /// unchanged.
     fn insert(&mut self, id: ObjectId, commit: Self::Commit) -> Result<(), Self::Refused>
         ensures new { OnOk result (entry_at (Self.history self.old) id ≡ None) }
         ensures put { OnOk result ((q : ObjectId)
@@ -53,12 +55,14 @@ pub trait Insert: Find {
 }
 
 impl<S: Insert, D: Drop, A: Allocator + Copy> Graph<S, Commit<D, A>, A> {
-    /// Puts a commit under an id for which the source has none yet. What is held stays held, with its data, and
-    /// the next call finds the commit, also as a parent that the source lacked until then.
+    /// Adds a commit to the source, under an id that the source does not have yet.
+    ///
+    /// Held commits stay held, with their data. The next call finds the new commit, also as a
+    /// parent that the source did not have until then.
     ///
     /// # Errors
     ///
-    /// As [`Insert::insert`]; the graph is then as it was.
+    /// Those of [`Insert::insert`]. The graph is then unchanged.
     pub fn insert(&mut self, id: ObjectId, commit: S::Commit) -> Result<(), S::Refused>
         ensures new { OnOk result (entry_at (S.history self.old.source) id ≡ None) }
         ensures put { OnOk result ((q : ObjectId)
@@ -66,6 +70,7 @@ impl<S: Insert, D: Drop, A: Allocator + Copy> Graph<S, Commit<D, A>, A> {
             ≡ (if same_id id q then Some (S.entry commit)
             else entry_at (S.history self.old.source) q)) }
         ensures held { self.new.held ≡ self.old.held }
+        // For walks: what the current walk has marked is unchanged.
         ensures marked { self.new.marked ≡ self.old.marked }
         ensures refused { OnErr result (self.new ≡ self.old) }
         ensures cause { IfErr result (S.says_why (S.history self.old.source) id commit) }

@@ -1,4 +1,4 @@
-//! A graph of numbers, as the marks of `describe` are.
+//! Graphs whose values are numbers, such as the marks of `describe`.
 
 ghost use Rattle.std.specs.Prelude.{◌≡◌, ◌+◌, IfOk, IfErr, OnOk, OnErr, Some};
 ghost use Rattle.std.specs.Prelude.{is_some, if◌then◌else◌};
@@ -23,12 +23,13 @@ impl Held for u32 {
 impl<S: Find, A: Allocator + Copy> Graph<S, u32, A> {
     ghost use Rattle.gix_revwalk.specs.MarkLends.{lends_mark};
 
-    /// Holds `id` with `value`, whether or not the source has it. The value held before is the
-    /// answer, `None` where there was none.
+    /// Holds `id` with `value`, whether or not the source has it, and returns its old value.
+    ///
+    /// The answer is `None` if `id` was not held.
     ///
     /// # Errors
     ///
-    /// [`Error::OutOfMemory`] alone. The graph is then as it was.
+    /// Only [`Error::OutOfMemory`]: an allocation failed. The graph is then unchanged.
     pub fn insert(&mut self, id: ObjectId, value: u32) -> Result<Option<u32>, Error>
         ensures source { self.new.source ≡ self.old.source }
         ensures old { IfOk result (λ old. old ≡ held_at self.old id) }
@@ -46,7 +47,7 @@ impl<S: Find, A: Allocator + Copy> Graph<S, u32, A> {
         Ok(None)
     }
 
-    /// The held value; `None` where the id is not held.
+    /// Lends the value of `id`; `None` if `id` is not held.
     pub fn get_mut(&mut self, id: &ObjectId) -> Option<&mut u32>
         ensures* writes_back { sem 𝓛
             (lends_mark S.row A.row S.Find A.Allocator self.entry id.now result) }
@@ -59,7 +60,7 @@ impl<S: Find, A: Allocator + Copy> Graph<S, u32, A> {
         Some(&mut node.value)
     }
 
-    /// Those of the parents that the source has, with their times.
+    /// Returns those of `parents` that the source has, with their times.
     fn with_times(
         &mut self,
         alloc: A,
@@ -81,16 +82,22 @@ impl<S: Find, A: Allocator + Copy> Graph<S, u32, A> {
         Ok(all)
     }
 
-    /// The parents of a commit that are followed and that the source has, with their times in
-    /// seconds, in order; `None` where the source lacks the commit.
+    /// Returns those parents of a commit that are followed and that the source has, with their
+    /// times.
     ///
-    /// With `first_parent` the first of its parents is followed alone, and nothing where the source
-    /// lacks that one: git-describe, "--first-parent". No id becomes held.
+    /// They are in order, and the times are in seconds. The answer is `None` if the source does not
+    /// have the commit.
+    ///
+    /// With `first_parent` only the first parent is followed (git-describe, "--first-parent"). If
+    /// the source does not have that one, no parent is followed. No id becomes held.
     ///
     /// # Errors
     ///
-    /// [`Error::Source`] only where the source failed in this call, or its count of faults is full;
-    /// [`Error::OutOfMemory`] where there was no memory. The graph holds what it held.
+    /// - [`Error::Source`]: the source failed. Its [fault count](crate#fault-count) has grown by
+    ///   one, or is `u64::MAX`.
+    /// - [`Error::OutOfMemory`]: an allocation failed.
+    ///
+    /// The graph holds what it held.
     pub fn followed_parents(
         &mut self,
         alloc: A,
