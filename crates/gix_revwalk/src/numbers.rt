@@ -152,14 +152,19 @@ fn push_node<T: Drop, A: Allocator>(
         ++ record { id = id; row = None; turn = 0; queued = 0; value = value } ∷ []) }
     ensures refused { OnErr result (nodes.new.items ≡ nodes.old.items) }
 {
-    let number = Number::at(nodes.len())?;
-    nodes.push(Node {
+    let Ok(number) = Number::at(nodes.len()) else {
+        return Err(AllocError);
+    };
+    let node = Node {
         id,
         row: None,
         turn: 0,
         queued: 0,
         value,
-    })?;
+    };
+    if nodes.push(node).is_err() {
+        return Err(AllocError);
+    }
     Ok(number)
 }
 
@@ -255,7 +260,9 @@ pub fn hold_told<S: Find, T: Held, A: Allocator + Copy>(
     let Some((spot, time)) = graph.past.recall(&id, guess) else {
         return Ok(None);
     };
-    let number = push_node(&mut graph.nodes, id, value)?;
+    let Ok(number) = push_node(&mut graph.nodes, id, value) else {
+        return Err(AllocError);
+    };
     graph.past.settle_at(id, spot, number);
     Ok(Some((time, number, spot)))
 }
