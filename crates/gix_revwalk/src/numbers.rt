@@ -190,8 +190,10 @@ pub fn add<S: Find, T: Held, A: Allocator + Copy>(
         ((q : ObjectId) → held_at graph.old q ≡ None → noted_at graph.old q ≡ false) }
     ensures refused { OnErr result (graph.new ≡ graph.old) }
 {
-    let (number, _spot) = add_near(graph, id, NOWHERE, value)?;
-    Ok(number)
+    match add_near(graph, id, NOWHERE, value) {
+        Ok((number, _)) => Ok(number),
+        Err(_) => Err(AllocError),
+    }
 }
 
 /// Holds an id that is not held yet, by a guess at its spot, and returns its number and its spot.
@@ -217,7 +219,9 @@ pub fn add_near<S: Find, T: Held, A: Allocator + Copy>(
         ((q : ObjectId) → held_at graph.old q ≡ None → noted_at graph.old q ≡ false) }
     ensures refused { OnErr result (graph.new ≡ graph.old) }
 {
-    let number = push_node(&mut graph.nodes, id, value)?;
+    let Ok(number) = push_node(&mut graph.nodes, id, value) else {
+        return Err(AllocError);
+    };
     match graph.past.settle(id, guess, number) {
         Ok(spot) => Ok((number, spot)),
         Err(_) => {
@@ -276,8 +280,7 @@ fn learn<S: Find, T: Held, A: Allocator + Copy>(
     requires { entry_at (S.history graph.old.source) id ≡ Some (entry_of found.now) }
     ensures { graph.new ≡ graph.old }
 {
-    let spot = graph.past.learn(id, found.time, &found.parents)?;
-    Ok(spot)
+    graph.past.learn(id, found.time, &found.parents)
 }
 
 /// Asks the source for the time of a commit, and returns it with the spot of the id.
@@ -301,11 +304,14 @@ pub fn ask_time<S: Find, T: Held, A: Allocator + Copy>(
     ensures count { S.fault_count graph.new.source
         ≡ count_after (is_source_fault result) (S.fault_count graph.old.source) }
 {
-    let Some(found) = graph.ask(alloc, id)? else {
-        return Ok(None);
-    };
-    let spot = learn(graph, id, &found)?;
-    Ok(Some((found.time, spot)))
+    match graph.ask(alloc, id) {
+        Ok(Some(found)) => match learn(graph, id, &found) {
+            Ok(spot) => Ok(Some((found.time, spot))),
+            Err(_) => Err(Error::OutOfMemory),
+        },
+        Ok(None) => Ok(None),
+        Err(error) => Err(error),
+    }
 }
 
 /// Replaces what is in `into` by the parents of a commit, in order, each with a guess at its spot.
@@ -332,14 +338,37 @@ pub fn parents_near<S: Find, T: Held, A: Allocator + Copy>(
     ensures count { S.fault_count graph.new.source
         ≡ count_after (is_source_fault result) (S.fault_count graph.old.source) }
 {
-    if graph.past.parents_of(id, guess, into)? {
-        return Ok(());
+    match graph.past.parents_of(id, guess, into) {
+        Ok(true) => Ok(()),
+        Ok(false) => ask_parents(graph, alloc, *id, into),
+        Err(_) => Err(Error::OutOfMemory),
     }
-    let Some(found) = graph.ask(alloc, *id)? else {
-        return Ok(());
-    };
-    copy_parents(&found.parents, into)?;
-    Ok(())
+}
+
+/// Asks the source for the parents of a commit, and appends them to `into`, which is empty.
+fn ask_parents<S: Find, T: Held, A: Allocator + Copy>(
+    graph: &mut Graph<S, T, A>,
+    alloc: A,
+    id: ObjectId,
+    into: &mut Vec<Link, A>,
+) -> Result<(), Error>
+    requires { into.old.items ≡ [] }
+    ensures held { graph.new.held ≡ graph.old.held }
+    ensures marked { graph.new.marked ≡ graph.old.marked }
+    ensures history { S.history graph.new.source ≡ S.history graph.old.source }
+    ensures parents { OnOk result (map link_id into.new.items
+        ≡ parents_in (entry_at (S.history graph.old.source) id)) }
+    ensures count { S.fault_count graph.new.source
+        ≡ count_after (is_source_fault result) (S.fault_count graph.old.source) }
+{
+    match graph.ask(alloc, id) {
+        Ok(Some(found)) => match copy_parents(&found.parents, into) {
+            Ok(()) => Ok(()),
+            Err(_) => Err(Error::OutOfMemory),
+        },
+        Ok(None) => Ok(()),
+        Err(error) => Err(error),
+    }
 }
 
 /// Appends parents to `into`, which is empty, without guesses.
@@ -351,10 +380,13 @@ fn copy_parents<A: Allocator>(
     ensures { OnOk result (map link_id into.new.items ≡ parents.now) }
 {
     for parent in parents {
-        into.push(Link {
+        let link = Link {
             id: *parent,
             spot: NOWHERE,
-        })?;
+        };
+        let Ok(()) = into.push(link) else {
+            return Err(AllocError);
+        };
     }
     Ok(())
 }
@@ -588,10 +620,14 @@ fn take_parent<S: Find, D: Drop, A: Allocator + Copy>(
     ensures count { S.fault_count graph.new.source
         ≡ count_after (is_source_fault result) (S.fault_count graph.old.source) }
 {
-    if let Some(number) = take(graph, alloc, id, new)? {
-        into.push(number)?;
+    match take(graph, alloc, id, new) {
+        Ok(Some(number)) => match into.push(number) {
+            Ok(()) => Ok(()),
+            Err(_) => Err(Error::OutOfMemory),
+        },
+        Ok(None) => Ok(()),
+        Err(error) => Err(error),
     }
-    Ok(())
 }
 
 /// Loads the parents of a commit, and appends to `into`, which is empty, the numbers of those that
@@ -618,7 +654,9 @@ fn take_parents<S: Find, D: Drop + Copy, A: Allocator + Copy>(
 {
     for i in 0..parent_count(graph, number) {
         let parent = parent(graph, number, i);
-        take_parent(graph, alloc, parent, new, into)?;
+        if let Err(error) = take_parent(graph, alloc, parent, new, into) {
+            return Err(error);
+        }
     }
     Ok(())
 }
@@ -703,10 +741,14 @@ pub fn known_parents<S: Find, D: Drop + Copy, A: Allocator + Copy>(
 {
     into.clear();
     if let Some(row) = row_of(graph, number) {
-        into.extend_from_slice(row)?;
-        return Ok(());
+        return match into.extend_from_slice(row) {
+            Ok(()) => Ok(()),
+            Err(_) => Err(Error::OutOfMemory),
+        };
     }
-    take_parents(graph, alloc, number, new, into)?;
+    if let Err(error) = take_parents(graph, alloc, number, new, into) {
+        return Err(error);
+    }
     remember(graph, number, into);
     Ok(())
 }

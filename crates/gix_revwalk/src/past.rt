@@ -177,13 +177,18 @@ impl<A: Allocator + Copy> Past<A> {
             return Ok(spot);
         }
         let spot = self.memories.len();
-        let number = Number::at(spot)?;
-        self.memories.push(Memory {
+        let Ok(number) = Number::at(spot) else {
+            return Err(AllocError);
+        };
+        let memory = Memory {
             id,
             home: None,
             row: None,
             time: 0,
-        })?;
+        };
+        let Ok(()) = self.memories.push(memory) else {
+            return Err(AllocError);
+        };
         if self.index.insert(id, number).is_err() {
             self.memories.pop();
             return Err(AllocError);
@@ -215,7 +220,9 @@ impl<A: Allocator + Copy> Past<A> {
         ensures told { SameTold self.old self.new }
         ensures refused { OnErr result (SameHomes self.old self.new) }
     {
-        let spot = self.enter(id, guess)?;
+        let Ok(spot) = self.enter(id, guess) else {
+            return Err(AllocError);
+        };
         self.settle_at(id, spot, home);
         Ok(spot)
     }
@@ -232,10 +239,16 @@ impl<A: Allocator + Copy> Past<A> {
         ensures homes { SameHomes self.old self.new }
         ensures refused { OnErr result (SameTold self.old self.new) }
     {
-        let spot = self.enter(id, NOWHERE)?;
+        let Ok(spot) = self.enter(id, NOWHERE) else {
+            return Err(AllocError);
+        };
         let start = self.parents.len();
-        let row = Row::of(start, parents.len())?;
-        self.parents.extend_from_slice(parents)?;
+        let Ok(row) = Row::of(start, parents.len()) else {
+            return Err(AllocError);
+        };
+        let Ok(()) = self.parents.extend_from_slice(parents) else {
+            return Err(AllocError);
+        };
         let memory = &mut self.memories[spot];
         memory.row = Some(row);
         memory.time = time;
@@ -256,7 +269,9 @@ impl<A: Allocator + Copy> Past<A> {
             return Ok(NOWHERE);
         };
         let spot = number.place();
-        self.guesses.resize(self.parents.len(), NOWHERE)?;
+        let Ok(()) = self.guesses.resize(self.parents.len(), NOWHERE) else {
+            return Err(AllocError);
+        };
         if let Some(guess) = self.guesses.get_mut(at) {
             *guess = spot;
         }
@@ -291,8 +306,12 @@ impl<A: Allocator + Copy> Past<A> {
             let _count = self.parents.len();
             let at = row.start as usize + i;
             let id = self.parents[at];
-            let spot = self.guess(at, &id)?;
-            into.push(Link { id, spot })?;
+            let Ok(spot) = self.guess(at, &id) else {
+                return Err(AllocError);
+            };
+            let Ok(()) = into.push(Link { id, spot }) else {
+                return Err(AllocError);
+            };
         }
         Ok(())
     }
@@ -317,7 +336,9 @@ impl<A: Allocator + Copy> Past<A> {
         let Some(row) = self.row(id, guess) else {
             return Ok(false);
         };
-        self.copy_row(row, into)?;
-        Ok(true)
+        match self.copy_row(row, into) {
+            Ok(()) => Ok(true),
+            Err(_) => Err(AllocError),
+        }
     }
 }

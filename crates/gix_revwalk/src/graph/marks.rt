@@ -43,8 +43,10 @@ impl<S: Find, A: Allocator + Copy> Graph<S, u32, A> {
         if let Some(number) = numbers::number_of(self, &id) {
             return Ok(Some(numbers::put(self, number, value)));
         }
-        numbers::add(self, id, value)?;
-        Ok(None)
+        match numbers::add(self, id, value) {
+            Ok(_) => Ok(None),
+            Err(_) => Err(Error::OutOfMemory),
+        }
     }
 
     /// Lends the value of `id`; `None` if `id` is not held.

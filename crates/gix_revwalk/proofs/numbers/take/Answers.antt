@@ -89,3 +89,33 @@ returns-in-Some-clause-marks g c q = refl
 
 pub returns-in-Some-clause-count : goal.returns-in-Some-clause-count
 returns-in-Some-clause-count g c = refl
+
+pub returns-clause-has : goal.returns-clause-has
+returns-clause-has g c = ap is_some (rw c.in-Some-2.is at c.in_ok-found.ensures.found)
+
+pub returns-clause-history : goal.returns-clause-history
+returns-clause-history g c = ap g.S.Find.history c.add.ensures.source ∙ c.ask.ensures.history
+
+pub returns-clause-count : goal.returns-clause-count
+returns-clause-count g c = ap g.S.Find.fault_count c.add.ensures.source ∙ c.in_ok-found.ensures.count
+
+pub returns-in_default-2-clause-has : goal.returns-in_default-2-clause-has
+returns-in_default-2-clause-has g c = ap is_some (rw c.in_default-2.is at c.in_ok-found.ensures.found)
+
+pub returns-in_default-2-clause-number : goal.returns-in_default-2-clause-number
+returns-in_default-2-clause-number g c = rw c.ask.ensures.held c.in_default.ensures.number
+
+pub returns-in_default-2-clause-history : goal.returns-in_default-2-clause-history
+returns-in_default-2-clause-history g c = c.ask.ensures.history
+
+pub returns-in_default-2-clause-count : goal.returns-in_default-2-clause-count
+returns-in_default-2-clause-count g c = c.in_ok-found.ensures.count
+
+pub returns-in_err-found-clause-history : goal.returns-in_err-found-clause-history
+returns-in_err-found-clause-history g c = c.ask.ensures.history
+
+pub returns-in-Some-clause-has : goal.returns-in-Some-clause-has
+returns-in-Some-clause-has g c = sym c.in-Some.ensures.has
+
+pub returns-in-Some-clause-history : goal.returns-in-Some-clause-history
+returns-in-Some-clause-history g c = refl
