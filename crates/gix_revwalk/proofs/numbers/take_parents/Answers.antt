@@ -1,5 +1,6 @@
 use Rattle.gix_revwalk.proofs.Taken.{grows-same}
-use Rattle.std.proofs.Common.{refl, inl, ◌∙◌, sym, subst, take, IsTrue, ◌∷◌, []}
+use Rattle.std.proofs.lemmas.List.{take_all}
+use Rattle.std.proofs.Common.{length, ◌≤◌, arith, refl, inl, ◌∙◌, sym, subst, take, IsTrue, ◌∷◌, []}
 use Rattle.gix_revwalk.specs.History.{entry_at, parents_in, is_one_of}
 use Rattle.gix_revwalk.specs.Number.{place_in}
 use Rattle.gix_revwalk.proofs.Members.{one_of-single}
@@ -69,3 +70,9 @@ loop-i-init g c = record {
   history = refl;
   count = refl;
 }
+
+pub returns-clause-numbers : goal.returns-clause-numbers
+returns-clause-numbers g c id is =
+    let ps = parents_in (entry_at (g.S.Find.history c.args.graph.now.source) id) in
+    let le : length ps ≤ c.loop-i.i = omega (arith, c.parent_count-i-end.ensures id is) in
+    rw (take_all c.loop-i.i ps le) at (c.loop-i.invariant.numbers id is)

@@ -1,4 +1,4 @@
-use Rattle.std.proofs.Common.{◌∙◌}
+use Rattle.std.proofs.Common.{◌∙◌, refl}
 use Rattle.gix_revwalk.proofs.past.Past.copy_row.Goals as goal
 
 pub returns-in_default-clause-same : goal.returns-in_default-clause-same
@@ -9,3 +9,6 @@ returns-in_default-push-clause-same g c = c.guess.ensures ∙ c.loop-i.invariant
 
 pub returns-clause-same : goal.returns-clause-same
 returns-clause-same g c = c.loop-i.invariant.same
+
+pub loop-i-init : goal.loop-i-init
+loop-i-init g c = record { copied = rw c.requires.empty refl; same = refl }
