@@ -1,4 +1,4 @@
-use Rattle.std.proofs.Common.{◌≡◌, ◌∙◌, ap, sym, length, map, ◌<◌, ◌≤◌, ◌+◌, arith, rules}
+use Rattle.std.proofs.Common.{◌≡◌, ◌∙◌, ap, sym, length, map, ◌<◌, ◌≤◌, ◌+◌, arith, rules, refl}
 use Rattle.std.proofs.lemmas.List.{length-map, with_items_is}
 use Rattle.gix_revwalk.specs.Nodes.{unturned}
 use Rattle.gix_revwalk.proofs.Places.{each-map}
@@ -32,3 +32,12 @@ returns-clause-none g c q =
     let e = rw c.deref_mut.ensures.value at c.forget_turns.ensures in
     let is = with_items_is c.graph.inside.nodes c.forget_turns.new.nodes (ap length e ∙ length-map ns unturned ∙ sym c.graph.inside.nodes.ok.0) ∙ e in
     rw is (mark-none _ _ (unmarked 1 (map unturned ns) (all-unturned 1 ns (omega arith)) q))
+
+pub returns-in-Some-clause-source : goal.returns-in-Some-clause-source
+returns-in-Some-clause-source g c = rw (← c.graph.view_is) refl
+
+pub returns-in-Some-clause-held : goal.returns-in-Some-clause-held
+returns-in-Some-clause-held g c = rw (← c.graph.view_is) refl
+
+pub returns-clause-source : goal.returns-clause-source
+returns-clause-source g c = rw (← c.graph.view_is) refl

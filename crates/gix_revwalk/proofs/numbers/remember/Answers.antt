@@ -33,3 +33,12 @@ returns g c =
     let lt = rw (← c.graph.view_is) at c.requires.held in
     let at = item-read ns k _ n lt c.place.ensures c.index_mut-node.ensures.value in
     same-view _ _ refl (map-kept pair_of ns k n w at refl) (map-kept (mark_of c.graph.inside.turn) ns k n w at refl) ∙ c.graph.view_is
+
+pub returns-then-row-parent_count : goal.returns-then-row-parent_count
+returns-then-row-parent_count g c = rw (← c.graph.view_is) refl
+
+pub returns-in_default : goal.returns-in_default
+returns-in_default g c = rw (← c.graph.view_is) refl
+
+pub returns-then-is_err : goal.returns-then-is_err
+returns-then-is_err g c = rw (← c.graph.view_is) refl
