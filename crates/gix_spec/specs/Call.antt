@@ -1,4 +1,4 @@
--- What a delegate is called with, one value for each call. Texts are lists of bytes.
+-- The calls of a delegate with their arguments. Texts are lists of bytes.
 use Rattle.std.specs.Prelude.{ℕ, List, Option, Bool}
 use Rattle.gix_base.specs.declared.object.Kind.{Kind as ObjectKind}
 use Rattle.gix_spec.specs.declared.spec.Kind.{Kind}
@@ -10,19 +10,19 @@ use Rattle.gix_spec.specs.declared.spec.parse.delegate.PrefixHint.TheVariants.{M
 use Rattle.gix_spec.specs.declared.spec.parse.delegate.PeelTo.{PeelTo}
 use Rattle.gix_spec.specs.declared.spec.parse.delegate.PeelTo.TheVariants as peels
 
--- what is known of the object that a prefix means
+-- What is known of the object that an abbreviated object name stands for.
 pub data Hint : Type 0 where
   must_be_commit : Hint
   describe_anchor : (ref_name : List ℕ) (generation : ℕ) → Hint
 
--- what an object is peeled to
+-- The target that an object is peeled to.
 pub data Target : Type 0 where
   object : ObjectKind → Target
   valid_object : Target
   recursive_tag : Target
   path : List ℕ → Target
 
--- a call; a prefix is its digits in lower case, an index entry its path and its stage
+-- A call. A prefix is given by its digits in lower case, and an index entry by its path and stage.
 pub data Call : Type 0 where
   find_ref : (name : List ℕ) → Call
   prefix : (digits : List ℕ) → Option Hint → Call
@@ -36,7 +36,7 @@ pub data Call : Type 0 where
   index : (path : List ℕ) (stage : ℕ) → Call
   done : Call
 
--- a hint and a target as they are handed over, with their texts as lists
+-- A hint and a target of the code, with texts as lists of bytes.
 abbrev pub hint_of : PrefixHint → Hint
 hint_of MustBeCommit = must_be_commit
 hint_of (DescribeAnchor name generation) = describe_anchor name.now generation

@@ -1,16 +1,16 @@
--- Revisions that begin with a colon: gitrevisions, ":/<text>", ":[<n>:]<path>", and "!" in front of a regex.
+-- Revisions that begin with a colon (gitrevisions, ":/<text>", ":[<n>:]<path>").
 use Rattle.std.specs.Prelude.{ℕ, ◌-◌, ◌==◌, ◌&&◌, List, [], ◌∷◌, Some, None, Bool, true, false, nat_le, if◌then◌else◌}
 use Rattle.gix_spec.specs.declared.spec.parse.fault.Fault.TheVariants.{Unconsumed, LoneColon, LoneColonSlash, RegexPrefix}
 use Rattle.gix_spec.specs.Pieces.{regex, index}
 use Rattle.gix_spec.specs.Marks.{colon, dash, slash, bang}
 use Rattle.gix_spec.specs.Part.{Part, piece, refusal}
 
--- a regex behind `!-` is negated; nothing behind it is a fault of the whole
+-- A regex after `!-` is negated. An empty one is a fault that names whole.
 abbrev pub negated_regex : (regex whole : List ℕ) → Part
 negated_regex [] whole = refusal Unconsumed (Some whole)
 negated_regex (b ∷ rest) whole = piece (regex (b ∷ rest) (b ∷ rest) true) []
 
--- behind a `!` stands `-`, or a `!` that is looked for itself
+-- After a `!`, a `-` negates the regex, and a second `!` belongs to the regex.
 unfoldable pub banged : (after raw whole : List ℕ) → Part
 banged [] raw whole = refusal RegexPrefix (Some raw)
 banged (b ∷ rest) raw whole =
@@ -18,12 +18,12 @@ banged (b ∷ rest) raw whole =
     else if b == bang then piece (regex (b ∷ rest) (b ∷ rest) false) []
     else refusal RegexPrefix (Some raw)
 
--- the regex behind `:/`
+-- The regex raw after `:/`.
 unfoldable pub regex_at : (raw whole : List ℕ) → Part
 regex_at [] whole = refusal LoneColonSlash None
 regex_at (b ∷ rest) whole = if b == bang then banged rest (b ∷ rest) whole else piece (regex (b ∷ rest) (b ∷ rest) false) []
 
--- a path, with a stage from 0 to 3 and a colon before it, or at stage 0
+-- A path after a stage from 0 to 3 and a colon has that stage. Every other path has stage 0.
 abbrev pub is_stage : ℕ → Bool
 is_stage b = nat_le 48 b && nat_le b 51
 
@@ -34,7 +34,7 @@ abbrev pub index_at : (b : ℕ) → (rest whole : List ℕ) → Part
 index_at b [] whole = piece (index whole 0) []
 index_at b (c ∷ path) whole = if c == colon then staged b path whole else piece (index whole 0) []
 
--- what stands behind the colon; `whole` begins with it
+-- The text after the colon that whole begins with.
 unfoldable pub colon_form : (after whole : List ℕ) → Part
 colon_form [] whole = refusal LoneColon None
 colon_form (b ∷ rest) whole = if b == slash then regex_at rest whole else index_at b rest (b ∷ rest)

@@ -1,4 +1,4 @@
--- What a parse knows beside the text that it reads.
+-- What the parser remembers in addition to the text that it reads.
 use Rattle.std.specs.Prelude.{ℕ, List, codes, Option, Some, None, option_map, Bool, true, false}
 use Rattle.gix_base.specs.Prefix.{prefix_text}
 use Rattle.gix_base.specs.declared.date.Time.{Time}
@@ -8,33 +8,33 @@ use Rattle.gix_spec.specs.declared.spec.parse.context.Context.{Context as Kept}
 use Rattle.gix_spec.specs.declared.spec.parse.Error.{Error}
 use Rattle.gix_spec.specs.Call.{Call, Hint, find_ref, prefix, hint_of}
 
--- The moment that dates are read at; the prefix or reference call that was accepted last, the anchor; and whether this
--- revision's own name was accepted as a prefix.
+-- The moment from which relative dates count; the latest accepted prefix or reference call, called
+-- the anchor; and whether this revision's own name was accepted as a prefix.
 pub record Context : Type 0 where
   pub now : Time
   pub anchor : Option Call
   pub own_prefix : Bool
 
--- at the start of a text nothing was accepted
+-- At the start of a text, no call was accepted yet.
 abbrev pub start : (now : Time) → Context
 start now = record { now = now; anchor = None; own_prefix = false }
 
--- after an accepted reference, and after an accepted prefix
+-- The context after an accepted reference, and after an accepted prefix.
 abbrev pub after_reference : Context → (name : List ℕ) → Context
 after_reference m name = record { now = m.now; anchor = Some (find_ref name); own_prefix = false }
 
 abbrev pub after_prefix : Context → (digits : List ℕ) → Option Hint → Context
 after_prefix m digits hint = record { now = m.now; anchor = Some (prefix digits hint); own_prefix = true }
 
--- where the second revision of a range begins: it has no name yet
+-- The context at the start of the second revision of a range, which has no name yet.
 abbrev pub next_revision : Context → Context
 next_revision m = record { now = m.now; anchor = m.anchor; own_prefix = false }
 
--- the name of HEAD
+-- The name of HEAD.
 abbrev pub HEAD : List ℕ
 HEAD = codes "HEAD"
 
--- what the code keeps of it
+-- The call that the code's anchor stands for, and the context that the code keeps.
 abbrev pub call_of : Anchor → Call
 call_of Head = find_ref HEAD
 call_of (Reference name) = find_ref name.now
@@ -43,6 +43,6 @@ call_of (ByPrefix p hint) = prefix (prefix_text p) (option_map hint_of hint)
 abbrev pub context_of : Kept → Context
 context_of kept = record { now = kept.now; anchor = option_map call_of kept.anchor; own_prefix = kept.own_prefix }
 
--- the same, with why the parse has stopped
+-- What the code keeps, with the reason why the parse has stopped.
 abbrev pub stopped : Kept → Error → Kept
 stopped kept e = record { now = kept.now; anchor = kept.anchor; own_prefix = kept.own_prefix; error = Some e }

@@ -5,7 +5,7 @@ use Rattle.gix_spec.specs.declared.spec.parse.Error.TheVariants.{OutOfMemory, Re
 use Rattle.gix_spec.specs.declared.spec.parse.fault.Fault.{Fault}
 use Rattle.gix_spec.specs.declared.spec.parse.fault.Fault.TheVariants.{KindRefused, HeadRefused, KindTwice, Unconsumed, DoneRefused, DoneRefusedInNavigation, LoneColon, LoneColonSlash, RegexPrefix, FindRefused, IndexRefused, NameRefused, AtWithoutBraces, UnclosedBrace, NegativeZero, NegativeEntry, ReflogWithoutName, SiblingWithoutName, Date, AtRefused, TildeFirst, Sign, Number, TraverseRefused, PeelRefused, UnknownTarget, RepeatRefused}
 
--- the place of a fault among the cases, from 1 on
+-- The number of a fault: its place among the variants, from 1 on.
 abbrev pub number_of : Fault → ℕ
 number_of (KindRefused k) = 1
 number_of HeadRefused = 2
@@ -35,7 +35,7 @@ number_of PeelRefused = 25
 number_of UnknownTarget = 26
 number_of RepeatRefused = 27
 
--- what a fault prints; nothing is said of the texts that hold a debug form
+-- The text that a fault prints. None stands for a text with a debug form, which is not specified.
 abbrev pub fault_text : Fault → Option (List ℕ)
 fault_text (KindRefused k) = None
 fault_text HeadRefused = Some (codes "delegate did not find the HEAD reference")
@@ -65,7 +65,7 @@ fault_text PeelRefused = Some (codes "the delegate could not peel the object")
 fault_text UnknownTarget = Some (codes "cannot peel to unknown target")
 fault_text RepeatRefused = Some (codes "the delegate refused the repeated anchor")
 
--- what an error prints: the text of its fault
+-- The text that an error prints.
 abbrev pub error_text : Error → Option (List ℕ)
 error_text OutOfMemory = Some (codes "out of memory")
 error_text (Refused f input first second) = fault_text f

@@ -1,4 +1,4 @@
--- What the readers of the code hand over, as pieces and parts.
+-- The parts that the code reads, as pieces and parts of the definitions.
 use Rattle.std.specs.Prelude.{ℕ, ◌≤◌, ◌<◌, ◌^◌, List, [], ◌∷◌, Option, Some, None, option_map, Result, Ok, Err, ◌==◌, if◌then◌else◌}
 use Rattle.std.specs.Borrow.{Bor}
 use Rattle.gix_base.specs.Prefix.{prefix_text}
@@ -24,7 +24,7 @@ abbrev pub signed_found : FoundSigned → Signed
 signed_found (signs.Minus n) = minus n
 signed_found (signs.Plain n) = plain n
 
--- an isize holds the number
+-- An isize can hold the number.
 abbrev pub FitsIsize : FoundSigned → Type 0
 FitsIsize (signs.Minus n) = n ≤ 2 ^ 63
 FitsIsize (signs.Plain n) = n < 2 ^ 63
@@ -61,7 +61,7 @@ abbrev pub part_of : Result FoundPart Refusal → Part
 part_of (Ok p) = record { pieces = pieces_found p.piece; rest = p.rest.now; way = way_of p.way }
 part_of (Err r) = refusal r.fault (slice_of r.input)
 
--- what stands behind a mark, where a text begins with it
+-- The text after mark, if the text begins with mark.
 abbrev pub after_mark : (mark : ℕ) → (text : List ℕ) → Option (List ℕ)
 after_mark mark [] = None
 after_mark mark (b ∷ rest) = if b == mark then Some rest else None

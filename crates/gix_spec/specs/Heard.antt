@@ -1,4 +1,4 @@
--- What a delegate hears of a printed spec that accepts every call.
+-- The calls of a printed spec, for a delegate that accepts every call.
 use Rattle.std.specs.Prelude.{◌≡◌, List, [], ◌∷◌, ◌++◌, None}
 use Rattle.gix_base.specs.declared.date.Time.{Time}
 use Rattle.gix_base.specs.declared.hash.ObjectId.{ObjectId}
@@ -12,15 +12,15 @@ use Rattle.gix_spec.specs.Run.{IsRun, Outcome, ended}
 use Rattle.gix_spec.specs.Parse.{meaning_of}
 use Rattle.gix_spec.specs.Printed.{spec_text, kind_of}
 
--- a delegate that accepts every call, and keeps them
+-- A delegate that accepts every call, and records it.
 abbrev pub Accepts : List Call → Call → Answer → List Call → Type 0
 Accepts s c a t = (a ≡ accepted) × (t ≡ s ++ c ∷ [])
 
--- an id is the prefix of all its digits
+-- The prefix call with all 40 digits of the id a.
 abbrev pub id_call : ObjectId → Call
 id_call a = prefix (id_text a) None
 
--- the calls of a printed spec: its ids in order, the kind where it stands, none for the first form, and the end
+-- The calls of a printed spec: its ids in order, its kind (except for Include), and done.
 abbrev pub heard_of : Spec → List Call
 heard_of (Include a) = id_call a ∷ done ∷ []
 heard_of (Exclude a) = kind (kind_of (Exclude a)) ∷ id_call a ∷ done ∷ []
@@ -29,12 +29,12 @@ heard_of (Merge a b) = id_call a ∷ kind (kind_of (Merge a b)) ∷ id_call b �
 heard_of (IncludeOnlyParents a) = id_call a ∷ kind (kind_of (IncludeOnlyParents a)) ∷ done ∷ []
 heard_of (ExcludeParents a) = id_call a ∷ kind (kind_of (ExcludeParents a)) ∷ done ∷ []
 
--- every parse of the printed spec makes just these calls, and ends well
+-- Every parse of the printed spec makes exactly these calls, and ends well.
 abbrev pub ReadsBack : Spec → Type 0
 ReadsBack spec = (now : Time) (s : List Call) (o : Outcome) → IsRun Accepts [] (meaning_of (spec_text spec) now) s o →
     (s ≡ heard_of spec) × (o ≡ ended fine)
 
--- the ids of a spec are of twenty bytes
+-- Each id of the spec has twenty bytes.
 abbrev pub HasIds : Spec → Type 0
 HasIds (Include a) = IsId a
 HasIds (Exclude a) = IsId a
@@ -43,5 +43,6 @@ HasIds (Merge a b) = IsId a × IsId b
 HasIds (IncludeOnlyParents a) = IsId a
 HasIds (ExcludeParents a) = IsId a
 
+-- Every spec whose ids have twenty bytes is read back from its text.
 abbrev pub PrintedReadsBack : Type 0
 PrintedReadsBack = (spec : Spec) → HasIds spec → ReadsBack spec

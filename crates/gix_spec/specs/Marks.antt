@@ -1,4 +1,4 @@
--- The bytes that mark what stands in a text, and how a text is looked into.
+-- The bytes that have a meaning in a text, and words for finding them.
 use Rattle.std.specs.Prelude.{ℕ, zero, suc, ◌+◌, ◌==◌, List, [], ◌∷◌, Option, Some, None, Bool, false, take, drop, if◌then◌else◌}
 use Rattle.std.specs.List.{prefix_len}
 
@@ -35,25 +35,25 @@ slash = 47
 abbrev pub bang : ℕ
 bang = 33
 
--- whether a text begins with this byte
+-- The text begins with the byte mark.
 abbrev pub starts_with : (mark : ℕ) → List ℕ → Bool
 starts_with mark [] = false
 starts_with mark (b ∷ rest) = b == mark
 
--- the bytes at the front that pass
+-- The bytes at the front of text that pass the test.
 abbrev pub run_of : (ℕ → Bool) → List ℕ → List ℕ
 run_of test text = take (prefix_len test text) text
 
--- and what follows them
+-- The text after the bytes at its front that pass the test.
 abbrev pub behind_run : (ℕ → Bool) → List ℕ → List ℕ
 behind_run test text = drop (prefix_len test text) text
 
--- the least of the n places from k on that passes, or the place behind them
+-- The least of the n places from k on that passes the test, or else k + n.
 abbrev pub least_from : (test : ℕ → Bool) → (n k : ℕ) → ℕ
 least_from test zero k = k
 least_from test (suc n) k = if test k then k else least_from test n (k + 1)
 
--- the greatest place below n that passes
+-- The greatest place below n that passes the test.
 abbrev pub greatest_below : (test : ℕ → Bool) → (n : ℕ) → Option ℕ
 greatest_below test zero = None
 greatest_below test (suc n) = if test n then Some n else greatest_below test n

@@ -1,4 +1,5 @@
--- The name of a revision: gitrevisions, "<sha1>", "<describeOutput>", "<refname>" and "@", and an `@` behind it.
+-- The name of a revision, and an `@` after it (gitrevisions, "<sha1>", "<describeOutput>",
+-- "<refname>" and "@").
 use Rattle.std.specs.Prelude.{ℕ, zero, suc, ◌==◌, List, [], ◌∷◌, Option, Some, None, take, drop, if◌then◌else◌}
 use Rattle.gix_spec.specs.declared.spec.parse.fault.Fault.TheVariants.{AtWithoutBraces}
 use Rattle.gix_spec.specs.Pieces.{head, name}
@@ -8,38 +9,43 @@ use Rattle.gix_spec.specs.DescribeText.{Attempt, prefix_with, describe_attempt}
 use Rattle.gix_spec.specs.AtParts.{at_braces}
 use Rattle.gix_spec.specs.Part.{Part, nothing, piece, refusal, followed}
 
--- the prefix call that is tried first on a name, if there is one: all of the name is digits, or it is a describe text
+-- The prefix call that is tried first for a name, if the whole name is hex digits or it is a
+-- describe text.
 abbrev pub attempt_by : Option Attempt → (text : List ℕ) → Option Attempt
 attempt_by (Some whole) text = Some whole
 attempt_by None text = describe_attempt text
 
+-- The prefix call that is tried first for the name text.
 unfoldable pub attempt_of : (text : List ℕ) → Option Attempt
 attempt_of text = attempt_by (prefix_with text None) text
 
--- what an `@` behind the name `own` asks for
+-- What an `@` after the name own asks for.
 abbrev pub behind_at : (own after whole : List ℕ) → Part
 behind_at own after whole = if starts_with brace after then at_braces own after else refusal AtWithoutBraces (Some whole)
 
+-- The `@` after the name own, if text begins with one.
 unfoldable pub at_part : (own text : List ℕ) → Part
 at_part own [] = nothing []
 at_part own (b ∷ after) = if b == at_sign then behind_at own after (b ∷ after) else nothing (b ∷ after)
 
--- HEAD, where no name stands before an `@` and no brace behind it
+-- An `@` without a name before it and without a brace after it is HEAD.
 abbrev pub head_at : (after : List ℕ) → Part
 head_at after = if starts_with brace after then at_braces [] after else piece head after
 
+-- The front of a revision without a name.
 unfoldable pub without_name : (text : List ℕ) → Part
 without_name [] = nothing []
 without_name (b ∷ after) = if b == at_sign then head_at after else nothing (b ∷ after)
 
--- the first n bytes of a text as a name
+-- The part that is the first n bytes of text, as a name.
 abbrev pub named : (text : List ℕ) → (n : ℕ) → Part
 named text n = piece (name (take n text) text (attempt_of (take n text))) (drop n text)
 
--- a name that ends at its cut, and an `@` behind it
+-- The name of n bytes, and an `@` after it.
 abbrev pub anchor_by : (text : List ℕ) → (n : ℕ) → Part
 anchor_by text zero = without_name text
 anchor_by text (suc n) = followed (named text (suc n)) (at_part (take (suc n) text))
 
+-- The name at the front of text, and an `@` after it.
 unfoldable pub anchor_at : (text : List ℕ) → Part
 anchor_at text = anchor_by text (cut_of text)

@@ -4,22 +4,22 @@ use Rattle.std.specs.Str.{all_ascii_digits}
 use Rattle.std.specs.Str.Parse.{digits_value, without_leading_plus}
 use Rattle.gix_spec.specs.Marks.{dash, plus, starts_with}
 
--- the number that decimal digits say, where a usize holds it
+-- The number that decimal digits say, if a usize can hold it.
 abbrev pub digits_number : List ℕ → Option ℕ
 digits_number digits =
     if all_ascii_digits digits && nat_lt 0 (length digits) && nat_lt (digits_value 10 digits) (2 ^ 64) then Some (digits_value 10 digits)
     else None
 
--- the same of a text in which a plus may stand first
+-- The number that decimal digits say, if a usize can hold it. A plus sign may precede the digits.
 unfoldable pub number_of : List ℕ → Option ℕ
 number_of text = digits_number (without_leading_plus text)
 
--- a number with a sign or with none, by its digits
+-- A number with a minus sign or without one, by its digits.
 pub data Signed : Type 0 where
   minus : ℕ → Signed
   plain : ℕ → Signed
 
--- the number behind a minus, and one without, where an isize holds it
+-- The number after a minus sign, and a number without one, if an isize can hold it.
 abbrev pub minus_by : Option ℕ → Option Signed
 minus_by None = None
 minus_by (Some n) = if nat_le n (2 ^ 63) then Some (minus n) else None
@@ -28,7 +28,7 @@ abbrev pub plain_by : Option ℕ → Option Signed
 plain_by None = None
 plain_by (Some n) = if nat_lt n (2 ^ 63) then Some (plain n) else None
 
--- the number that a text says: a sign may stand first, no second one behind a minus
+-- The number that a text says. A sign may come first; no second sign may follow a minus sign.
 abbrev pub behind_minus : (text : List ℕ) → Option Signed
 behind_minus text = if starts_with plus text then None else minus_by (number_of text)
 

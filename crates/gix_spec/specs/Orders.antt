@@ -1,4 +1,5 @@
--- The orders of specs, kinds and arguments: by case as they are declared, then by what the case holds.
+-- The orders of specs, kinds and arguments: by variant in the order of declaration, then by the
+-- values in the variant.
 use Rattle.std.specs.Prelude.{ℕ, List, []}
 use Rattle.std.specs.declared.cmp.Ordering.{Ordering}
 use Rattle.std.specs.declared.cmp.Ordering.TheVariants.{Less, Equal, Greater}
@@ -22,7 +23,7 @@ use Rattle.gix_spec.specs.declared.spec.parse.delegate.SiblingBranch.{SiblingBra
 use Rattle.gix_spec.specs.declared.spec.parse.delegate.SiblingBranch.TheVariants.{Upstream, Push}
 use Rattle.gix_spec.specs.Printed.{kind_of}
 
--- kinds of specs
+-- Kinds of specs are ordered by their places.
 abbrev pub place_of : Kind → ℕ
 place_of kinds.IncludeReachable = 0
 place_of kinds.ExcludeReachable = 1
@@ -34,7 +35,7 @@ place_of kinds.ExcludeReachableFromParents = 5
 abbrev pub kind_order : Kind → Kind → Ordering
 kind_order a b = nat_cmp (place_of a) (place_of b)
 
--- specs: by kind, then by the bytes of their ids
+-- Specs are ordered by kind, then by the bytes of the first id, then by those of the second.
 abbrev pub first_bytes : Spec → List ℕ
 first_bytes (Include a) = a.0
 first_bytes (Exclude a) = a.0
@@ -53,7 +54,7 @@ spec_order a b =
     ordering_then (kind_order (kind_of a) (kind_of b))
     (ordering_then (slice_cmp nat_cmp (first_bytes a) (first_bytes b)) (slice_cmp nat_cmp (second_bytes a) (second_bytes b)))
 
--- steps: to a parent before to an ancestor, then by the number
+-- Steps are ordered by variant, to a parent first, then by number.
 abbrev pub step_place : Traversal → ℕ
 step_place (NthParent n) = 0
 step_place (NthAncestor n) = 1
@@ -65,7 +66,7 @@ step_number (NthAncestor n) = n
 abbrev pub step_order : Traversal → Traversal → Ordering
 step_order a b = ordering_then (nat_cmp (step_place a) (step_place b)) (nat_cmp (step_number a) (step_number b))
 
--- sibling branches
+-- Sibling branches are ordered by variant, upstream first.
 abbrev pub sibling_place : SiblingBranch → ℕ
 sibling_place Upstream = 0
 sibling_place Push = 1
@@ -73,21 +74,22 @@ sibling_place Push = 1
 abbrev pub sibling_order : SiblingBranch → SiblingBranch → Ordering
 sibling_order a b = nat_cmp (sibling_place a) (sibling_place b)
 
--- hints: that it is a commit, then anchors by the bytes of their names, then by generation
+-- MustBeCommit comes before anchors. Anchors are ordered by the bytes of their names, then by
+-- generation.
 abbrev pub hint_order : PrefixHint → PrefixHint → Ordering
 hint_order MustBeCommit MustBeCommit = Equal
 hint_order MustBeCommit (DescribeAnchor name generation) = Less
 hint_order (DescribeAnchor name generation) MustBeCommit = Greater
 hint_order (DescribeAnchor a m) (DescribeAnchor b n) = ordering_then (slice_cmp nat_cmp a.now b.now) (nat_cmp m n)
 
--- look-ups in a reflog: entries by number, then dates by time
+-- Entries come before dates. Entries are ordered by number, and dates by time.
 abbrev pub lookup_order : ReflogLookup → ReflogLookup → Ordering
 lookup_order (Entry m) (Entry n) = nat_cmp m n
 lookup_order (Entry m) (Date t) = Less
 lookup_order (Date s) (Entry n) = Greater
 lookup_order (Date s) (Date t) = time_order s t
 
--- targets: object kinds, any object, what a tag leads to, paths by their bytes
+-- Targets are ordered by variant; object kinds then by kind, and paths then by their bytes.
 abbrev pub target_place : PeelTo → ℕ
 target_place (ObjectKind k) = 0
 target_place ValidObject = 1

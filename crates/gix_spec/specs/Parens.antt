@@ -1,4 +1,4 @@
--- What is answered of the braces that a text begins with.
+-- The answer about the braces at the front of a text.
 use Rattle.std.specs.Prelude.{◌≡◌, ℕ, ◌+◌, ◌-◌, ◌<◌, ◌≤◌, List, Option, Some, None, option_map, Result, Ok, Err, true, false, length, drop}
 use Rattle.std.specs.Borrow.{Bor}
 use Rattle.std.specs.Cow.{cow_slice_items, IsBorrowedSlice}
@@ -9,7 +9,8 @@ use Rattle.gix_spec.specs.declared.spec.parse.fault.Fault.TheVariants.{UnclosedB
 use Rattle.gix_spec.specs.Marks.{brace, starts_with}
 use Rattle.gix_spec.specs.Braces.{close_of, has_escape, meant_of}
 
--- The pair that a text begins with takes all bytes up to its close; its inner text is borrowed where no escape is taken out.
+-- The pair at the front of text takes all bytes up to its closing brace. Its inner text is borrowed
+-- if it has no escape.
 pub record IsPair {A : Type 0} (text : List ℕ) (x : CowSlice ℕ A × Bor (List ℕ) × ℕ) : Type 0 where
   pub begins : starts_with brace text ≡ true
   pub closes : x.2 ≡ close_of text + 1
@@ -18,7 +19,8 @@ pub record IsPair {A : Type 0} (text : List ℕ) (x : CowSlice ℕ A × Bor (Lis
   pub rest : x.1.now ≡ drop x.2 text
   pub borrowed : has_escape text x.2 ≡ false → IsBorrowedSlice x.0
 
--- No braces; the pair; no memory, where an escape is to be taken out; or a pair that does not close.
+-- The answer is None if text does not begin with a brace, and else the pair. The call fails if
+-- memory ran out and the pair has an escape, or if the pair does not close.
 abbrev pub ParensGives : {A : Type 0} → (text : List ℕ) → Result (Option (CowSlice ℕ A × Bor (List ℕ) × ℕ)) Error → Type 0
 ParensGives text (Ok None) = starts_with brace text ≡ false
 ParensGives text (Ok (Some x)) = IsPair text x

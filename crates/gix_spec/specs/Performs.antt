@@ -1,4 +1,4 @@
--- What a part of a parse does to the run, whatever follows it.
+-- The effect of a function of the parser on a run, whatever follows.
 use Rattle.std.specs.Prelude.{true, false, option_map, ◌≡◌, ℕ, List, ◌++◌, Option, Some, None, Result, Ok, Err, IfOk}
 use Rattle.std.specs.Option.{IsSomeAnd}
 use Rattle.gix_base.specs.declared.error.Exn.{Exn, out-Exn}
@@ -18,39 +18,42 @@ use Rattle.gix_spec.specs.Part.{Part}
 use Rattle.gix_spec.specs.Found.{way_of}
 use Rattle.gix_spec.specs.Parse.{Fails}
 
--- What a function of the parse answers, with what is kept of why the parse has stopped.
+-- The answer of a function of the parser, with the reason that was kept if the parse has stopped.
 abbrev pub told_by : {X : Type 0} → Result X Stopped → Option Error → Result X (Option Error)
 told_by (Ok x) e = Ok x
 told_by (Err stopped) e = Err e
 
--- From s with the tree t ahead, the calls led to u with the tree v ahead.
+-- The calls led from state s with the tree t ahead to state u with the tree v ahead.
 abbrev pub Leads : {S : Type 0} → (step : S → Call → Answer → S → Type 0) → S → Tree → S → Tree → Type 0
 Leads {S} step s t u v = (w : S) (o : Outcome) → IsRun step u v w o → IsRun step s t w o
 
--- They led there, or the run ended at u as the error says that is kept.
+-- Either the calls led to u with the tree v ahead, or the run ended at u as the kept error says.
 abbrev pub GoesTo : {S X : Type 0} → (step : S → Call → Answer → S → Type 0) → S → Tree → S → Result X (Option Error) → Tree → Type 0
 GoesTo step s t u (Ok x) v = Leads step s t u v
 GoesTo step s t u (Err e) v = IsSomeAnd e (λ x. Fails step s t u x)
 
--- The calls did what these pieces mean, whatever follows them, and what is known went from m to n.
+-- The calls are those of the pieces ps, whatever follows, and the context went from m to n.
 pub record Performs {S X : Type 0} (step : S → Call → Answer → S → Type 0) (ps : List Piece) (s : S) (m : Context) (u : S) (n : Context) (out : Result X Stopped) (error : Option Error) : Type 0 where
   pub performs : (more : List Piece) → GoesTo step s (tree_of (ps ++ more) m) u (told_by out error) (tree_of more n)
 
--- The calls that a tree begins with were made, whatever follows them.
+-- The calls are those at the beginning of a tree, whatever follows.
 pub record Asks {S X : Type 0} (step : S → Call → Answer → S → Type 0) (begin : Tree → Tree) (s u : S) (out : Result X Stopped) (error : Option Error) : Type 0 where
   pub asks : (onward : Tree) → GoesTo step s (begin onward) u (told_by out error) onward
 
--- A part was read: the calls did what its pieces mean, and where they went well this is what is left of the text, and the way on.
+-- Part p was read: the calls are those of its pieces. If none failed, the function returned the
+-- part's rest and way.
 pub record Reads {S : Type 0} (step : S → Call → Answer → S → Type 0) (p : Part) (s : S) (m : Context) (u : S) (n : Context) (out : Result Behind Stopped) (error : Option Error) : Type 0 where
   pub calls : Performs step p.pieces s m u n out error
   pub behind : IfOk out (λ b. (b.rest.now ≡ p.rest) × (way_of b.way ≡ p.way))
 
--- What became of a call that has to be accepted: an error tells of its refusal.
+-- The error of a refused call that has to be accepted.
 abbrev pub TellsOf : Exn → Fault → Option (List ℕ) → Error → Type 0
 TellsOf e f input OutOfMemory = (out-Exn e).out_of_memory ≡ true
 TellsOf e f input (Refused g given first second) =
     ((out-Exn e).out_of_memory ≡ false) × (g ≡ f) × (option_map (λ x. x.now) given ≡ input) × (first ≡ Some e) × (second ≡ None)
 
+-- The parse goes on exactly if the call was accepted. Otherwise the kept error tells of the
+-- refusal.
 abbrev pub DemandedBy : Result (Unit {0}) Exn → Fault → Option (List ℕ) → Result (Unit {0}) (Option Error) → Type 0
 DemandedBy (Ok a) f input (Ok b) = Unit {0}
 DemandedBy (Err e) f input (Err err) = IsSomeAnd err (λ x. TellsOf e f input x)

@@ -1,16 +1,18 @@
--- Runs of a tree, by a delegate's own steps.
+-- Runs of a tree, by the steps of a delegate.
 use Rattle.gix_base.specs.declared.error.Exn.{Exn}
 use Rattle.gix_spec.specs.Call.{Call}
 use Rattle.gix_spec.specs.Answer.{Answer, accepted, refused, no_memory}
 use Rattle.gix_spec.specs.Tree.{Leaf, Tree, leaf, ask, takes}
 
--- How a run ends: at a leaf, at a call that found no memory, or where the parse itself found none.
+-- How a run ends: at a leaf, at a call that ran out of memory, or because the parser ran out of
+-- memory.
 pub data Outcome : Type 0 where
   ended : Leaf → Outcome
   without_memory : Outcome
   short_of_memory : Outcome
 
--- From a state, along a tree, to a state and an outcome. After an answer of no memory there is no call.
+-- A run along a tree, from a state to a state and an outcome. No call follows an answer of
+-- no_memory.
 pub data IsRun {S : Type 0} (step : S → Call → Answer → S → Type 0) : S → Tree → S → Outcome → Type 0 where
   at_leaf : {s : S} {l : Leaf} → IsRun step s (leaf l) s (ended l)
   goes_on : {s t u : S} {c : Call} {onward : Tree} {otherwise : Exn → Tree} {o : Outcome} →
@@ -22,7 +24,7 @@ pub data IsRun {S : Type 0} (step : S → Call → Answer → S → Type 0) : S 
   has_room : {s u : S} {t : Tree} {o : Outcome} → IsRun step s t u o → IsRun step s (takes t) u o
   has_none : {s : S} {t : Tree} → IsRun step s (takes t) s short_of_memory
 
--- A run that has stopped at some point of the tree: a beginning of a run.
+-- The beginning of a run: it may stop at any point of the tree.
 pub data IsBeginning {S : Type 0} (step : S → Call → Answer → S → Type 0) : S → Tree → S → Type 0 where
   stops : {s : S} {t : Tree} → IsBeginning step s t s
   begins_accepted : {s t u : S} {c : Call} {onward : Tree} {otherwise : Exn → Tree} →

@@ -1,4 +1,5 @@
--- The steps behind a name: gitrevisions, "<rev>~<n>", "<rev>^<n>", "<rev>^{<type>}", "<rev>^@", "<rev>^!", "<rev>^-<n>" and "<rev>:<path>".
+-- The steps after a name (gitrevisions, "<rev>~<n>", "<rev>^<n>", "<rev>^{<type>}", "<rev>^@",
+-- "<rev>^!", "<rev>^-<n>" and "<rev>:<path>").
 use Rattle.std.specs.Prelude.{ℕ, zero, suc, ◌==◌, ◌^◌, ◌||◌, List, [], ◌∷◌, Option, Some, None, Bool, length, nat_lt, if◌then◌else◌}
 use Rattle.std.specs.Char.{is_ascii_digit}
 use Rattle.gix_base.specs.declared.object.Kind.TheVariants.{Commit}
@@ -12,10 +13,10 @@ use Rattle.gix_spec.specs.Number.{number_of}
 use Rattle.gix_spec.specs.Part.{Part, nothing, piece, closing, refusal, followed}
 use Rattle.gix_spec.specs.Targets.{target_braces}
 
--- In what follows, `after` is the text behind a `~` or a `^`, `run` the digits (and minus signs) at its front, and `rest` what
--- follows these.
+-- In this file, after is the text after a `~` or a `^`, run is the digits (and minus signs) at its
+-- front, and rest is the text after run.
 
--- `~` and `~n`
+-- The steps `~` and `~n`.
 abbrev pub ancestor_by : (run rest after : List ℕ) → Option ℕ → Part
 ancestor_by run rest after None = refusal Number (Some run)
 ancestor_by run rest after (Some n) = piece (step (NthAncestor n) after) rest
@@ -29,7 +30,7 @@ ancestor_at after =
     if starts_with plus after || starts_with dash after then refusal Sign (Some after)
     else ancestor_run (run_of is_ascii_digit after) (behind_run is_ascii_digit after) after
 
--- `^n`; `^0` is the commit itself
+-- The step `^n`. The step `^0` is the commit itself.
 abbrev pub parent_number : (run rest after : List ℕ) → (n : ℕ) → Part
 parent_number run rest after n =
     if n == 0 then piece (peel (object Commit) after) rest
@@ -40,7 +41,7 @@ abbrev pub parent_by : (run rest after : List ℕ) → Option ℕ → Part
 parent_by run rest after None = refusal Number (Some run)
 parent_by run rest after (Some n) = parent_number run rest after n
 
--- `^-n`
+-- The closer `^-n`.
 abbrev pub without_number : (run rest after : List ℕ) → (n : ℕ) → Part
 without_number run rest after n =
     if n == 0 then refusal NegativeZero (Some run)
@@ -51,12 +52,12 @@ abbrev pub without_by : (run rest after : List ℕ) → Option ℕ → Part
 without_by run rest after None = refusal Number (Some run)
 without_by run rest after (Some n) = without_number run rest after n
 
--- `^-` and `^-n`, where `digits` is the run behind its minus sign
+-- The closers `^-` and `^-n`, where digits is run without its minus sign.
 unfoldable pub without_at : (digits run rest after : List ℕ) → Part
 without_at [] run rest after = closing (without_parent 1 after rest) rest
 without_at (b ∷ digits) run rest after = without_by run rest after (number_of (b ∷ digits))
 
--- `^`, and what the run behind it says
+-- A `^`, and the run after it.
 unfoldable pub run_at : (run rest after : List ℕ) → Part
 run_at [] rest after = piece (step (NthParent 1) after) after
 run_at (b ∷ digits) rest after =
@@ -65,7 +66,7 @@ run_at (b ∷ digits) rest after =
 abbrev pub is_digit_or_minus : ℕ → Bool
 is_digit_or_minus b = is_ascii_digit b || (b == dash)
 
--- what stands behind a `^`
+-- The text after a `^`.
 abbrev pub marked_parent : (b : ℕ) → (rest after : List ℕ) → Part
 marked_parent b rest after =
     if b == plus then refusal Sign (Some after)
@@ -78,7 +79,7 @@ unfoldable pub parent_at : (after : List ℕ) → Part
 parent_at [] = piece (step (NthParent 1) []) []
 parent_at (b ∷ rest) = marked_parent b rest (b ∷ rest)
 
--- one step, if one stands at the front
+-- The step at the front of text, if text begins with one.
 abbrev pub marked_step : (b : ℕ) → (after text : List ℕ) → Part
 marked_step b after text =
     if b == tilde then ancestor_at after
@@ -90,7 +91,7 @@ unfoldable pub step_at : (text : List ℕ) → Part
 step_at [] = nothing []
 step_at (b ∷ after) = marked_step b after (b ∷ after)
 
--- steps, one after another: at most one for each byte
+-- Steps, one after another. There are at most as many as bytes.
 unfoldable pub steps_at : (bytes : ℕ) → (text : List ℕ) → Part
 steps_at zero text = nothing text
 steps_at (suc n) text = followed (step_at text) (steps_at n)

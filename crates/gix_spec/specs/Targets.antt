@@ -1,4 +1,5 @@
--- What stands in the braces behind a `^`: gitrevisions, "<rev>^{<type>}", "<rev>^{}" and "<rev>^{/<text>}".
+-- Texts in the braces after a `^` (gitrevisions, "<rev>^{<type>}", "<rev>^{}" and
+-- "<rev>^{/<text>}").
 use Rattle.std.specs.Prelude.{ℕ, ◌==◌, List, [], ◌∷◌, codes, Option, Some, None, Bool, true, false, drop, nat_eq, if◌then◌else◌}
 use lib.Pointwise.{pointwise}
 use Rattle.gix_base.specs.declared.object.Kind.TheVariants.{Commit, Tree, Blob, Tag}
@@ -9,11 +10,12 @@ use Rattle.gix_spec.specs.Marks.{dash, slash, bang}
 use Rattle.gix_spec.specs.Part.{Part, piece, refusal}
 use Rattle.gix_spec.specs.Braces.{Braced, in_braces}
 
--- whether a text is this word
+-- The text is this word.
 abbrev pub is_word : (word text : List ℕ) → Bool
 is_word word text = pointwise nat_eq text word
 
--- what an object is peeled to by a word: a kind of object, any object, or with no word what a tag leads to
+-- The target that text names: a kind of object, any object, or, for an empty text, the object that
+-- a tag leads to.
 unfoldable pub target_named : (text : List ℕ) → Option Target
 target_named text =
     if is_word (codes "commit") text then Some (object Commit)
@@ -24,32 +26,35 @@ target_named text =
     else if is_word [] text then Some recursive_tag
     else None
 
--- how many bytes the mark before a regex takes, and whether it negates: `!` before another, or `!-`; or there is none
+-- The mark of a regex, after its `!`: how many bytes the mark takes, and whether it negates. The
+-- mark is `!-`, or a `!` before another `!`.
 abbrev pub banged_mark : (after : List ℕ) → Option (ℕ × Bool)
 banged_mark [] = None
 banged_mark (b ∷ rest) = if b == dash then Some (2, true) else if b == bang then Some (1, false) else None
 
+-- The mark in front of a regex, if any: how many bytes it takes, and whether it negates.
 unfoldable pub regex_mark : (text : List ℕ) → Option (ℕ × Bool)
 regex_mark [] = Some (0, false)
 regex_mark (b ∷ rest) = if b == bang then banged_mark rest else Some (0, false)
 
--- a regex behind its slash, as it is written and as it is meant; it may be empty
+-- A regex after its slash: raw is the text as it is written, and meant is the text without escapes.
+-- It may be empty.
 abbrev pub marked_regex : (raw meant rest : List ℕ) → Option (ℕ × Bool) → Part
 marked_regex raw meant rest None = refusal RegexPrefix (Some raw)
 marked_regex raw meant rest (Some mark) = piece (regex (drop mark.0 meant) (drop mark.0 raw) mark.1) rest
 
--- In what follows, `after` is the text behind the `^`.
+-- In this file, after is the text after the `^`.
 
 abbrev pub peeled_to : Option Target → Braced → (after : List ℕ) → Part
 peeled_to None x after = refusal UnknownTarget (Some x.raw)
 peeled_to (Some target) x after = piece (peel target after) x.rest
 
--- the text in braces: a regex behind a slash, or what is peeled to
+-- The text in the braces: a regex after a slash, or the name of a target.
 abbrev pub inside_target : (meant : List ℕ) → Braced → (after : List ℕ) → Part
 inside_target [] x after = peeled_to (target_named []) x after
 inside_target (b ∷ more) x after =
     if b == slash then marked_regex (drop 1 x.raw) more x.rest (regex_mark more) else peeled_to (target_named (b ∷ more)) x after
 
--- braces behind a `^`, from the opening one on
+-- The braces after a `^`, where after begins with the opening brace.
 unfoldable pub target_braces : (after : List ℕ) → Part
 target_braces after = in_braces after (λ x. inside_target x.meant x after)

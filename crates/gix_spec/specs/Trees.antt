@@ -1,4 +1,4 @@
--- The tree that the pieces of a text mean.
+-- The tree of the pieces of a text.
 use Rattle.std.specs.Prelude.{ℕ, List, [], ◌∷◌, Option, Some, None, Bool, true, false, ◌||◌}
 use Rattle.gix_base.specs.declared.date.Time.{Time}
 use Rattle.gix_spec.specs.declared.spec.Kind.{Kind}
@@ -15,33 +15,33 @@ use Rattle.gix_spec.specs.Tree.{fine, faulty, Tree, leaf, ask, takes}
 use Rattle.gix_spec.specs.Context.{Context, HEAD, after_reference, after_prefix, next_revision}
 use Rattle.gix_spec.specs.Pieces.{Piece, exclude, regex, index, head, name, branch, reflog, sibling, date, unescaped, step, peel, path, closer, without_parent, range, finish, finished, fault}
 
--- a call that has to be accepted: its refusal is this fault
+-- A call that has to be accepted. If it is refused, the parse ends with the fault f.
 abbrev pub demand : Call → Fault → Option (List ℕ) → Tree → Tree
 demand c f input onward = ask c onward (λ e. leaf (faulty f input (Some e) None))
 
--- the call that was accepted last, once more; there may be none
+-- The latest accepted name call, once more. If there is none, the parse ends with a fault.
 abbrev pub repeat : Option Call → List ℕ → Tree → Tree
 repeat None after onward = leaf (faulty Unconsumed (Some after) None None)
 repeat (Some c) after onward = demand c RepeatRefused (Some after) onward
 
--- what asks for a reference, and may not stand after an accepted prefix
+-- Something that asks about a ref. After an accepted prefix it is the fault f.
 abbrev pub of_reference : (own_prefix : Bool) → Fault → (own : List ℕ) → Tree → Tree
 of_reference true f own onward = leaf (faulty f (Some own) None None)
 of_reference false f own onward = onward
 
--- the reflog at a time, where the text means one
+-- The reflog entry at a time. If the text is not a date, the parse ends with a fault.
 abbrev pub at_time : Option Time → (inner : List ℕ) → Tree → Tree
 at_time None inner onward = leaf (faulty Date (Some inner) None None)
 at_time (Some t) inner onward = demand (calls.reflog (AtDate t)) AtRefused (Some inner) onward
 
--- a name: its prefix, if it has one, then the reference
+-- The calls for a name: first as a prefix, if it can be one; then, if that is refused, as a ref.
 abbrev pub attempts : (text whole : List ℕ) → Option (List ℕ × Option calls.Hint) → Context → (Context → Tree) → Tree
 attempts text whole None m onward = demand (find_ref text) NameRefused (Some whole) (onward (after_reference m text))
 attempts text whole (Some p) m onward =
     ask (prefix p.0 p.1) (onward (after_prefix m p.0 p.1))
     (λ e. ask (find_ref text) (onward (after_reference m text)) (λ d. leaf (faulty NameRefused (Some whole) (Some e) (Some d))))
 
--- an entry or a date in the reflog, and a branch that belongs to another
+-- The calls for an entry or a date in the reflog, and for a sibling branch.
 abbrev pub reflog_calls : ReflogLookup → (own inner : List ℕ) → (own_prefix : Bool) → Tree → Tree
 reflog_calls query own inner own_prefix onward = of_reference own_prefix ReflogWithoutName own (demand (calls.reflog query) AtRefused (Some inner) onward)
 
@@ -51,18 +51,18 @@ sibling_calls which own inner own_prefix onward = of_reference own_prefix Siblin
 abbrev pub date_calls : Option Time → (own inner : List ℕ) → (own_prefix : Bool) → Tree → Tree
 date_calls time own inner own_prefix onward = of_reference own_prefix ReflogWithoutName own (at_time time inner onward)
 
--- what `^!` and `^@` ask for
+-- The calls for `^!` and `^@`.
 abbrev pub closing_calls : Kind → (rest : List ℕ) → Tree → Tree
 closing_calls k rest onward = demand (kind k) (KindRefused k) (Some rest) (demand done DoneRefusedInNavigation (Some rest) onward)
 
--- what `^-n` asks for
+-- The calls for `^-n`.
 abbrev pub without_parent_calls : (number : ℕ) (after rest : List ℕ) → Option Call → Tree → Tree
 without_parent_calls number after rest anchor onward =
     demand (traverse (NthParent number)) (TraverseRefused (NthParent number)) (Some after)
     (demand (kind RangeBetween) (KindRefused RangeBetween) (Some after)
     (repeat anchor after (demand done DoneRefusedInNavigation (Some rest) onward)))
 
--- The tree of some pieces, where this is known from those before.
+-- The tree of the pieces, in the context m that earlier pieces left.
 abbrev pub tree_of : List Piece → Context → Tree
 tree_of [] m = leaf fine
 tree_of (exclude ∷ ps) m = demand (kind ExcludeReachable) (KindRefused ExcludeReachable) None (tree_of ps m)
@@ -85,7 +85,7 @@ tree_of (finish ∷ ps) m = demand done DoneRefused None (tree_of ps m)
 tree_of (finished ∷ ps) m = tree_of ps m
 tree_of (fault f input ∷ ps) m = leaf (faulty f input None None)
 
--- whether reading a piece may take memory: where escapes are taken out, and nowhere else
+-- Reading a piece may allocate memory only if it removes escapes.
 abbrev pub takes_one : Piece → Bool
 takes_one unescaped = true
 takes_one _ = false

@@ -1,4 +1,5 @@
--- How each piece of a text is written: gitrevisions, "Specifying Revisions" and "Specifying Ranges".
+-- How each piece of a text is written (gitrevisions, "Specifying Revisions" and "Specifying
+-- Ranges").
 use Rattle.std.specs.Prelude.{◌≡◌, ◌⊎◌, ℕ, ◌+◌, List, [], ◌∷◌, ◌++◌, codes, Bool, true, false, Some, drop}
 use Rattle.gix_base.specs.declared.object.Kind.TheVariants.{Commit}
 use Rattle.gix_spec.specs.declared.spec.Kind.TheVariants.{RangeBetween, ReachableToMergeBase, IncludeReachableFromParents, ExcludeReachableFromParents}
@@ -8,30 +9,32 @@ use Rattle.gix_spec.specs.Pieces.{Piece, exclude, regex, index, head, name, bran
 use Rattle.gix_spec.specs.Marks.{colon}
 use Rattle.gix_spec.specs.Number.{digits_number}
 
--- digits that say a number; where none stand, it is 1
+-- The digits say the number n. If there are no digits, n is 1.
 abbrev pub IsNumber : (digits : List ℕ) → (n : ℕ) → Type 0
 IsNumber [] n = n ≡ 1
 IsNumber (b ∷ digits) n = digits_number (b ∷ digits) ≡ Some n
 
--- a mark, and such digits behind it
+-- The text own is mark, followed by digits that say n.
 abbrev pub IsNumbered : (mark : List ℕ) → (n : ℕ) → (own : List ℕ) → Type 0
 IsNumbered mark n own = (digits : List ℕ) × (own ≡ mark ++ digits) × IsNumber digits n
 
--- a mark, and behind it a text in braces
+-- The text own is mark, followed by inner in braces.
 abbrev pub IsBraced : (mark inner own : List ℕ) → Type 0
 IsBraced mark inner own = own ≡ mark ++ (codes "{" ++ (inner ++ codes "}"))
 
--- what stands behind the slash of a regex: the regex, after `!-` where it is negated, or after a `!` before another
+-- The text tail after a slash is the regex raw. A negated regex follows `!-`; others may follow a
+-- `!`.
 abbrev pub IsRegex : (raw : List ℕ) → (negated : Bool) → (tail : List ℕ) → Type 0
 IsRegex raw true tail = tail ≡ codes "!-" ++ raw
 IsRegex raw false tail = (tail ≡ raw) ⊎ (tail ≡ codes "!" ++ raw)
 
--- the same in braces, by how many bytes stand before the regex: the slash, and the mark behind it
+-- The text inner in braces has the regex raw after a slash and a mark of at most two bytes.
 abbrev pub IsRegexIn : (raw : List ℕ) → (negated : Bool) → (inner : List ℕ) → Type 0
 IsRegexIn raw true inner = raw ≡ drop 3 inner
 IsRegexIn raw false inner = (raw ≡ drop 1 inner) ⊎ (raw ≡ drop 2 inner)
 
--- This is how a piece is written. A fault stands for what is left of the text, whatever that is.
+-- The text own is how the piece is written. A fault stands for the rest of the text, whatever it
+-- is.
 abbrev pub IsWritten : Piece → (own : List ℕ) → Type 0
 IsWritten exclude own = own ≡ codes "^"
 IsWritten (regex wanted raw negated) own =
@@ -58,12 +61,12 @@ IsWritten finish own = own ≡ []
 IsWritten finished own = own ≡ []
 IsWritten (fault f input) own = Unit {0}
 
--- these pieces, written one after another, are this text up to its rest
+-- The pieces, written one after another, are text up to its end rest.
 abbrev pub Spells : List Piece → (text rest : List ℕ) → Type 0
 Spells [] text rest = text ≡ rest
 Spells (p ∷ ps) text rest = (own : List ℕ) × (more : List ℕ) × (text ≡ own ++ more) × IsWritten p own × Spells ps more rest
 
--- whether a piece is a fault, and pieces that hold none
+-- The piece is a fault; and none of the pieces is a fault.
 abbrev pub is_fault : Piece → Bool
 is_fault (fault f input) = true
 is_fault _ = false

@@ -1,4 +1,4 @@
-//! Laws of the definitions, each the contract of a function without parameters.
+//! States laws of the definitions. Each law is the contract of a function without parameters.
 
 ghost use Rattle.gix_spec.specs.Ends.{DoneIsLast, ReadsAll, PiecesSpell, FaultIsLast, TakesNone};
 ghost use Rattle.gix_spec.specs.Ends.{CallsAreNumbered, NamesPart, SecondIsOfName};
@@ -13,64 +13,73 @@ use crate::spec::{Kind, Spec};
 use gix_base::laws::{hash_agrees, order_agrees};
 use std::hash::Hash;
 
-/// A parse that ends well has `done` as its last call, whatever the delegate answered before.
+/// Proves that `done` is the last call of a parse that ends well, and that it was accepted.
+///
+/// The delegate may have answered anything before.
 #[tactic(auto, using(crate::proofs::Promises::done_is_last))]
 pub fn done_is_last()
     ensures { DoneIsLast }
 {}
 
-/// A parse that ends well read the whole text: its pieces spell it, and none of them is a fault.
+/// Proves that a parse that ends well read the whole text.
+///
+/// The pieces of the text then spell it, and none of them is a fault.
 #[tactic(auto, using(crate::proofs::Promises::reads_all))]
 pub fn reads_all<D: Delegate>()
     ensures { ReadsAll D.step }
 {}
 
-/// The pieces of a text, written one after another, are the text; a fault stands for what was left
-/// of it.
+/// Proves that the pieces of a text, written one after another, are the text.
+///
+/// A fault stands for the rest of the text.
 #[tactic(auto, using(crate::proofs::Spelled::pieces_spelled))]
 pub fn pieces_spell_texts()
     ensures { PiecesSpell }
 {}
 
-/// A fault of a text is its last piece.
+/// Proves that a fault is the last piece of a text.
 #[tactic(auto, using(crate::proofs::Promises::fault_is_last))]
 pub fn fault_is_last()
     ensures { FaultIsLast }
 {}
 
-/// A text in which no backslash stands before a brace or a backslash takes no memory, so that only
-/// its delegate can want some.
+/// Proves that the parser allocates nothing for a text without an escape.
+///
+/// An escape is a backslash before a brace or a backslash. Without one, only the delegate can run
+/// out of memory.
 #[tactic(auto, using(crate::proofs::Promises::texts_take_none))]
 pub fn texts_take_no_memory()
     ensures { TakesNone }
 {}
 
-/// No call is for a parent or a branch of number 0, or for an index stage past 3.
+/// Proves that no call asks for a parent or a branch of number 0, or for an index stage above 3.
 #[tactic(auto, using(crate::proofs::Promises::calls_are_numbered))]
 pub fn calls_are_numbered()
     ensures { CallsAreNumbered }
 {}
 
-/// The part that a fault names is a part of the text.
+/// Proves that the part that a fault names is a part of the text.
 #[tactic(auto, using(crate::proofs::Promises::names_part))]
 pub fn faults_name_parts<D: Delegate>()
     ensures { NamesPart D.step }
 {}
 
-/// A second refusal comes with a refused name alone.
+/// Proves that an error has a second refusal only if a name was refused.
 #[tactic(auto, using(crate::proofs::Promises::second_is_of_name))]
 pub fn second_refusal_is_of_name<D: Delegate>()
     ensures { SecondIsOfName D.step }
 {}
 
-/// A printed spec is read back: a delegate that accepts every call hears one prefix of 40 digits for
-/// each id in order, the kind of the spec, none for `Include`, and `done`.
+/// Proves that parsing a printed spec gives the spec back.
+///
+/// A delegate that accepts every call receives exactly these calls: for each id, in order, a prefix
+/// of 40 digits; the kind of the spec, except for `Include`; and `done`.
 #[tactic(auto, using(crate::proofs::Printed::printed_reads_back))]
 pub fn printed_specs_read_back()
     ensures { PrintedReadsBack }
 {}
 
-/// Specs: `Ord` and `Hash` agree with `==`.
+/// Proves that `Ord` and `Hash` of specs agree with `==`.
 pub fn specs_agree()
     ensures order { OrderAgrees
         ⟦<Spec as Ord>⟧.cmp
@@ -83,7 +92,7 @@ pub fn specs_agree()
     hash_agrees::<Spec>();
 }
 
-/// Kinds of specs: `Ord` and `Hash` agree with `==`.
+/// Proves that `Ord` and `Hash` of kinds of specs agree with `==`.
 pub fn kinds_agree()
     ensures order { OrderAgrees
         ⟦<Kind as Ord>⟧.cmp
@@ -93,7 +102,7 @@ pub fn kinds_agree()
         ⟦<Kind as PartialEq>⟧.eq }
 {}
 
-/// Hints of prefixes: `Ord` and `Hash` agree with `==`.
+/// Proves that `Ord` and `Hash` of hints of prefixes agree with `==`.
 pub fn hints_agree()
     ensures order { OrderAgrees
         ⟦<PrefixHint<'static> as Ord>⟧.cmp
@@ -106,7 +115,7 @@ pub fn hints_agree()
     hash_agrees::<PrefixHint<'static>>();
 }
 
-/// Look-ups in a reflog: `Ord` and `Hash` agree with `==`.
+/// Proves that `Ord` and `Hash` of look-ups in a reflog agree with `==`.
 pub fn lookups_agree()
     ensures order { OrderAgrees
         ⟦<ReflogLookup as Ord>⟧.cmp
@@ -116,7 +125,7 @@ pub fn lookups_agree()
         ⟦<ReflogLookup as PartialEq>⟧.eq }
 {}
 
-/// Steps: `Ord` and `Hash` agree with `==`.
+/// Proves that `Ord` and `Hash` of steps agree with `==`.
 pub fn traversals_agree()
     ensures order { OrderAgrees
         ⟦<Traversal as Ord>⟧.cmp
@@ -126,7 +135,7 @@ pub fn traversals_agree()
         ⟦<Traversal as PartialEq>⟧.eq }
 {}
 
-/// What objects are peeled to: `Ord` and `Hash` agree with `==`.
+/// Proves that `Ord` and `Hash` of peel targets agree with `==`.
 pub fn targets_agree()
     ensures order { OrderAgrees
         ⟦<PeelTo<'static> as Ord>⟧.cmp
@@ -139,7 +148,7 @@ pub fn targets_agree()
     hash_agrees::<PeelTo<'static>>();
 }
 
-/// Sibling branches: `Ord` and `Hash` agree with `==`.
+/// Proves that `Ord` and `Hash` of sibling branches agree with `==`.
 pub fn siblings_agree()
     ensures order { OrderAgrees
         ⟦<SiblingBranch as Ord>⟧.cmp
@@ -149,37 +158,37 @@ pub fn siblings_agree()
         ⟦<SiblingBranch as PartialEq>⟧.eq }
 {}
 
-/// Specs are ordered by kind, then by the bytes of their ids.
+/// Proves that specs are ordered by kind, then by the bytes of their ids.
 pub fn specs_are_ordered()
     ensures { OrderIs ⟦<Spec as Ord>⟧.cmp spec_order }
 {}
 
-/// Kinds of specs are ordered as their cases stand.
+/// Proves that kinds of specs are ordered as their variants are declared.
 pub fn kinds_are_ordered()
     ensures { OrderIs ⟦<Kind as Ord>⟧.cmp kind_order }
 {}
 
-/// Steps are ordered by case, then by number.
+/// Proves that steps are ordered by variant, then by number.
 pub fn traversals_are_ordered()
     ensures { OrderIs ⟦<Traversal as Ord>⟧.cmp step_order }
 {}
 
-/// Sibling branches are ordered as their cases stand.
+/// Proves that sibling branches are ordered as their variants are declared.
 pub fn siblings_are_ordered()
     ensures { OrderIs ⟦<SiblingBranch as Ord>⟧.cmp sibling_order }
 {}
 
-/// Hints of prefixes are ordered by case, then by the bytes of the name, then by generation.
+/// Proves that hints are ordered by variant, then by the bytes of the name, then by generation.
 pub fn hints_are_ordered()
     ensures { OrderIs ⟦<PrefixHint<'static> as Ord>⟧.cmp hint_order }
 {}
 
-/// Look-ups in a reflog are ordered by case, then by number or time.
+/// Proves that look-ups in a reflog are ordered by variant, then by number or time.
 pub fn lookups_are_ordered()
     ensures { OrderIs ⟦<ReflogLookup as Ord>⟧.cmp lookup_order }
 {}
 
-/// What objects are peeled to is ordered by case, then by kind or by the bytes of the path.
+/// Proves that peel targets are ordered by variant, then by kind or by the bytes of the path.
 pub fn targets_are_ordered()
     ensures { OrderIs ⟦<PeelTo<'static> as Ord>⟧.cmp target_order }
 {}

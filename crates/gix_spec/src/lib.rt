@@ -1,4 +1,7 @@
-//! Revision texts: what they say, told to a delegate in calls, and the specs that they name.
+//! Parses git's revision expressions, such as `main~2..topic`.
+//!
+//! [`spec::parse::parse`] reads an expression and reports its parts to a delegate, in order.
+//! [`spec::Spec`] is the set of commits that an expression stands for.
 #![tactic(auto)]
 
 pub mod laws;

@@ -1,4 +1,4 @@
-//! Sets of commits as a revision text names them.
+//! Sets of commits, as a revision expression names them.
 
 ghost use Rattle.std.specs.Prelude.{◌≡◌, Some};
 ghost use Rattle.gix_spec.specs.Printed.{spec_text, kind_of};
@@ -8,43 +8,44 @@ use std::fmt;
 
 pub mod parse;
 
-/// How a spec is read: gitrevisions, "Specifying Ranges".
+/// The form of a [`Spec`]: which commits its ids stand for. See gitrevisions, "Specifying Ranges".
 #[derive(Clone, Copy, Debug, PartialEq, Eq, PartialOrd, Ord, Hash, Default)]
 pub enum Kind {
-    /// The commits that are reachable from a revision, as `a`.
+    /// The commits that are reachable from a revision, such as `a`.
     #[default]
     IncludeReachable,
-    /// Not the commits that are reachable from a revision, as `^a`.
+    /// Excludes the commits that are reachable from a revision, such as `^a`.
     ExcludeReachable,
-    /// The commits that are reachable from the second revision and not from the first, as `a..b`.
+    /// The commits that are reachable from the second revision and not from the first, such as
+    /// `a..b`.
     RangeBetween,
-    /// The commits that are reachable from just one of two revisions, as `a...b`.
+    /// The commits that are reachable from exactly one of two revisions, such as `a...b`.
     ReachableToMergeBase,
-    /// The commits that are reachable from a revision's parents, as `a^@`.
+    /// The commits that are reachable from a revision's parents, such as `a^@`.
     IncludeReachableFromParents,
-    /// A revision without its parents, as `a^!`.
+    /// A revision without its parents, such as `a^!`.
     ExcludeReachableFromParents,
 }
 
-/// A set of commits by the ids that span it: gitrevisions, "Specifying Ranges".
+/// A set of commits, given by one or two ids. See gitrevisions, "Specifying Ranges".
 #[derive(Clone, Copy, Debug, PartialEq, Eq, PartialOrd, Ord, Hash)]
 pub enum Spec {
-    /// The commits that are reachable from this one, as `a`.
+    /// The commits that are reachable from this one, written `a`.
     Include(ObjectId),
-    /// Not the commits that are reachable from this one, as `^a`.
+    /// Excludes the commits that are reachable from this one, written `^a`.
     Exclude(ObjectId),
-    /// The commits that are reachable from `to` and not from `from`, as `from..to`.
+    /// The commits that are reachable from `to` and not from `from`, written `from..to`.
     Range { from: ObjectId, to: ObjectId },
-    /// The commits that are reachable from just one of the two, as `theirs...ours`.
+    /// The commits that are reachable from exactly one of the two, written `theirs...ours`.
     Merge { theirs: ObjectId, ours: ObjectId },
-    /// The commits that are reachable from this one's parents, as `a^@`.
+    /// The commits that are reachable from this one's parents, written `a^@`.
     IncludeOnlyParents(ObjectId),
-    /// This commit without its parents, as `a^!`.
+    /// This commit without its parents, written `a^!`.
     ExcludeParents(ObjectId),
 }
 
 impl Spec {
-    /// How this spec is read.
+    /// Returns the form of this spec.
     pub fn kind(&self) -> Kind
         ensures { result ≡ kind_of self.now }
     {

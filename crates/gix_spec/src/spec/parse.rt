@@ -1,4 +1,4 @@
-//! Reading revision texts: what is called, and why a text is refused.
+//! Reads revision expressions: the parser, the calls that it makes, and its errors.
 
 ghost use Rattle.gix_spec.specs.FaultTexts.{error_text};
 
@@ -27,19 +27,20 @@ pub use delegate::Delegate;
 pub use fault::Fault;
 pub use function::parse;
 
-/// Why a text was not read to its end.
+/// Why [`parse`] stopped before the end of a revision expression.
 #[derive(Debug, Drop, Error)]
 pub enum Error<'a> {
-    /// The delegate answered that memory is wanting, or the parse itself wanted some.
+    /// An allocation failed: the delegate reported it, or the parser itself ran out of memory.
     OutOfMemory,
-    /// The text has a fault, or the delegate refused a call.
+    /// The expression has a fault, or the delegate refused a call.
     Refused {
+        /// What is wrong.
         fault: Fault,
-        /// The part of the text that is at fault, as it was written.
+        /// The part of the expression that is wrong, as it was written.
         input: Option<&'a [u8]>,
-        /// The refusal that led to the fault, the earlier one where there are two.
+        /// The refusal that led to the fault. If there are two, the earlier one.
         first: Option<Exn>,
-        /// The later refusal, of a name that was tried in two ways.
+        /// The later refusal, if a name was tried in two ways.
         second: Option<Exn>,
     },
 }

@@ -1,4 +1,4 @@
-//! An `@` behind the name of a revision, and the braces behind it.
+//! Reads an `@` after the name of a revision, and the braces after it.
 
 ghost use Rattle.std.specs.Prelude.{◌≡◌, ◌<◌, ◌^◌, true, None, [], ◌∷◌};
 ghost use Rattle.gix_spec.specs.AtParts.{lookup_of, branch_at, number_at, word_at, inside_at, at_braces};
@@ -26,12 +26,12 @@ use gix_base::date::Time;
 use gix_date::date;
 use std::alloc::Allocator;
 
-// In what follows, `own` is the name of the revision, which may be empty.
+// In this file, `own` is the name of the revision, which may be empty.
 
-// From here on a number in braces is a date: the seconds since 1970-01-01 00:00:00 UTC.
+// The least number in braces that is a date: seconds since 1970-01-01 00:00:00 UTC.
 const FIRST_DATE: usize = 100_000_000;
 
-// The entry of that number, or that date.
+// Returns the reflog entry of that number, or the date that the number means.
 fn lookup(number: usize) -> ReflogLookup
     requires { number < 2 ^ 63 }
     ensures { result ≡ lookup_of number }
@@ -45,7 +45,8 @@ fn lookup(number: usize) -> ReflogLookup
     })
 }
 
-// A number behind a minus: the branch that was checked out so many times ago, behind no name.
+// Reads a number after a minus sign: the branch that was checked out so many times ago. No name may
+// precede it.
 fn branch<'a, A: Allocator>(own: &'a [u8], number: usize, braces: &Braced<'a, A>) -> Found<'a>
     ensures { part_of result ≡ branch_at own.now number (braced_of braces.now) }
 {
@@ -56,7 +57,7 @@ fn branch<'a, A: Allocator>(own: &'a [u8], number: usize, braces: &Braced<'a, A>
     }
 }
 
-// A number in braces.
+// Reads a number in braces.
 fn numbered<'a, A: Allocator>(own: &'a [u8], number: Signed, braces: &Braced<'a, A>) -> Found<'a>
     requires { FitsIsize number }
     ensures { part_of result ≡ number_at own.now (signed_found number) (braced_of braces.now) }
@@ -72,14 +73,14 @@ fn numbered<'a, A: Allocator>(own: &'a [u8], number: Signed, braces: &Braced<'a,
     }
 }
 
-// The time that a text means, if it means one.
+// Returns the time that a text means as a date, if it is one.
 fn time_of(text: &[u8], now: Time) -> Option<Time>
     ensures { result ≡ time_of (date_of text.now now) }
 {
     date::parse(text, now).ok()
 }
 
-// The reflog at the time that a text means.
+// Asks for the reflog entry at the time that a text means.
 fn look_up<'a, D: Delegate>(
     meant: &[u8],
     own: &'a [u8],
@@ -96,7 +97,7 @@ fn look_up<'a, D: Delegate>(
     call_asked(Asked::Date(time), own, raw, context, delegate)
 }
 
-// A text that is read as a date.
+// Reads the text in braces as a date.
 fn dated<'a, A: Allocator, D: Delegate>(
     own: &'a [u8],
     braces: &Braced<'a, A>,
@@ -114,7 +115,7 @@ fn dated<'a, A: Allocator, D: Delegate>(
     })
 }
 
-// What the braces behind an `@` hold.
+// Reads the text in the braces after an `@`.
 fn inside<'a, A: Allocator, D: Delegate>(
     own: &'a [u8],
     braces: &Braced<'a, A>,
@@ -137,7 +138,7 @@ fn inside<'a, A: Allocator, D: Delegate>(
     read(Part::piece(piece, braces.rest), context, delegate)
 }
 
-// Braces behind an `@`, from the opening one on.
+// Reads the braces after an `@`, from the opening brace on.
 fn in_braces<'a, A: Allocator, D: Delegate>(
     alloc: A,
     own: &'a [u8],
@@ -156,7 +157,7 @@ fn in_braces<'a, A: Allocator, D: Delegate>(
     }
 }
 
-/// Reads an `@` behind the name `own`, if one stands there.
+/// Reads the `@` after the name `own`, if the text begins with one.
 pub(crate) fn at_part<'a, A: Allocator, D: Delegate>(
     alloc: A,
     own: &'a [u8],
@@ -178,7 +179,7 @@ pub(crate) fn at_part<'a, A: Allocator, D: Delegate>(
     read(fault, context, delegate)
 }
 
-/// Reads what stands where there is no name.
+/// Reads the front of a revision that has no name.
 pub(crate) fn without_name<'a, A: Allocator, D: Delegate>(
     alloc: A,
     text: &'a [u8],

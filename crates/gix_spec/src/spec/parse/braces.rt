@@ -1,4 +1,4 @@
-//! Texts in braces.
+//! Reads texts in braces.
 
 ghost use Rattle.std.specs.Prelude.{◌≡◌, ℕ, ◌<◌, ◌+◌, ◌==◌, ◌&&◌, ◌||◌, not, cond, true, [], ◌∷◌, ◌++◌, length};
 ghost use Rattle.std.specs.Prelude.{IfSome, IfNone, IfOk};
@@ -12,34 +12,37 @@ use super::fault::Fault;
 use std::alloc::{AllocError, Allocator};
 use std::borrow::CowSlice;
 
+// Tests whether a backslash escapes the byte.
 fn is_special(byte: u8) -> bool
     ensures { result ≡ is_special byte }
 {
     byte == b'{' || byte == b'}' || byte == b'\\'
 }
 
-// In what follows, `escaping` says that an escape stands before the byte.
+// In this file, `escaping` says that an escape precedes the byte.
 
+// Tests whether the byte is escaped.
 fn is_escaped(byte: u8, escaping: bool) -> bool
     ensures { result ≡ (is_special byte && escaping) }
 {
     is_special(byte) && escaping
 }
 
-// Whether an escape stood before a byte so far, or stands before this one.
+// Tests whether a byte so far was escaped, or this one is.
 fn escapes_so_far(escapes: bool, byte: u8, escaping: bool) -> bool
     ensures { result ≡ (escapes || (is_special byte && escaping)) }
 {
     escapes || is_escaped(byte, escaping)
 }
 
+// Tests whether the byte is a backslash that may escape the next byte.
 fn begins_escape(byte: u8, escaping: bool) -> bool
     ensures { result ≡ ((byte == 92) && not escaping) }
 {
     byte == b'\\' && !escaping
 }
 
-// How often a byte is this mark, and not escaped.
+// Returns 1 if the byte is this mark and is not escaped, else 0.
 fn counted(byte: u8, mark: u8, escaping: bool) -> usize
     ensures { result ≡ cond ((byte == mark) && not (is_special byte && escaping)) 1 0 }
 {
@@ -50,21 +53,21 @@ fn counted(byte: u8, mark: u8, escaping: bool) -> usize
     }
 }
 
-/// Whether a text begins with an opening brace.
+/// Tests whether a text begins with an opening brace.
 pub(crate) fn begins(text: &[u8]) -> bool
     ensures { result ≡ starts_with brace text.now }
 {
     matches!(text, [b'{', ..])
 }
 
-// Where a pair closes, and whether a byte of it is escaped.
+// The place where a pair of braces closes, and whether a byte of the pair is escaped.
 #[derive(Clone, Copy)]
 struct Close {
     place: usize,
     escapes: bool,
 }
 
-// Where the pair closes that a text begins with.
+// Finds the place where the pair at the front of a text closes.
 fn find_close(text: &[u8]) -> Option<Close>
     requires { starts_with brace text.now ≡ true }
     ensures place { IfSome result (λ c. IsClose text.now c.place) }
@@ -89,6 +92,7 @@ fn find_close(text: &[u8]) -> Option<Close>
     None
 }
 
+// Appends the byte, unless it is left out.
 fn push_unless<A: Allocator>(
     left_out: bool,
     byte: u8,
@@ -104,7 +108,7 @@ fn push_unless<A: Allocator>(
     Ok(())
 }
 
-// The first bytes behind the opening brace, without the backslashes that escape.
+// Copies the first `len` bytes after the opening brace, without the backslashes that escape.
 fn without_escapes<A: Allocator>(
     alloc: A,
     text: &[u8],
@@ -124,8 +128,8 @@ fn without_escapes<A: Allocator>(
     Ok(meant)
 }
 
-/// What a pair of braces holds: the text as it is written and as it is meant, whether an escape was
-/// taken out of it, and what follows the pair.
+/// The contents of a pair of braces: the text as it is written, the text without escapes, whether
+/// an escape was removed, and the text after the pair.
 #[derive(Drop)]
 pub(crate) struct Braced<'a, A: Allocator> {
     pub(crate) raw: &'a [u8],
@@ -134,17 +138,17 @@ pub(crate) struct Braced<'a, A: Allocator> {
     pub(crate) rest: &'a [u8],
 }
 
-/// Why there is no pair of braces.
+/// Why a pair of braces could not be read.
 #[derive(Clone, Copy)]
 pub(crate) enum Unopened {
-    /// The pair does not close.
+    /// The pair never closes.
     Unclosed,
-    /// An escape is to be taken out, and there is no memory for it.
+    /// The pair has an escape, and the allocation of the text without escapes failed.
     OutOfMemory,
 }
 
 impl Unopened {
-    /// The error that this is of a text that begins with a brace.
+    /// Returns the error for a text that begins with a brace.
     pub(crate) fn error(self, text: &[u8]) -> Error<'_>
         ensures { result ≡ unopened_error self text.entry }
     {
@@ -160,7 +164,7 @@ impl Unopened {
     }
 }
 
-/// The pair of braces that a text begins with. Its text is copied only where an escape is taken out.
+/// Reads the pair of braces at the front of a text. Copies the inner text only to remove an escape.
 pub(crate) fn opened<A: Allocator>(alloc: A, text: &[u8]) -> Result<Braced<'_, A>, Unopened>
     requires { starts_with brace text.now ≡ true }
     ensures { Opens text.now result }
@@ -189,13 +193,19 @@ pub(crate) fn opened<A: Allocator>(alloc: A, text: &[u8]) -> Result<Braced<'_, A
     })
 }
 
-/// The pair of braces that a text begins with: its inner text, what follows the pair, and how many
-/// bytes the pair takes, both braces and all escapes among them; `None` where the first byte is not
-/// `{`. A backslash before `{`, `}` or a backslash is left out of the inner text and the byte behind
-/// it is not counted: gitrevisions, `<rev>^{<type>}` and `<refname>@{<date>}`.
+/// Returns the pair of braces at the front of a text: inner text, rest, and length of the pair.
 ///
-/// The inner text is borrowed where nothing is left out of it. `Fault::UnclosedBrace` with the whole
-/// text where the pair never closes; `Error::OutOfMemory` only where something is left out.
+/// The length counts both braces and all backslashes. The answer is `None` if the first byte is not
+/// `{`. A backslash before `{`, `}` or a backslash is an escape: the inner text omits it, and takes
+/// the byte after it as it is, so that a brace there neither opens nor closes a pair. See
+/// gitrevisions, `<rev>^{<type>}` and `<refname>@{<date>}`.
+///
+/// The inner text is borrowed from `text` if nothing is omitted from it.
+///
+/// # Errors
+///
+/// - [`Error::Refused`] with `Fault::UnclosedBrace` and the whole text: the pair never closes.
+/// - [`Error::OutOfMemory`]: an allocation failed. This can happen only if the pair has an escape.
 pub fn parens<'a, A: Allocator>(
     alloc: A,
     text: &'a [u8],

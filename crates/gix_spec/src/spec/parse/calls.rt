@@ -1,4 +1,4 @@
-//! The calls that the pieces of a text mean.
+//! Makes the calls of the pieces of a text.
 
 ghost use Rattle.std.specs.Prelude.{◌≡◌, Some, None, [], ◌∷◌, option_map};
 ghost use Rattle.std.specs.Option.{IsSomeAnd};
@@ -22,7 +22,7 @@ use crate::spec::Kind;
 use gix_base::date::Time;
 use gix_base::error::Exn;
 
-/// Keeps a fault of the text itself.
+/// Stops the parse with a fault of the text itself.
 #[cold]
 pub(crate) fn fault<'a>(fault: Fault, input: Option<&'a [u8]>, context: &mut Context<'a>) -> Stopped
     ensures { context.new ≡ stopped context.old (Error.Refused fault input.entry None None) }
@@ -35,7 +35,7 @@ pub(crate) fn fault<'a>(fault: Fault, input: Option<&'a [u8]>, context: &mut Con
     })
 }
 
-/// Keeps why there is no pair of braces at the front of a text.
+/// Stops the parse because the pair of braces at the front of a text could not be read.
 #[cold]
 pub(crate) fn unopened<'a>(why: Unopened, text: &'a [u8], context: &mut Context<'a>) -> Stopped
     ensures { context.new ≡ stopped context.old (unopened_error why text.entry) }
@@ -43,7 +43,7 @@ pub(crate) fn unopened<'a>(why: Unopened, text: &'a [u8], context: &mut Context<
     context.stop(why.error(text))
 }
 
-// Keeps that memory was wanting.
+// Stops the parse because memory ran out.
 #[cold]
 fn without_memory(context: &mut Context<'_>) -> Stopped
     ensures { context.new ≡ stopped context.old Error.OutOfMemory }
@@ -51,7 +51,7 @@ fn without_memory(context: &mut Context<'_>) -> Stopped
     context.stop(Error::OutOfMemory)
 }
 
-// Keeps what the refusal of a call that has to be accepted is to the parse.
+// Stops the parse because the delegate refused a call that it has to accept.
 #[cold]
 fn refused<'a>(
     refusal: Exn,
@@ -73,7 +73,7 @@ fn refused<'a>(
     })
 }
 
-// Keeps what the refusals of both attempts at a name are to the parse.
+// Stops the parse because the delegate refused a name both as a prefix and as a ref.
 #[cold]
 fn refused_twice<'a>(first: Exn, second: Exn, whole: &'a [u8], context: &mut Context<'a>) -> Stopped
     ensures { context.new ≡ stopped context.old
@@ -87,7 +87,7 @@ fn refused_twice<'a>(first: Exn, second: Exn, whole: &'a [u8], context: &mut Con
     })
 }
 
-/// What the answer to a call that has to be accepted is to the parse.
+/// Goes on if the delegate accepted the call, and else stops the parse with the fault.
 #[inline(always)]
 fn demanded<'a>(
     answer: Result<(), Exn>,
@@ -104,7 +104,7 @@ fn demanded<'a>(
     }
 }
 
-// The exclude mark in front of a text.
+// Makes the call for the exclude mark in front of a text.
 #[inline(always)]
 fn call_exclude<'a, D: Delegate>(context: &mut Context<'a>, delegate: &mut D) -> Result<(), Stopped>
     ensures { Performs D.step (exclude ∷ [])
@@ -115,7 +115,7 @@ fn call_exclude<'a, D: Delegate>(context: &mut Context<'a>, delegate: &mut D) ->
     demanded(delegate.kind(kind), Fault::KindRefused(kind), None, context)
 }
 
-// HEAD, written or implied.
+// Makes the call for HEAD, written or implied.
 #[inline(always)]
 fn call_head<'a, D: Delegate>(context: &mut Context<'a>, delegate: &mut D) -> Result<(), Stopped>
     ensures { Performs D.step (head ∷ [])
@@ -129,7 +129,7 @@ fn call_head<'a, D: Delegate>(context: &mut Context<'a>, delegate: &mut D) -> Re
     Ok(())
 }
 
-// A name that can be no prefix of an id.
+// Makes the call for a name that cannot be an abbreviated object name.
 #[inline(always)]
 fn call_reference<'a, D: Delegate>(
     text: &'a [u8],
@@ -148,7 +148,8 @@ fn call_reference<'a, D: Delegate>(
     Ok(())
 }
 
-// A name that can be the prefix of an id: its prefix, and where that is refused the reference.
+// Makes the calls for a name that can be an abbreviated object name: first as a prefix, then, if
+// that is refused, as a ref.
 #[inline(always)]
 fn call_prefix<'a, D: Delegate>(
     text: &'a [u8],
@@ -181,7 +182,7 @@ fn call_prefix<'a, D: Delegate>(
     Err(refused_twice(first, second, whole, context))
 }
 
-// A name: its prefix, if it has one, then the reference.
+// Makes the calls for a name: as a prefix if it can be one, then as a ref.
 #[inline(always)]
 fn call_name<'a, D: Delegate>(
     text: &'a [u8],
@@ -200,7 +201,7 @@ fn call_name<'a, D: Delegate>(
     }
 }
 
-/// A regex, as it is written and as it is looked for.
+/// Makes the call for a regex: `raw` is the regex as it is written, `wanted` is without escapes.
 pub(crate) fn call_find<'a, D: Delegate>(
     wanted: &[u8],
     raw: &'a [u8],
@@ -216,7 +217,7 @@ pub(crate) fn call_find<'a, D: Delegate>(
     demanded(answer, Fault::FindRefused, Some(raw), context)
 }
 
-// A path in the index.
+// Makes the call for a path in the index.
 #[inline(always)]
 fn call_index<'a, D: Delegate>(
     path: &'a [u8],
@@ -232,7 +233,7 @@ fn call_index<'a, D: Delegate>(
     demanded(answer, Fault::IndexRefused(stage), Some(path), context)
 }
 
-// A branch that was checked out before.
+// Makes the call for a branch that was checked out before.
 #[inline(always)]
 fn call_branch<'a, D: Delegate>(
     number: usize,
@@ -248,18 +249,18 @@ fn call_branch<'a, D: Delegate>(
     demanded(answer, Fault::AtRefused, Some(inner), context)
 }
 
-/// What braces behind an `@` ask for, of the reference in front of them or of the current branch.
+/// What braces after an `@` ask for, about the ref in front of them or the current branch.
 #[derive(Clone, Copy)]
 pub(crate) enum Asked {
     /// An entry of the reflog, or a date that is written as a number.
     Entry(ReflogLookup),
-    /// The time that the text means, if it means one, in the reflog.
+    /// The reflog entry at the time that the text means. `None` if the text is not a date.
     Date(Option<Time>),
-    /// A branch that belongs to another.
+    /// A branch that belongs to another branch.
     Sibling(SiblingBranch),
 }
 
-// The fault where this is asked for behind an accepted prefix, which names no reference.
+// Returns the fault for asking this after an accepted prefix, which names no ref.
 fn without_name(asked: Asked) -> Fault
     ensures { result ≡ without_name asked }
 {
@@ -269,7 +270,7 @@ fn without_name(asked: Asked) -> Fault
     }
 }
 
-// The reflog at the time that the braces `inner` mean, if they mean one.
+// Makes the call for the reflog entry at the time that the braces `inner` mean, if any.
 fn call_time<'a, D: Delegate>(
     time: Option<Time>,
     inner: &'a [u8],
@@ -287,7 +288,7 @@ fn call_time<'a, D: Delegate>(
     demanded(answer, Fault::AtRefused, Some(inner), context)
 }
 
-/// What the braces `inner` behind the name `own` ask for.
+/// Makes the call for what the braces `inner` after the name `own` ask for.
 pub(crate) fn call_asked<'a, D: Delegate>(
     asked: Asked,
     own: &'a [u8],
@@ -315,7 +316,7 @@ pub(crate) fn call_asked<'a, D: Delegate>(
     }
 }
 
-// A step along the history.
+// Makes the call for a step along the history.
 #[inline(always)]
 fn call_step<'a, D: Delegate>(
     step: Traversal,
@@ -331,7 +332,7 @@ fn call_step<'a, D: Delegate>(
     demanded(answer, Fault::TraverseRefused(step), Some(after), context)
 }
 
-// What an object is peeled to.
+// Makes the call for peeling an object.
 #[inline(always)]
 fn call_peel<'a, D: Delegate>(
     target: PeelTo<'a>,
@@ -347,7 +348,7 @@ fn call_peel<'a, D: Delegate>(
     demanded(answer, Fault::PeelRefused, Some(after), context)
 }
 
-// A path in the tree of a revision.
+// Makes the call for a path in the tree of a revision.
 #[inline(always)]
 fn call_path<'a, D: Delegate>(
     path: &'a [u8],
@@ -362,7 +363,7 @@ fn call_path<'a, D: Delegate>(
     demanded(answer, Fault::PeelRefused, Some(path), context)
 }
 
-// A range mark, behind which the second revision begins.
+// Makes the call for a range mark, after which the second revision begins.
 #[inline(always)]
 fn call_range<'a, D: Delegate>(
     kind: Kind,
@@ -379,7 +380,7 @@ fn call_range<'a, D: Delegate>(
     Ok(())
 }
 
-// `^!` and `^@`.
+// Makes the calls for `^!` or `^@`.
 #[inline(always)]
 fn call_closer<'a, D: Delegate>(
     kind: Kind,
@@ -397,7 +398,7 @@ fn call_closer<'a, D: Delegate>(
     demanded(delegate.done(), fault, Some(rest), context)
 }
 
-// The call that was accepted last, once more.
+// Repeats the latest accepted call for a name.
 fn call_again<'a, D: Delegate>(
     after: &'a [u8],
     context: &mut Context<'a>,
@@ -421,7 +422,7 @@ fn call_again<'a, D: Delegate>(
     }
 }
 
-// `^-n`.
+// Makes the calls for `^-n`.
 fn call_without_parent<'a, D: Delegate>(
     number: usize,
     after: &'a [u8],
@@ -445,7 +446,7 @@ fn call_without_parent<'a, D: Delegate>(
     demanded(delegate.done(), fault, Some(rest), context)
 }
 
-// The end of a text.
+// Makes the call for the end of a text.
 #[inline(always)]
 fn call_finish<'a, D: Delegate>(context: &mut Context<'a>, delegate: &mut D) -> Result<(), Stopped>
     ensures { Performs D.step (finish ∷ [])
@@ -455,7 +456,7 @@ fn call_finish<'a, D: Delegate>(context: &mut Context<'a>, delegate: &mut D) -> 
     demanded(delegate.done(), Fault::DoneRefused, None, context)
 }
 
-/// Makes the calls that a piece means.
+/// Makes the calls of a piece.
 #[inline(always)]
 pub(crate) fn perform<'a, D: Delegate>(
     piece: Piece<'a>,

@@ -1,4 +1,4 @@
-//! Revisions that begin with a colon.
+//! Reads revisions that begin with a colon.
 
 ghost use Rattle.std.specs.Prelude.{◌≡◌, []};
 ghost use Rattle.gix_spec.specs.ColonForms.{negated_regex, banged, regex_at, index_at, colon_form};
@@ -9,6 +9,7 @@ ghost use Rattle.gix_spec.specs.Pieces.{regex, index};
 use super::fault::Fault;
 use super::part::{Found, Part, Piece};
 
+// Returns the part that is a regex.
 fn regex(raw: &[u8], negated: bool) -> Found<'_>
     ensures { part_of result ≡ piece (regex raw.now raw.now negated) [] }
 {
@@ -20,7 +21,7 @@ fn regex(raw: &[u8], negated: bool) -> Found<'_>
     Part::piece(piece, b"")
 }
 
-// A regex behind `!-`.
+// Reads a regex after `!-`.
 fn negated<'a>(raw: &'a [u8], whole: &'a [u8]) -> Found<'a>
     ensures { part_of result ≡ negated_regex raw.now whole.now }
 {
@@ -30,7 +31,7 @@ fn negated<'a>(raw: &'a [u8], whole: &'a [u8]) -> Found<'a>
     }
 }
 
-// What stands behind a `!` in front of a regex.
+// Reads the text after a `!` in front of a regex.
 #[tactic(auto, unfolding(crate::specs::ColonForms::banged))]
 fn banged<'a>(after: &'a [u8], raw: &'a [u8], whole: &'a [u8]) -> Found<'a>
     ensures { part_of result ≡ banged after.now raw.now whole.now }
@@ -42,7 +43,7 @@ fn banged<'a>(after: &'a [u8], raw: &'a [u8], whole: &'a [u8]) -> Found<'a>
     }
 }
 
-// The regex behind `:/`.
+// Reads the regex after `:/`.
 #[tactic(auto, unfolding(crate::specs::ColonForms::regex_at))]
 fn behind_slash<'a>(raw: &'a [u8], whole: &'a [u8]) -> Found<'a>
     ensures { part_of result ≡ regex_at raw.now whole.now }
@@ -54,13 +55,14 @@ fn behind_slash<'a>(raw: &'a [u8], whole: &'a [u8]) -> Found<'a>
     }
 }
 
+// Returns the part that is a path in the index.
 fn index(path: &[u8], stage: u8) -> Found<'_>
     ensures { part_of result ≡ piece (index path.now stage) [] }
 {
     Part::piece(Piece::Index { path, stage }, b"")
 }
 
-/// What stands behind the colon that `whole` begins with.
+/// Reads the text after the colon that `whole` begins with.
 #[tactic(auto, unfolding(crate::specs::ColonForms::colon_form))]
 pub(crate) fn colon_form<'a>(after: &'a [u8], whole: &'a [u8]) -> Found<'a>
     ensures { part_of result ≡ colon_form after.now whole.now }

@@ -1,4 +1,4 @@
-//! What a parse knows beside the text that it reads.
+//! What the parser remembers in addition to the text that it reads.
 
 ghost use Rattle.std.specs.Prelude.{◌≡◌, None};
 ghost use Rattle.gix_spec.specs.Context.{context_of, start, stopped};
@@ -8,7 +8,7 @@ use super::delegate::PrefixHint;
 use gix_base::date::Time;
 use gix_base::hash::Prefix;
 
-/// The prefix or reference call that was accepted last.
+/// The latest prefix or reference call that the delegate accepted.
 #[derive(Clone, Copy)]
 pub(crate) enum Anchor<'a> {
     Head,
@@ -16,13 +16,14 @@ pub(crate) enum Anchor<'a> {
     ByPrefix(Prefix, Option<PrefixHint<'a>>),
 }
 
-/// The parse has stopped. Its context says why, so that no function hands on what is as large as an
-/// `Error`.
+/// Says that the parse has stopped. The context keeps the reason, so that functions need not return
+/// a value as large as an `Error`.
 #[derive(Clone, Copy)]
 pub(crate) struct Stopped;
 
-/// The moment that dates are read at, the anchor, whether this revision's own name was accepted as a
-/// prefix, and why the parse has stopped: `None` until it does.
+/// What the parser remembers: the moment from which relative dates count, the anchor, whether the
+/// delegate accepted this revision's own name as a prefix, and why the parse has stopped. The last
+/// is `None` until the parse stops.
 #[derive(Drop)]
 pub(crate) struct Context<'a> {
     pub(crate) now: Time,
@@ -32,7 +33,7 @@ pub(crate) struct Context<'a> {
 }
 
 impl<'a> Context<'a> {
-    /// At the start of a text nothing was accepted.
+    /// Makes the context of the start of a text, where no call was accepted yet.
     pub(crate) fn new(now: Time) -> Context<'a>
         ensures known { context_of result ≡ start now }
         ensures error { result.error ≡ None }
@@ -45,7 +46,7 @@ impl<'a> Context<'a> {
         }
     }
 
-    /// Keeps why the parse stops.
+    /// Keeps the reason why the parse stops.
     pub(crate) fn stop(&mut self, error: Error<'a>) -> Stopped
         ensures { self.new ≡ stopped self.old error.entry }
     {

@@ -1,17 +1,18 @@
-//! Where the name at the front of a text ends.
+//! Finds the end of the name at the front of a text.
 
 ghost use Rattle.std.specs.Prelude.{◌≡◌, ◌<◌, ◌≤◌, ◌^◌, ◌+◌, length, slice_index, if◌then◌else◌, ◌==◌};
 ghost use Rattle.gix_spec.specs.Marks.{dot};
 ghost use Rattle.gix_spec.specs.Cut.{two_dots_at, at_ends, ends_name, cut_of};
 ghost use Rattle.gix_spec.specs.Found.{slice_of, after_mark};
 
-// The byte at a place, or 0 past the end.
+// Returns the byte at a place, or 0 past the end.
 fn byte_at(text: &[u8], place: usize) -> u8
     ensures { result ≡ slice_index text.now place }
 {
     if place < text.len() { text[place] } else { 0 }
 }
 
+// Tests whether two dots begin at a place.
 fn two_dots_at(text: &[u8], place: usize) -> bool
     requires { place < 2 ^ 63 }
     ensures { result ≡ two_dots_at text.now place }
@@ -19,7 +20,7 @@ fn two_dots_at(text: &[u8], place: usize) -> bool
     byte_at(text, place) == b'.' && byte_at(text, place + 1) == b'.'
 }
 
-// Whether an `@` ends the name, whose part since its last dot begins at `start`.
+// Tests whether an `@` ends the name, whose part after its last dot begins at `start`.
 #[tactic(auto, unfolding(crate::specs::Cut::at_ends))]
 fn at_ends(text: &[u8], start: usize, place: usize) -> bool
     requires place { place < length text.now }
@@ -31,6 +32,7 @@ fn at_ends(text: &[u8], start: usize, place: usize) -> bool
             && !(start < place && two_dots_at(text, place + 1)))
 }
 
+// Tests whether the name, whose part after its last dot begins at `start`, ends at a place.
 #[tactic(auto, unfolding(crate::specs::Cut::ends_name))]
 fn ends_name(text: &[u8], start: usize, place: usize) -> bool
     requires place { place < length text.now }
@@ -43,7 +45,7 @@ fn ends_name(text: &[u8], start: usize, place: usize) -> bool
         || (byte == b'@' && at_ends(text, start, place))
 }
 
-// Where the part behind the last dot begins, one place further.
+// Returns where the part after the last dot begins, one place further.
 fn part_start(byte: u8, start: usize, place: usize) -> usize
     requires { place < 2 ^ 63 }
     ensures { result ≡ (if byte == dot then place + 1 else start) }
@@ -51,7 +53,7 @@ fn part_start(byte: u8, start: usize, place: usize) -> usize
     if byte == b'.' { place + 1 } else { start }
 }
 
-/// The length of the name at the front of a text.
+/// Returns the length of the name at the front of a text.
 pub(crate) fn cut(text: &[u8]) -> usize
     ensures place { result ≡ cut_of text.now }
     ensures within { result ≤ length text.now }
@@ -66,7 +68,7 @@ pub(crate) fn cut(text: &[u8]) -> usize
     text.len()
 }
 
-/// What stands behind a mark, where a text begins with it.
+/// Returns the text after a mark, if the text begins with the mark.
 pub(crate) fn after_mark(text: &[u8], mark: u8) -> Option<&[u8]>
     ensures { slice_of result ≡ after_mark mark text.now }
 {

@@ -1,4 +1,4 @@
-//! What a parse calls, and the arguments of the calls.
+//! The traits that the parser calls, and the arguments of the calls.
 
 ghost use Rattle.std.specs.Prelude.{◌≡◌, option_map};
 ghost use Rattle.gix_base.specs.Prefix.{prefix_text};
@@ -13,62 +13,64 @@ use gix_base::error::Exn;
 use gix_base::hash::Prefix;
 use gix_base::object;
 
-/// What is known of the object that a prefix means.
+/// What is known of the object that an abbreviated object name stands for.
 #[derive(Clone, Copy, Debug, PartialEq, Eq, PartialOrd, Ord, Hash)]
 pub enum PrefixHint<'a> {
     /// It is a commit.
     MustBeCommit,
-    /// It is the commit that `git describe` named by that reference.
+    /// It is the commit that `git describe` named by this tag or ref.
     DescribeAnchor {
-        /// The name of the reference, as `v1.2`.
+        /// The name of the tag or ref, such as `v1.2`.
         ref_name: &'a [u8],
-        /// How many commits it is ahead of the reference.
+        /// How many commits it is ahead of the tag or ref.
         generation: usize,
     },
 }
 
-/// What is looked up in a reflog.
+/// Which entry of a reflog is asked for.
 #[derive(Clone, Copy, Debug, PartialEq, Eq, PartialOrd, Ord, Hash)]
 pub enum ReflogLookup {
-    /// The entry of that number, 0 the newest.
+    /// The entry of this number. The newest is number 0.
     Entry(usize),
-    /// The entry at that time.
+    /// The entry at this time.
     Date(Time),
 }
 
 /// A step along the history.
 #[derive(Clone, Copy, Debug, PartialEq, Eq, PartialOrd, Ord, Hash)]
 pub enum Traversal {
-    /// To the parent of that number, 1 the first.
+    /// To the parent of this number. The first parent is number 1.
     NthParent(usize),
-    /// So many times to the first parent.
+    /// This many times to the first parent.
     NthAncestor(usize),
 }
 
-/// What an object is peeled to.
+/// The target that an object is peeled to.
 #[derive(Clone, Copy, Debug, PartialEq, Eq, PartialOrd, Ord, Hash)]
 pub enum PeelTo<'a> {
-    /// An object of that kind.
+    /// An object of this kind.
     ObjectKind(object::Kind),
     /// Any object that exists.
     ValidObject,
-    /// What a tag leads to in the end.
+    /// The object that a tag leads to in the end.
     RecursiveTagObject,
-    /// What stands at that path of a tree.
+    /// The object at this path of a tree.
     Path(&'a [u8]),
 }
 
-/// A branch that belongs to another.
+/// A branch that belongs to another branch.
 #[derive(Clone, Copy, Debug, PartialEq, Eq, PartialOrd, Ord, Hash)]
 pub enum SiblingBranch {
-    /// The one that it is built on.
+    /// The branch that it is built on.
     Upstream,
-    /// The one that it is pushed to.
+    /// The branch that it is pushed to.
     Push,
 }
 
 impl SiblingBranch {
-    /// Reads `u`, `upstream` or `push`, in any ASCII letter case; `None` of every other text:
+    /// Returns the sibling branch that `text` names: `u`, `upstream` or `push`.
+    ///
+    /// ASCII letters may be in upper or lower case. The answer is `None` for every other text. See
     /// gitrevisions, `@{upstream}` and `@{push}`.
     pub fn parse(text: &[u8]) -> Option<SiblingBranch>
         ensures { result ≡ sibling_of text.now }
@@ -83,23 +85,26 @@ impl SiblingBranch {
     }
 }
 
-/// What each call of a delegate may do. An implementor names the relation, and its functions keep it.
+/// Says what each call of a delegate may do. An implementor defines the relation `step`, and each
+/// of its functions keeps to it.
 ///
-/// `Ok` accepts a call. An `Exn` with `out_of_memory` ends the parse at once, with
-/// `Error::OutOfMemory` and no further call. Any other `Exn` refuses the call: a refused prefix
-/// leads to `find_ref` of the name as it is written, and every other refusal to a fault.
+/// `Ok` accepts a call. An `Exn` with `out_of_memory` ends the parse at once: it returns
+/// `Error::OutOfMemory` and makes no further call. Any other `Exn` refuses the call. If a prefix is
+/// refused, `find_ref` of the name as it is written follows. Every other refusal leads to a fault,
+/// also that of a prefix that `^-` repeats.
 pub trait Listener {
-    /// From the first value, the call may be answered so and leave the second value.
+    /// The relation: a delegate in the first state may give this answer to this call, and is then
+    /// in the second state.
     ghost step: { Self → Call → Answer → Self → Type 0 };
 }
 
-/// Calls that say where a revision begins.
+/// The calls that say where a revision begins.
 pub trait Revision: Listener {
-    /// A name is to be found among the references, `HEAD` too.
+    /// Looks up a ref by its name, also `HEAD`.
     fn find_ref(&mut self, name: &[u8]) -> Result<(), Exn>
         ensures { Self.step self.old (find_ref name.now) (answer_of result) self.new };
 
-    /// The digits of an id are to be completed. Refused, `find_ref` of the whole name follows.
+    /// Looks up an abbreviated object name. If it is refused, `find_ref` of the whole name follows.
     fn disambiguate_prefix(
         &mut self,
         prefix: Prefix,
@@ -109,48 +114,49 @@ pub trait Revision: Listener {
             (Call.prefix (prefix_text prefix) (option_map hint_of hint.entry))
             (answer_of result) self.new };
 
-    /// The reflog of the reference, or of the current branch, is to be looked into.
+    /// Looks up an entry in the reflog of the ref, or of the current branch.
     fn reflog(&mut self, query: ReflogLookup) -> Result<(), Exn>
         ensures { Self.step self.old (Call.reflog query) (answer_of result) self.new };
 
-    /// The branch that was checked out so many times ago.
+    /// Looks up the `branch_no`-th branch checked out before the current one.
     fn nth_checked_out_branch(&mut self, branch_no: usize) -> Result<(), Exn>
         ensures { Self.step self.old (branch branch_no) (answer_of result) self.new };
 
-    /// A branch that belongs to the reference, or to the current branch.
+    /// Looks up a branch that belongs to the ref, or to the current branch.
     fn sibling_branch(&mut self, kind: SiblingBranch) -> Result<(), Exn>
         ensures { Self.step self.old (sibling kind) (answer_of result) self.new };
 }
 
-/// The call that says what the revisions span.
+/// The call that says which set of commits the revisions stand for.
 pub trait Kind: Listener {
-    /// How the spec is read. It may come twice, as for `a..b^!`.
+    /// Receives the form of the spec. This call may come twice, as for `a..b^!`.
     fn kind(&mut self, kind: spec::Kind) -> Result<(), Exn>
         ensures { Self.step self.old (Call.kind kind) (answer_of result) self.new };
 }
 
-/// Calls that go on from where a revision began.
+/// The calls that go on from where a revision began.
 pub trait Navigate: Listener {
-    /// A step along the history.
+    /// Takes a step along the history.
     fn traverse(&mut self, kind: Traversal) -> Result<(), Exn>
         ensures { Self.step self.old (traverse kind) (answer_of result) self.new };
 
-    /// An object is to be peeled.
+    /// Peels the object.
     fn peel_until(&mut self, kind: PeelTo<'_>) -> Result<(), Exn>
         ensures { Self.step self.old (peel (target_of kind.entry)) (answer_of result) self.new };
 
-    /// The youngest commit whose message the regex matches, or does not match where it is negated.
+    /// Finds the youngest commit whose message the regex matches, or does not match if `negated`.
     fn find(&mut self, regex: &[u8], negated: bool) -> Result<(), Exn>
         ensures { Self.step self.old (find regex.now negated) (answer_of result) self.new };
 
-    /// A path in the index, at a stage from 0 to 3.
+    /// Looks up a path in the index, at a stage from 0 to 3.
     fn index_lookup(&mut self, path: &[u8], stage: u8) -> Result<(), Exn>
         ensures { Self.step self.old (index path.now stage) (answer_of result) self.new };
 }
 
-/// What a revision text is told to: where it begins, where it goes from there, and what it spans.
+/// The receiver of the parser's calls: where a revision begins, its steps, and what it spans.
 pub trait Delegate: Revision + Navigate + Kind {
-    /// The text is read. It may come twice, where a closer such as `^!` ends the second revision.
+    /// Receives the end of the expression. This call may come twice, if a closer such as `^!` ends
+    /// the second revision.
     fn done(&mut self) -> Result<(), Exn>
         ensures { Self.step self.old done (answer_of result) self.new };
 }

@@ -1,4 +1,4 @@
-//! Names as `git describe` prints them.
+//! Reads names that `git describe` prints, such as `v1.2-5-g0a1b2c3`.
 
 ghost use Rattle.std.specs.Prelude.{◌≡◌, ◌<◌, ◌≤◌, ◌+◌, IfSome, option_map, length, drop};
 ghost use Rattle.std.specs.List.{list_all, list_any, prefix_len};
@@ -13,7 +13,7 @@ use super::number::number;
 use super::part::Attempt;
 use gix_base::hash::Prefix;
 
-/// 4 to 40 hex digits, with what is known of the object.
+/// Returns the prefix call for 4 to 40 hex digits, with the given hint; `None` for other texts.
 pub(crate) fn prefix_with<'a>(digits: &'a [u8], hint: Option<PrefixHint<'a>>) -> Option<Attempt<'a>>
     ensures { option_map attempt_found result
         ≡ prefix_with digits.now (option_map hint_of hint.entry) }
@@ -27,7 +27,7 @@ pub(crate) fn prefix_with<'a>(digits: &'a [u8], hint: Option<PrefixHint<'a>>) ->
     }
 }
 
-// The last dash of a text.
+// Finds the last dash of a text.
 fn last_dash(text: &[u8]) -> Option<usize>
     ensures place { result ≡ last_dash text.now }
     ensures within { IfSome result (λ k. k < length text.now) }
@@ -40,6 +40,7 @@ fn last_dash(text: &[u8]) -> Option<usize>
     None
 }
 
+// Counts the bytes before the first dash.
 fn token_len(text: &[u8]) -> usize
     ensures len { result ≡ prefix_len is_no_dash text.now }
     ensures within { result ≤ length text.now }
@@ -47,20 +48,21 @@ fn token_len(text: &[u8]) -> usize
     text.iter().take_while(|byte| **byte != b'-').count()
 }
 
-// The bytes up to a dash.
+// Returns the bytes before the first dash.
 fn token(text: &[u8]) -> &[u8]
     ensures { result.now ≡ token_of text.now }
 {
     &text[..token_len(text)]
 }
 
+// Tests whether all bytes are hex digits.
 fn are_hex_digits(text: &[u8]) -> bool
     ensures { result ≡ list_all is_hex_digit text.now }
 {
     text.iter().all(|byte| byte.is_ascii_hexdigit())
 }
 
-// Whether the token at the front of a text is a `g` and hex digits.
+// Tests whether the token at the front of a text is a `g` and hex digits.
 #[tactic(auto, unfolding(crate::specs::DescribeText::is_id_token))]
 fn is_id_token(text: &[u8]) -> bool
     ensures { result ≡ is_id_token text.now }
@@ -71,7 +73,7 @@ fn is_id_token(text: &[u8]) -> bool
     }
 }
 
-// The last dash that such a token follows.
+// Finds the last dash that a token of a `g` and hex digits follows.
 fn last_id_dash(text: &[u8]) -> Option<usize>
     ensures place { result ≡ last_id_dash text.now }
     ensures within { IfSome result (λ k. k + 1 < length text.now) }
@@ -84,7 +86,7 @@ fn last_id_dash(text: &[u8]) -> Option<usize>
     None
 }
 
-// What stands before the dash of the id: a name, a dash and a number, or any other text.
+// Reads the text before the dash of the id: a name, a dash and a number, or any other text.
 #[tactic(auto, unfolding(crate::specs::DescribeText::hint_of_text))]
 fn hint(before: &[u8]) -> PrefixHint<'_>
     ensures { hint_of result ≡ hint_of_text before.now }
@@ -101,13 +103,14 @@ fn hint(before: &[u8]) -> PrefixHint<'_>
     }
 }
 
+// Tests whether a text has a byte that is not a dash.
 fn has_token(text: &[u8]) -> bool
     ensures { result ≡ list_any is_no_dash text.now }
 {
     text.iter().any(|byte| *byte != b'-')
 }
 
-// Hex digits before the only dash.
+// Returns the prefix call for hex digits before the only dash.
 fn short_form(text: &[u8]) -> Option<Attempt<'_>>
     ensures { option_map attempt_found result ≡ short_form text.now (last_dash text.now) }
 {
@@ -115,7 +118,7 @@ fn short_form(text: &[u8]) -> Option<Attempt<'_>>
     prefix_with(&text[..place], None)
 }
 
-/// The prefix call that is tried for a describe text: the long form, or else the short one.
+/// Returns the prefix call for a describe text: that of the long form, or else of the short form.
 #[tactic(auto, unfolding(crate::specs::DescribeText::describe_attempt))]
 pub(crate) fn describe_attempt(text: &[u8]) -> Option<Attempt<'_>>
     ensures { option_map attempt_found result ≡ describe_attempt text.now }

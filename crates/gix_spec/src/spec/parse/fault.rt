@@ -1,4 +1,4 @@
-//! Why a revision text is refused.
+//! The faults of revision expressions.
 
 ghost use Rattle.std.specs.Prelude.{◌≡◌, Some, IfSome};
 ghost use Rattle.gix_spec.specs.FaultTexts.{fault_text, number_of};
@@ -8,67 +8,67 @@ use crate::spec::Kind;
 use std::fmt;
 use thiserror::Error;
 
-/// A fault of a text, or a call that the delegate refused.
+/// What is wrong with a revision expression: a fault of its text, or a call that was refused.
 #[derive(Clone, Copy, Debug, PartialEq, Eq, Error)]
 pub enum Fault {
-    /// The kind was refused.
+    /// The delegate refused the kind.
     KindRefused(Kind),
-    /// HEAD was refused, where it is written `@` or implied.
+    /// The delegate refused HEAD, which is written `@` or implied.
     HeadRefused,
-    /// A range after an exclude mark.
+    /// A range mark follows an exclude mark.
     KindTwice { was: Kind, now: Kind },
-    /// Text is left, or a lone negated mark, or nothing that `^-` can repeat.
+    /// Text is left over, or a negated regex is empty, or `^-` has nothing to repeat.
     Unconsumed,
-    /// `done` was refused at the end.
+    /// The delegate refused `done` at the end.
     DoneRefused,
-    /// `done` was refused after `^!`, `^@` or `^-`.
+    /// The delegate refused `done` after `^!`, `^@` or `^-`.
     DoneRefusedInNavigation,
-    /// `:` alone.
+    /// `:` is alone.
     LoneColon,
-    /// `:/` alone.
+    /// `:/` is alone.
     LoneColonSlash,
-    /// `!` without `-` or `!` after it, in front of a regex.
+    /// A regex begins with `!`, but no `-` or `!` follows it.
     RegexPrefix,
-    /// The regex was refused.
+    /// The delegate refused the regex.
     FindRefused,
-    /// The path in the index was refused, at this stage.
+    /// The delegate refused the path in the index, at this stage.
     IndexRefused(u8),
-    /// No attempt on a name was accepted.
+    /// The delegate accepted no way to read the name.
     NameRefused,
-    /// `@` after a name without `{`.
+    /// An `@` follows a name, and no `{` follows the `@`.
     AtWithoutBraces,
     /// A pair of braces never closes.
     UnclosedBrace,
-    /// A minus sign before zeros.
+    /// A minus sign precedes zeros.
     NegativeZero,
-    /// A negative number in the braces after a name.
+    /// The braces after a name have a negative number.
     NegativeEntry,
-    /// A reflog entry or date after an accepted prefix.
+    /// A reflog entry or date follows an accepted prefix.
     ReflogWithoutName,
-    /// A sibling branch after an accepted prefix.
+    /// A sibling branch follows an accepted prefix.
     SiblingWithoutName,
-    /// The text in the braces is no date.
+    /// The text in the braces is not a date.
     Date,
-    /// What the braces say was refused.
+    /// The delegate refused what the braces ask for.
     AtRefused,
     /// A revision begins with `~`.
     TildeFirst,
-    /// A sign where none may stand.
+    /// A sign is in a place that allows none.
     Sign,
-    /// Digits that are no number of the type.
+    /// The digits are not a number in range.
     Number,
-    /// The step was refused.
+    /// The delegate refused the step.
     TraverseRefused(Traversal),
-    /// The object could not be peeled.
+    /// The delegate refused to peel the object.
     PeelRefused,
-    /// `^{..}` with an unknown target.
+    /// The target in `^{..}` is unknown.
     UnknownTarget,
-    /// What `^-` repeats was refused.
+    /// The delegate refused the call that `^-` repeats.
     RepeatRefused,
 }
 
 impl Fault {
-    /// The number of this fault, from 1 on, in the order of the cases.
+    /// Returns the number of this fault: the place of its variant, from 1 to 27.
     pub fn number(&self) -> u8
         ensures { result ≡ number_of self.now }
     {
@@ -103,7 +103,7 @@ impl Fault {
         }
     }
 
-    /// What is printed, but nothing where a debug form stands in it.
+    /// Returns the text that is printed, or an empty text if a debug form is part of it.
     fn text(&self) -> &'static str
         ensures { IfSome (fault_text self.now) (λ text. result.now ≡ text) }
     {

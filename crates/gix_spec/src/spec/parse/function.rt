@@ -1,4 +1,4 @@
-//! Reading a text from its front, and calling the delegate on the way.
+//! Reads a revision expression from its front, and calls the delegate on the way.
 
 ghost use Rattle.std.specs.Prelude.{◌≡◌, Some, None, option_map, false, IsErrOf};
 ghost use Rattle.gix_spec.specs.Trees.{takes_memory};
@@ -28,7 +28,7 @@ use crate::spec::Kind;
 use gix_base::date::Time;
 use std::alloc::Allocator;
 
-/// Makes the calls of what was found at the front of a text.
+/// Makes the calls of the part that was found at the front of a text.
 #[inline(always)]
 pub(crate) fn read<'a, D: Delegate>(
     found: Found<'a>,
@@ -54,7 +54,7 @@ pub(crate) fn read<'a, D: Delegate>(
     })
 }
 
-/// Reads the name of a revision, and an `@` behind it.
+/// Reads the name of a revision, and an `@` after it.
 #[inline(always)]
 fn anchor<'a, A: Allocator, D: Delegate>(
     alloc: A,
@@ -138,7 +138,7 @@ fn revision<'a, A: Allocator + Copy, D: Delegate>(
     named_revision(alloc, text, context, delegate)
 }
 
-/// The range mark that a text begins with, and what follows it.
+/// Reads the range mark at the front of a text: its kind, and the text after it.
 #[tactic(auto, unfolding(crate::specs::Reading::range_mark))]
 fn mark(text: &[u8]) -> Option<(Kind, &[u8])>
     ensures { option_map (λ x. (x.0, x.1.now)) result ≡ range_mark text.now }
@@ -152,7 +152,7 @@ fn mark(text: &[u8]) -> Option<(Kind, &[u8])>
     None
 }
 
-/// Calls for HEAD where a side of a range consumed nothing.
+/// Makes the call for HEAD if a side of a range is empty.
 fn imply_head<'a, D: Delegate>(
     text: &'a [u8],
     rest: &'a [u8],
@@ -169,7 +169,7 @@ fn imply_head<'a, D: Delegate>(
     Ok(())
 }
 
-/// Ends the text, where nothing is left of it.
+/// Makes the call for the end of the text, or stops with a fault if text is left.
 fn end<'a, D: Delegate>(
     rest: &'a [u8],
     context: &mut Context<'a>,
@@ -185,7 +185,7 @@ fn end<'a, D: Delegate>(
     Err(fault(Fault::Unconsumed, Some(rest), context))
 }
 
-/// Reads what stands after a range mark.
+/// Reads the second side of a range, after the mark.
 fn second<'a, A: Allocator + Copy, D: Delegate>(
     alloc: A,
     text: &'a [u8],
@@ -201,8 +201,8 @@ fn second<'a, A: Allocator + Copy, D: Delegate>(
     end(side.rest, context, delegate)
 }
 
-/// The first side of a text: whether an exclude mark stands before it, the text from it on, and
-/// what is left behind it.
+/// The first side of a text: whether an exclude mark precedes it, the text from its start on, and
+/// the rest after it.
 #[derive(Clone, Copy)]
 struct First<'a> {
     excluded: bool,
@@ -234,7 +234,7 @@ fn range_side<'a, A: Allocator + Copy, D: Delegate>(
     second(alloc, after, context, delegate)
 }
 
-/// Reads what stands behind the first side.
+/// Reads the text after the first side.
 fn after_side<'a, A: Allocator + Copy, D: Delegate>(
     alloc: A,
     first: First<'a>,
@@ -253,7 +253,7 @@ fn after_side<'a, A: Allocator + Copy, D: Delegate>(
     }
 }
 
-/// Reads one side, or two.
+/// Reads one side, or both sides of a range.
 fn sides<'a, A: Allocator + Copy, D: Delegate>(
     alloc: A,
     excluded: bool,
@@ -278,7 +278,7 @@ fn sides<'a, A: Allocator + Copy, D: Delegate>(
     }
 }
 
-/// Whether a text begins with `^`, and what follows.
+/// Tests whether a text begins with `^`, and returns the text without it.
 fn strip_exclude(text: &[u8]) -> (bool, &[u8])
     ensures { (result.0, result.1.now) ≡ exclude_mark text.now }
 {
@@ -288,7 +288,7 @@ fn strip_exclude(text: &[u8]) -> (bool, &[u8])
     }
 }
 
-/// Calls for the exclude mark, where there is one.
+/// Makes the call for the exclude mark, if there is one.
 fn exclude<'a, D: Delegate>(
     excluded: bool,
     context: &mut Context<'a>,
@@ -304,7 +304,7 @@ fn exclude<'a, D: Delegate>(
     Ok(())
 }
 
-/// Reads a text.
+/// Reads a whole revision expression.
 fn whole<'a, A: Allocator + Copy, D: Delegate>(
     alloc: A,
     text: &'a [u8],
@@ -320,14 +320,20 @@ fn whole<'a, A: Allocator + Copy, D: Delegate>(
     sides(alloc, excluded, sides_text, context, delegate)
 }
 
-/// Reads the revision text `input` and tells `delegate` what it says, in calls from the front of the
-/// text to its end: gitrevisions, "Specifying Revisions" and "Specifying Ranges".
+/// Parses the revision expression `input`, and reports its parts to `delegate` in order.
 ///
-/// `Ok` where the text is read to its end and the delegate accepted each call that has to be.
-/// `Error::Refused` names the fault, the part of `input` that is at fault, and the delegate's
-/// refusals that led to it. `Error::OutOfMemory` where the delegate answered so; it is not called
-/// again. The parse takes memory itself only where a backslash is taken out of a text in braces, and
-/// wants some only there. `now` is the moment that dates are read at.
+/// The syntax is that of gitrevisions, "Specifying Revisions" and "Specifying Ranges". The calls go
+/// from the front of the text to its end. `now` is the moment from which relative dates count.
+///
+/// The answer is `Ok` if the text was read to its end and the delegate accepted each call that it
+/// has to accept. The parser allocates memory only to remove an escape from a text in braces.
+///
+/// # Errors
+///
+/// - [`Error::Refused`]: the fault, the part of `input` that is wrong, and the delegate's refusals
+///   that led to the fault.
+/// - [`Error::OutOfMemory`]: the delegate reported that memory ran out, and is not called again; or
+///   an allocation for removing an escape failed.
 pub fn parse<'a, A: Allocator + Copy, D: Delegate>(
     alloc: A,
     input: &'a [u8],

@@ -1,4 +1,4 @@
-//! The name of a revision.
+//! Reads the name of a revision.
 
 ghost use Rattle.std.specs.Prelude.{◌≡◌, option_map, ◌≤◌, length};
 ghost use Rattle.gix_spec.specs.Names.{attempt_of, named};
@@ -7,7 +7,7 @@ ghost use Rattle.gix_spec.specs.Found.{attempt_found, part_of};
 use super::describe_text::{describe_attempt, prefix_with};
 use super::part::{Attempt, Found, Part, Piece};
 
-// The prefix call that is tried first on a name, if there is one.
+// Returns the prefix call that is tried first for a name, if any.
 #[tactic(auto, unfolding(crate::specs::Names::attempt_of))]
 fn attempt(name: &[u8]) -> Option<Attempt<'_>>
     ensures { option_map attempt_found result ≡ attempt_of name.now }
@@ -18,7 +18,7 @@ fn attempt(name: &[u8]) -> Option<Attempt<'_>>
     }
 }
 
-/// The name that the first bytes of a text are.
+/// Returns the part that is the first `len` bytes of a text, as a name.
 pub(crate) fn named(text: &[u8], len: usize) -> Found<'_>
     requires { len ≤ length text.now }
     ensures { part_of result ≡ named text.now len }

@@ -1,13 +1,13 @@
-//! Numbers in a text.
+//! Reads numbers in a text.
 
 ghost use Rattle.std.specs.Prelude.{◌≡◌, IfSome, option_map};
 ghost use Rattle.gix_spec.specs.Number.{number_of, behind_minus, plain_by, signed_of};
 ghost use Rattle.gix_spec.specs.Found.{signed_found, FitsIsize};
 
-// The digits of the least isize.
+// The least `isize`, without its minus sign.
 const LEAST_ISIZE: usize = 1 << 63;
 
-/// The number that decimal digits say, a plus allowed before them, where a usize holds it.
+/// Returns the number that decimal digits say, if it fits a `usize`. A plus may precede them.
 pub(crate) fn number(text: &[u8]) -> Option<usize>
     ensures { result ≡ number_of text.now }
 {
@@ -20,14 +20,14 @@ pub(crate) fn number(text: &[u8]) -> Option<usize>
     }
 }
 
-/// A number with a minus before it, or with none, by its digits.
+/// A number with a minus sign or without one, by its digits.
 #[derive(Clone, Copy)]
 pub(crate) enum Signed {
     Minus(usize),
     Plain(usize),
 }
 
-// The number behind a minus, where an isize holds it.
+// Returns the number after a minus sign, if an `isize` holds it.
 fn behind_minus(text: &[u8]) -> Option<Signed>
     ensures value { option_map signed_found result ≡ behind_minus text.now }
     ensures within { IfSome result FitsIsize }
@@ -41,7 +41,7 @@ fn behind_minus(text: &[u8]) -> Option<Signed>
     }
 }
 
-// A number without a sign, where an isize holds it.
+// Returns a number without a minus sign, if an `isize` holds it.
 fn plain(number: Option<usize>) -> Option<Signed>
     ensures value { option_map signed_found result ≡ plain_by number }
     ensures within { IfSome result FitsIsize }
@@ -52,7 +52,7 @@ fn plain(number: Option<usize>) -> Option<Signed>
     }
 }
 
-/// The number that decimal digits say, a sign allowed before them, where an isize holds it.
+/// Returns the number that decimal digits say, if it fits an `isize`. A sign may precede them.
 #[tactic(auto, unfolding(crate::specs::Number::signed_of))]
 pub(crate) fn signed_number(text: &[u8]) -> Option<Signed>
     ensures value { option_map signed_found result ≡ signed_of text.now }

@@ -1,4 +1,4 @@
-//! What stands at the front of a text: a piece of it, and what is left behind.
+//! Parts of a text: the piece at its front, and the rest after it.
 
 ghost use Rattle.std.specs.Prelude.{◌≡◌};
 ghost use Rattle.gix_spec.specs.Part.{nothing, piece, closing, refusal};
@@ -9,33 +9,34 @@ use super::fault::Fault;
 use crate::spec::Kind;
 use gix_base::hash::Prefix;
 
-/// The way on behind a part of a text.
+/// What follows a part of a text.
 #[derive(Clone, Copy)]
 pub(crate) enum Way {
-    /// Reading goes on.
+    /// More may be read.
     Onward,
     /// The part was a closer, such as `^!`.
     Closed,
 }
 
-/// The prefix call that is tried first on a name.
+/// The prefix call that is tried first for a name.
 #[derive(Clone, Copy)]
 pub(crate) struct Attempt<'a> {
     pub(crate) prefix: Prefix,
     pub(crate) hint: Option<PrefixHint<'a>>,
 }
 
-/// A piece of a text, with the parts of the text that its calls and their faults name: `inner` is
-/// what is written between braces, `own` the name of the revision, `after` what follows the mark of
-/// a step, `rest` what follows the piece, `whole` the text from the start of its revision on.
+/// A piece of a text, with the parts of the text that its calls and their faults name.
 ///
-/// A regex and a date in braces are not among these: what they call for, where an escape is taken
-/// out, is no part of the text.
+/// `inner` is the text between braces as it is written, `own` is the name of the revision, `after`
+/// is the text after the mark of a step, `rest` is the text after the piece, and `whole` is the
+/// text from the start of the revision on.
+///
+/// A regex or a date in braces has no piece here: without escapes, it is not a part of the text.
 #[derive(Clone, Copy)]
 pub(crate) enum Piece<'a> {
     /// `^` in front of the whole text.
     Exclude,
-    /// A regex, as it is written after its mark, and what is looked for.
+    /// A regex: `raw` as it is written after its mark, and `wanted`, which is looked for.
     Regex {
         wanted: &'a [u8],
         raw: &'a [u8],
@@ -46,9 +47,9 @@ pub(crate) enum Piece<'a> {
         path: &'a [u8],
         stage: u8,
     },
-    /// HEAD, written `@`, or implied where a side of a range is empty.
+    /// HEAD: written `@`, or implied by an empty side of a range.
     Head,
-    /// A name, and the prefix call that is tried first, if there is one.
+    /// A name, and the prefix call that is tried first, if any.
     Name {
         text: &'a [u8],
         whole: &'a [u8],
@@ -107,10 +108,10 @@ pub(crate) struct Refusal<'a> {
     pub(crate) input: Option<&'a [u8]>,
 }
 
-/// What a reader finds at the front of a text.
+/// The result of reading the front of a text.
 pub(crate) type Found<'a> = Result<Part<'a>, Refusal<'a>>;
 
-/// What stands at the front of a text: a piece or none, what is left behind it, and the way on.
+/// The front of a text: at most one piece, the rest after it, and whether more may be read.
 #[derive(Clone, Copy)]
 pub(crate) struct Part<'a> {
     pub(crate) piece: Option<Piece<'a>>,
@@ -119,7 +120,7 @@ pub(crate) struct Part<'a> {
 }
 
 impl<'a> Part<'a> {
-    /// No piece.
+    /// Returns a part without a piece.
     pub(crate) fn nothing(text: &'a [u8]) -> Found<'a>
         ensures { part_of result ≡ nothing text.now }
     {
@@ -130,7 +131,7 @@ impl<'a> Part<'a> {
         })
     }
 
-    /// A piece behind which reading goes on.
+    /// Returns a part with one piece, after which more may be read.
     pub(crate) fn piece(found: Piece<'a>, rest: &'a [u8]) -> Found<'a>
         ensures { part_of result ≡ piece (piece_of found.entry) rest.now }
     {
@@ -141,7 +142,7 @@ impl<'a> Part<'a> {
         })
     }
 
-    /// A closer.
+    /// Returns a part that is a closer.
     pub(crate) fn closing(found: Piece<'a>, rest: &'a [u8]) -> Found<'a>
         ensures { part_of result ≡ closing (piece_of found.entry) rest.now }
     {
@@ -152,7 +153,7 @@ impl<'a> Part<'a> {
         })
     }
 
-    /// A fault of the text.
+    /// Returns a fault of the text.
     pub(crate) fn refusal(fault: Fault, input: Option<&'a [u8]>) -> Found<'a>
         ensures { part_of result ≡ refusal fault (slice_of input.entry) }
     {
@@ -160,7 +161,7 @@ impl<'a> Part<'a> {
     }
 }
 
-/// What is left of a text behind a part that was read well, and the way on.
+/// The rest of a text after a part that was read without fault, and whether more may be read.
 #[derive(Clone, Copy)]
 pub(crate) struct Behind<'a> {
     pub(crate) rest: &'a [u8],

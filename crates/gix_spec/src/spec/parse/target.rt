@@ -1,4 +1,4 @@
-//! Braces behind a `^`.
+//! Reads the braces after a `^`.
 
 ghost use Rattle.std.specs.Prelude.{◌≡◌, true, drop, option_map};
 ghost use Rattle.gix_spec.specs.Call.{target_of};
@@ -21,7 +21,7 @@ use super::part::{Behind, Found, Part, Piece, Way};
 use gix_base::object::Kind;
 use std::alloc::Allocator;
 
-// What an object is peeled to by a word, or by none.
+// Returns what an object is peeled to by a word, or by empty braces.
 #[tactic(auto, unfolding(crate::specs::Targets::target_named))]
 fn named(word: &[u8]) -> Option<PeelTo<'static>>
     ensures { option_map target_of result ≡ target_named word.now }
@@ -47,7 +47,7 @@ fn named(word: &[u8]) -> Option<PeelTo<'static>>
     None
 }
 
-// The mark that a `!` in front of a regex begins: how many bytes it takes, and whether it negates.
+// Reads the mark before a regex, after its `!`: how many bytes it takes, and whether it negates.
 fn banged(after: &[u8]) -> Option<(usize, bool)>
     ensures { result ≡ banged_mark after.now }
 {
@@ -58,6 +58,7 @@ fn banged(after: &[u8]) -> Option<(usize, bool)>
     }
 }
 
+// Reads the mark in front of a regex, if there is one.
 #[tactic(auto, unfolding(crate::specs::Targets::regex_mark))]
 fn mark(text: &[u8]) -> Option<(usize, bool)>
     ensures { result ≡ regex_mark text.now }
@@ -68,13 +69,14 @@ fn mark(text: &[u8]) -> Option<(usize, bool)>
     }
 }
 
+// Returns the text after its first `len` bytes.
 fn behind(text: &[u8], len: usize) -> &[u8]
     ensures { result.now ≡ drop len text.now }
 {
     &text[len.min(text.len())..]
 }
 
-// A regex behind its slash, as it is written and as it is meant.
+// Reads a regex after its slash: `raw` is the text as it is written, `meant` is without escapes.
 fn regex<'a, D: Delegate>(
     raw: &'a [u8],
     meant: &[u8],
@@ -98,7 +100,7 @@ fn regex<'a, D: Delegate>(
     })
 }
 
-// What is peeled to.
+// Returns the part that peels to the target, or the fault of an unknown target.
 fn peeled<'a, A: Allocator>(
     target: Option<PeelTo<'a>>,
     braces: &Braced<'a, A>,
@@ -113,7 +115,7 @@ fn peeled<'a, A: Allocator>(
     }
 }
 
-// What the braces behind a `^` hold, where `after` begins with them.
+// Reads the text in the braces after a `^`. `after` begins with the braces.
 fn inside<'a, A: Allocator, D: Delegate>(
     braces: &Braced<'a, A>,
     after: &'a [u8],
@@ -132,7 +134,7 @@ fn inside<'a, A: Allocator, D: Delegate>(
     }
 }
 
-/// Reads braces behind a `^`, from the opening one on.
+/// Reads the braces after a `^`, from the opening brace on.
 pub(crate) fn target<'a, A: Allocator, D: Delegate>(
     alloc: A,
     after: &'a [u8],
