@@ -1,10 +1,11 @@
 -- The text of a pair of braces: where the pair closes stands a closing one.
-use Rattle.std.proofs.Common.{◌≡◌, ℕ, zero, suc, ◌+◌, ◌-◌, ◌<◌, ◌≤◌, ◌==◌, ◌&&◌, not, cond, List, [], ◌∷◌, ◌++◌, Bool, true, false, length, get_or, slice_index, take, drop, refl, sym, ◌∙◌, ap, subst, arith, eq-eqb}
+use Rattle.std.proofs.Common.{◌≡◌, ℕ, zero, suc, ◌+◌, ◌-◌, ◌<◌, ◌≤◌, ◌==◌, ◌&&◌, not, cond, List, [], ◌∷◌, ◌++◌, Bool, true, false, length, get_or, slice_index, take, drop, refl, sym, ◌∙◌, ap, subst, arith, eq-eqb, append_assoc, length-append, length-drop}
 use Rattle.std.specs.Prelude.{nat_lt}
 use Rattle.std.proofs.lemmas.Bool.{eqb-true, ltb-true, ltb-false}
-use Rattle.std.proofs.lemmas.List.{take-append-drop, drop_more}
+use Rattle.std.proofs.lemmas.List.{take-append-drop, drop_more, get_or_append_left, length-take-le}
 use Rattle.gix_spec.specs.Marks.{brace, starts_with}
-use Rattle.gix_spec.specs.Braces.{is_escaped, counted, is_level, close_of, Braced, braced_to}
+use Rattle.gix_spec.specs.Braces.{is_special, follows_escape, is_escaped, counted, is_level, close_of, meant_of, Braced, braced_to}
+use Rattle.gix_spec.specs.Written.{meant_in}
 use Rattle.gix_spec.proofs.Places.{not_both, IsLeast, least_from-least}
 use Rattle.gix_spec.proofs.Pairs.{at_most_one}
 use Rattle.gix_spec.proofs.Sound.{first_true}
@@ -77,3 +78,43 @@ opens_with [] h k = cc
 opens_with (b ∷ more) h k =
     let least : IsLeast (is_level (b ∷ more)) (length (b ∷ more)) 0 (close_of (b ∷ more)) = close_least (b ∷ more) in
     opens_where b more (close_of (b ∷ more)) (sym (eqb-true b brace h)) (λ i low. least.none i (omega arith) low) (least.found (omega (arith, k))) k
+
+-- The text without escapes depends on the pair alone, and not on the text after it.
+escape_front : (xs ys : List ℕ) (k : ℕ) → k ≤ length xs → follows_escape (xs ++ ys) k ≡ follows_escape xs k
+escape_front xs ys zero h = refl
+escape_front xs ys (suc k) h =
+    let byte : slice_index (xs ++ ys) k ≡ slice_index xs k = get_or_append_left xs ys 0 k (omega (arith, h)) in
+    ap (λ b. (b == 92) && not (follows_escape (xs ++ ys) k)) byte
+    ∙ ap (λ f. (slice_index xs k == 92) && not f) (escape_front xs ys k (omega (arith, h)))
+
+escaped_front : (xs ys : List ℕ) (k : ℕ) → k < length xs → is_escaped (xs ++ ys) k ≡ is_escaped xs k
+escaped_front xs ys k h =
+    ap (λ b. is_special b && follows_escape (xs ++ ys) k) (get_or_append_left xs ys 0 k h)
+    ∙ ap (λ f. is_special (slice_index xs k) && f) (escape_front xs ys k (omega (arith, h)))
+
+meant_front : (xs ys : List ℕ) (n : ℕ) → n + 1 < length xs → meant_of (xs ++ ys) n ≡ meant_of xs n
+meant_front xs ys zero h = refl
+meant_front xs ys (suc k) h =
+    ap (λ m. m ++ cond (is_escaped (xs ++ ys) (k + 2)) [] (slice_index (xs ++ ys) (k + 1) ∷ [])) (meant_front xs ys k (omega (arith, h)))
+    ∙ (ap (λ e. meant_of xs k ++ cond e [] (slice_index (xs ++ ys) (k + 1) ∷ [])) (escaped_front xs ys (k + 2) (omega (arith, h)))
+    ∙ ap (λ b. meant_of xs k ++ cond (is_escaped xs (k + 2)) [] (b ∷ [])) (get_or_append_left xs ys 0 (k + 1) (omega (arith, h))))
+
+pub means_inner : (text : List ℕ) (n : ℕ) → n < length text → OpensWith (braced_to text n) text → meant_of text (n - 1) ≡ meant_in (take (n - 1) (drop 1 text))
+means_inner text n h k =
+    let raw : List ℕ = take (n - 1) (drop 1 text) in
+    let long : length raw ≡ n - 1 = length-take-le (n - 1) (drop 1 text) (omega (arith, h, length-drop 1 text)) in
+    let split : text ≡ (brace ∷ (raw ++ (125 ∷ []))) ++ drop (n + 1) text =
+    k ∙ ap (λ xs. brace ∷ xs) (sym (append_assoc raw (125 ∷ []) (drop (n + 1) text))) in
+    ap (λ t. meant_of t (n - 1)) split
+    ∙ (meant_front (brace ∷ (raw ++ (125 ∷ []))) (drop (n + 1) text) (n - 1) (omega (arith, long, length-append raw (125 ∷ [])))
+    ∙ ap (λ m. meant_of (brace ∷ (raw ++ (125 ∷ []))) m) (sym long))
+
+-- a pair of braces at the front of a text, and its text without escapes
+pub record Holds (x : Braced) (text : List ℕ) : Type 0 where
+  pub opens : OpensWith x text
+  pub means : x.meant ≡ meant_in x.raw
+
+pub holds_pair : (text : List ℕ) → starts_with brace text ≡ true → close_of text < length text → Holds (braced_to text (close_of text)) text
+holds_pair text h k =
+    let opens : OpensWith (braced_to text (close_of text)) text = opens_with text h k in
+    record { opens = opens; means = means_inner text (close_of text) k opens }

@@ -15,7 +15,8 @@ use Rattle.gix_spec.specs.declared.spec.parse.fault.Fault.TheVariants.{Number}
 use Rattle.gix_spec.specs.Call.{Target, object}
 use Rattle.gix_spec.specs.Sibling.{sibling_of}
 use Rattle.gix_spec.specs.Braces.{Braced, close_of, braced_to, behind_escapes, braced_by, in_braces}
-use Rattle.gix_spec.specs.AtParts.{branch_at, number_at, word_at, inside_at, at_braces}
+use Rattle.gix_date.specs.Date.{date_of}
+use Rattle.gix_spec.specs.AtParts.{time_of, branch_at, number_at, word_at, inside_at, at_braces}
 use Rattle.gix_spec.specs.Targets.{target_named, banged_mark, regex_mark, marked_regex, peeled_to, inside_target, target_braces}
 use Rattle.gix_spec.specs.Cut.{cut_of}
 use Rattle.gix_spec.specs.Names.{at_part, without_name, anchor_by, anchor_at}
@@ -26,11 +27,11 @@ use Rattle.gix_spec.specs.Number.{digits_number, number_of, Signed, minus, plain
 use Rattle.gix_spec.specs.Pieces.{Piece, head, range, step, peel}
 use Rattle.gix_spec.specs.Part.{Part, Way, onward, closed, broken, nothing, piece, closing, refusal, joined, followed}
 use Rattle.gix_spec.specs.Steps.{ancestor_by, ancestor_run, ancestor_at, parent_by, without_by, without_at, run_at, is_digit_or_minus, parent_at, step_at, steps_at, navigation}
-use Rattle.gix_spec.specs.Written.{IsRegexIn, IsWritten, Spells}
+use Rattle.gix_spec.specs.Written.{meant_in, IsRegex, IsRegexIn, IsWritten, Spells}
 use Rattle.gix_spec.specs.Ends.{PiecesSpell}
 use Rattle.gix_spec.proofs.Places.{not_both}
 use Rattle.gix_spec.proofs.Sound.{first_true}
-use Rattle.gix_spec.proofs.PairText.{OpensWith, opens_with}
+use Rattle.gix_spec.proofs.PairText.{OpensWith, Holds, holds_pair}
 
 -- the pieces of a part spell a text up to what it leaves, and a part that was a fault leaves nothing
 pub record IsSpelled (text : List ℕ) (p : Part) : Type 0 where
@@ -154,21 +155,23 @@ spelled_escapes : (text : List ℕ) (escapes : Bool) (p : Part) → IsSpelled te
 spelled_escapes text true p h = record { spells = ([], text, refl, refl, h.spells); over = h.over }
 spelled_escapes text false p h = h
 
-spelled_pair : (m : ℕ) (b : Bool) (x : Braced) (text : List ℕ) (reading : Braced → Part) → (b ≡ true → OpensWith x text) →
-    ((y : Braced) → OpensWith y text → IsSpelled (m ∷ text) (reading y)) → IsSpelled (m ∷ text) (braced_by (if b then Some x else None) text reading)
+spelled_pair : (m : ℕ) (b : Bool) (x : Braced) (text : List ℕ) (reading : Braced → Part) → (b ≡ true → Holds x text) →
+    ((y : Braced) → Holds y text → IsSpelled (m ∷ text) (reading y)) → IsSpelled (m ∷ text) (braced_by (if b then Some x else None) text reading)
 spelled_pair m true x text reading h k = spelled_escapes _ x.escapes (reading x) (k x (h refl))
 spelled_pair m false x text reading h k = spelled_refusal _ _ _
 
 spelled_braces : (m : ℕ) (text : List ℕ) (reading : Braced → Part) → starts_with brace text ≡ true →
-    ((x : Braced) → OpensWith x text → IsSpelled (m ∷ text) (reading x)) → IsSpelled (m ∷ text) (in_braces text reading)
+    ((x : Braced) → Holds x text → IsSpelled (m ∷ text) (reading x)) → IsSpelled (m ∷ text) (in_braces text reading)
 unfolding in_braces
 spelled_braces m text reading h k =
-    spelled_pair m (nat_lt (close_of text) (length text)) (braced_to text (close_of text)) text reading (λ e. opens_with text h (ltb-true _ _ e)) k
+    spelled_pair m (nat_lt (close_of text) (length text)) (braced_to text (close_of text)) text reading (λ e. holds_pair text h (ltb-true _ _ e)) k
 
 -- `^{..}`
-peeled_spelled : (o : Option Target) (x : Braced) (after : List ℕ) → OpensWith x after → IsSpelled (caret ∷ after) (peeled_to o x after)
-peeled_spelled None x after h = spelled_refusal _ _ _
-peeled_spelled (Some target) x after h = spelled_piece _ _ (caret ∷ brace ∷ (x.raw ++ (125 ∷ []))) x.rest (braced_own caret x after h) (inl (x.raw, refl))
+peeled_spelled : (o : Option Target) (x : Braced) (after : List ℕ) → Holds x after → target_named x.meant ≡ o → IsSpelled (caret ∷ after) (peeled_to o x after)
+peeled_spelled None x after h e = spelled_refusal _ _ _
+peeled_spelled (Some target) x after h e =
+    let word : target_named (meant_in x.raw) ≡ Some target = ap target_named (sym h.means) ∙ e in
+    spelled_piece _ _ (caret ∷ brace ∷ (x.raw ++ (125 ∷ []))) x.rest (braced_own caret x after h.opens) (inl (x.raw, refl, word))
 
 -- a mark takes one byte or two
 abbrev MarkTakes : Option (ℕ × Bool) → Type 0
@@ -198,41 +201,65 @@ marked_in raw mark (inl h) = rw h (inl refl)
 marked_in raw mark (inr (inl h)) = rw h (inr (behind_one 1 raw))
 marked_in raw mark (inr (inr h)) = rw h (behind_one 2 raw)
 
-marked_spelled : (x : Braced) (meant after : List ℕ) (o : Option (ℕ × Bool)) → OpensWith x after → MarkTakes o →
-    IsSpelled (caret ∷ after) (marked_regex (drop 1 x.raw) meant x.rest o)
-marked_spelled x meant after None h k = spelled_refusal _ _ _
-marked_spelled x meant after (Some mark) h k =
-    spelled_piece _ _ (caret ∷ brace ∷ (x.raw ++ (125 ∷ []))) x.rest (braced_own caret x after h) (inr (x.raw, refl, marked_in x.raw mark k))
+-- the regex behind its mark
+abbrev MarksIn : (more : List ℕ) → Option (ℕ × Bool) → Type 0
+MarksIn more None = Unit {0}
+MarksIn more (Some mark) = IsRegex (drop mark.0 more) mark.1 more
 
-inside_target_spelled : (meant : List ℕ) (x : Braced) (after : List ℕ) → OpensWith x after → IsSpelled (caret ∷ after) (inside_target meant x after)
-inside_target_spelled [] x after h = peeled_spelled (target_named []) x after h
-inside_target_spelled (b ∷ more) x after h =
-    spelled_if _ (b == slash) _ _ (marked_spelled x more after (regex_mark more) h (mark_takes more)) (peeled_spelled (target_named (b ∷ more)) x after h)
+marks_where : (more : List ℕ) (b : Bool) (x y : Option (ℕ × Bool)) → (b ≡ true → MarksIn more x) → (b ≡ false → MarksIn more y) → MarksIn more (if b then x else y)
+marks_where more true x y h k = h refl
+marks_where more false x y h k = k refl
+
+banged_marks : (b : ℕ) (rest : List ℕ) → b ≡ bang → MarksIn (b ∷ rest) (banged_mark rest)
+banged_marks b [] e = tt
+banged_marks b (c ∷ rest) e =
+    marks_where (b ∷ c ∷ rest) (c == dash) _ _ (λ d. let same : c ≡ dash = eqb-true c dash d in rw (e, same) refl)
+    (λ d. marks_where (b ∷ c ∷ rest) (c == bang) _ _ (λ f. inr (ap (λ a. a ∷ c ∷ rest) e)) (λ f. tt))
+
+regex_marks : (more : List ℕ) → MarksIn more (regex_mark more)
+unfolding regex_mark
+regex_marks [] = inl refl
+regex_marks (b ∷ rest) = marks_where (b ∷ rest) (b == bang) _ _ (λ e. banged_marks b rest (eqb-true b bang e)) (λ e. inl refl)
+
+marked_spelled : (x : Braced) (more after : List ℕ) (o : Option (ℕ × Bool)) → Holds x after → MarkTakes o → meant_in x.raw ≡ slash ∷ more → MarksIn more o →
+    IsSpelled (caret ∷ after) (marked_regex (drop 1 x.raw) more x.rest o)
+marked_spelled x more after None h k e m = spelled_refusal _ _ _
+marked_spelled x more after (Some mark) h k e m =
+    spelled_piece _ _ (caret ∷ brace ∷ (x.raw ++ (125 ∷ []))) x.rest (braced_own caret x after h.opens) (inr (x.raw, refl, marked_in x.raw mark k, (more, e, m)))
+
+inside_target_spelled : (meant : List ℕ) (x : Braced) (after : List ℕ) → Holds x after → x.meant ≡ meant → IsSpelled (caret ∷ after) (inside_target meant x after)
+inside_target_spelled [] x after h e = peeled_spelled (target_named []) x after h (ap target_named e)
+inside_target_spelled (b ∷ more) x after h e =
+    spelled_where _ (b == slash) _ _
+    (λ d. marked_spelled x more after (regex_mark more) h (mark_takes more) (sym h.means ∙ (e ∙ ap (λ a. a ∷ more) (eqb-true b slash d))) (regex_marks more))
+    (λ d. peeled_spelled (target_named (b ∷ more)) x after h (ap target_named e))
 
 target_spelled : (after : List ℕ) → starts_with brace after ≡ true → IsSpelled (caret ∷ after) (target_braces after)
 unfolding target_braces
-target_spelled after e = spelled_braces caret after _ e (λ x h. inside_target_spelled x.meant x after h)
+target_spelled after e = spelled_braces caret after _ e (λ x h. inside_target_spelled x.meant x after h refl)
 
 -- `@{..}`
-branch_spelled : (own : List ℕ) (n : ℕ) (x : Braced) (after : List ℕ) → OpensWith x after → IsSpelled (at_sign ∷ after) (branch_at own n x)
-branch_spelled [] n x after h = spelled_piece _ _ (at_sign ∷ brace ∷ (x.raw ++ (125 ∷ []))) x.rest (braced_own at_sign x after h) refl
-branch_spelled (b ∷ name) n x after h = spelled_refusal _ _ _
+branch_spelled : (own : List ℕ) (n : ℕ) (x : Braced) (after : List ℕ) → Holds x after → signed_of (meant_in x.raw) ≡ Some (minus n) → IsSpelled (at_sign ∷ after) (branch_at own n x)
+branch_spelled [] n x after h e = spelled_piece _ _ (at_sign ∷ brace ∷ (x.raw ++ (125 ∷ []))) x.rest (braced_own at_sign x after h.opens) (refl, e)
+branch_spelled (b ∷ name) n x after h e = spelled_refusal _ _ _
 
-number_spelled : (own : List ℕ) (number : Signed) (x : Braced) (after : List ℕ) → OpensWith x after → IsSpelled (at_sign ∷ after) (number_at own number x)
-number_spelled own (minus n) x after h = spelled_if _ (n == 0) _ _ (spelled_refusal _ _ _) (branch_spelled own n x after h)
-number_spelled own (plain n) x after h = spelled_piece _ _ (at_sign ∷ brace ∷ (x.raw ++ (125 ∷ []))) x.rest (braced_own at_sign x after h) refl
+number_spelled : (own : List ℕ) (number : Signed) (x : Braced) (after : List ℕ) → Holds x after → signed_of (meant_in x.raw) ≡ Some number →
+    IsSpelled (at_sign ∷ after) (number_at own number x)
+number_spelled own (minus n) x after h e = spelled_if _ (n == 0) _ _ (spelled_refusal _ _ _) (branch_spelled own n x after h e)
+number_spelled own (plain n) x after h e = spelled_piece _ _ (at_sign ∷ brace ∷ (x.raw ++ (125 ∷ []))) x.rest (braced_own at_sign x after h.opens) (refl, (n, e, refl))
 
-word_spelled : (own : List ℕ) (o : Option SiblingBranch) (x : Braced) (after : List ℕ) → OpensWith x after → IsSpelled (at_sign ∷ after) (word_at own o x)
-word_spelled own None x after h = spelled_piece _ _ (at_sign ∷ brace ∷ (x.raw ++ (125 ∷ []))) x.rest (braced_own at_sign x after h) refl
-word_spelled own (Some which) x after h = spelled_piece _ _ (at_sign ∷ brace ∷ (x.raw ++ (125 ∷ []))) x.rest (braced_own at_sign x after h) refl
+word_spelled : (own : List ℕ) (o : Option SiblingBranch) (x : Braced) (after : List ℕ) → Holds x after → sibling_of (meant_in x.raw) ≡ o → IsSpelled (at_sign ∷ after) (word_at own o x)
+word_spelled own None x after h e =
+    spelled_piece _ _ (at_sign ∷ brace ∷ (x.raw ++ (125 ∷ []))) x.rest (braced_own at_sign x after h.opens) (refl, λ now. ap (λ text. time_of (date_of text now)) h.means)
+word_spelled own (Some which) x after h e = spelled_piece _ _ (at_sign ∷ brace ∷ (x.raw ++ (125 ∷ []))) x.rest (braced_own at_sign x after h.opens) (refl, e)
 
-inside_spelled : (own : List ℕ) (o : Option Signed) (x : Braced) (after : List ℕ) → OpensWith x after → IsSpelled (at_sign ∷ after) (inside_at own o x)
-inside_spelled own None x after h = word_spelled own (sibling_of x.meant) x after h
-inside_spelled own (Some number) x after h = number_spelled own number x after h
+inside_spelled : (own : List ℕ) (o : Option Signed) (x : Braced) (after : List ℕ) → Holds x after → signed_of (meant_in x.raw) ≡ o → IsSpelled (at_sign ∷ after) (inside_at own o x)
+inside_spelled own None x after h e = word_spelled own (sibling_of x.meant) x after h (ap sibling_of (sym h.means))
+inside_spelled own (Some number) x after h e = number_spelled own number x after h e
 
 at_braces_spelled : (own after : List ℕ) → starts_with brace after ≡ true → IsSpelled (at_sign ∷ after) (at_braces own after)
 unfolding at_braces
-at_braces_spelled own after e = spelled_braces at_sign after _ e (λ x h. inside_spelled own (signed_of x.meant) x after h)
+at_braces_spelled own after e = spelled_braces at_sign after _ e (λ x h. inside_spelled own (signed_of x.meant) x after h (ap signed_of (sym h.means)))
 
 -- a reader behind a mark
 marked : (more : List ℕ) (b m : ℕ) (p : Part) → (b == m) ≡ true → IsSpelled (m ∷ more) p → IsSpelled (b ∷ more) p
@@ -299,14 +326,14 @@ spelled_all q text h = spelled_piece q text text [] (sym (append-nil text)) h
 
 negated_spelled : (raw whole : List ℕ) → IsSpelled (codes ":/!-" ++ raw) (negated_regex raw whole)
 negated_spelled [] whole = spelled_refusal _ _ _
-negated_spelled (b ∷ rest) whole = spelled_all _ _ (inl (codes "!-" ++ (b ∷ rest), refl, refl))
+negated_spelled (b ∷ rest) whole = spelled_all _ _ (inl (codes "!-" ++ (b ∷ rest), refl, refl, refl))
 
 banged_spelled : (after raw whole : List ℕ) → IsSpelled (codes ":/!" ++ after) (banged after raw whole)
 unfolding banged
 banged_spelled [] raw whole = spelled_refusal _ _ _
 banged_spelled (b ∷ rest) raw whole =
     spelled_where _ (b == dash) _ _ (λ e. subst (λ c. IsSpelled (codes ":/!" ++ (c ∷ rest)) (negated_regex rest whole)) (sym (eqb-true b dash e)) (negated_spelled rest whole))
-    (λ d. spelled_if _ (b == bang) _ _ (spelled_all _ _ (inl (codes "!" ++ (b ∷ rest), refl, inr refl))) (spelled_refusal _ _ _))
+    (λ d. spelled_if _ (b == bang) _ _ (spelled_all _ _ (inl (codes "!" ++ (b ∷ rest), refl, inr refl, refl))) (spelled_refusal _ _ _))
 
 regex_spelled : (raw whole : List ℕ) → IsSpelled (codes ":/" ++ raw) (regex_at raw whole)
 unfolding regex_at
@@ -314,7 +341,7 @@ regex_spelled [] whole = spelled_refusal _ _ _
 regex_spelled (b ∷ rest) whole =
     spelled_where _ (b == bang) _ _
     (λ e. subst (λ c. IsSpelled (codes ":/" ++ (c ∷ rest)) (banged rest (b ∷ rest) whole)) (sym (eqb-true b bang e)) (banged_spelled rest (b ∷ rest) whole))
-    (λ d. spelled_all _ _ (inl (b ∷ rest, refl, inl refl)))
+    (λ d. spelled_all _ _ (inl (b ∷ rest, refl, inl refl, refl)))
 
 staged_spelled : (b : ℕ) (p : List ℕ) → IsSpelled (colon ∷ b ∷ colon ∷ p) (staged b p (b ∷ colon ∷ p))
 staged_spelled b p =

@@ -31,7 +31,8 @@ pub fn reads_all<D: Delegate>()
 
 /// Proves that the pieces of a text, written one after another, are the text.
 ///
-/// A fault stands for the rest of the text.
+/// A fault stands for the rest of the text. The text in a pair of braces, without its escapes, says
+/// the number, branch, date, target or regex of the piece.
 #[tactic(auto, using(crate::proofs::Spelled::pieces_spelled))]
 pub fn pieces_spell_texts()
     ensures { PiecesSpell }
