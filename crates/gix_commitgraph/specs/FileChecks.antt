@@ -1,4 +1,5 @@
--- What is checked of the commits of a file when it is opened: that each look-up and each parent leads to a commit of the file.
+-- What is checked of the commits of a file when it is opened: each look-up and each parent leads to
+-- a commit of the file.
 use Rattle.std.specs.Prelude.{◌≡◌, ◌≢◌, ℕ, ◌+◌, ◌-◌, ◌*◌, ◌%◌, ◌^◌, ◌≤◌, ◌<◌, List, length, cond, nat_eq, slice_index}
 use Rattle.std.specs.Cmp.Lexicographic.{slice_cmp}
 use Rattle.std.specs.Ordering.{nat_cmp}
@@ -9,11 +10,11 @@ use Rattle.gix_commitgraph.specs.FileBytes.{word}
 use Rattle.gix_commitgraph.specs.FileCommits.{id_of, row_word, edge_word}
 use Rattle.gix_commitgraph.specs.declared.commit_graph.layout.Layout.{Layout}
 
--- how two ids compare, byte by byte
+-- How the ids a and b compare, byte by byte.
 abbrev pub compare_ids : ObjectId → ObjectId → Ordering
 compare_ids a b = slice_cmp nat_cmp a.0 b.0
 
--- the chunks lie in the file
+-- The chunks of the layout l are inside the bytes s.
 pub record Fits (s : List ℕ) (l : Layout) : Type 0 where
   pub fanout : l.fanout + 1024 ≤ length s
   pub ids : l.ids + 20 * l.count ≤ length s
@@ -21,15 +22,16 @@ pub record Fits (s : List ℕ) (l : Layout) : Type 0 where
   pub edges : l.edges + 4 * l.edge_count ≤ length s
 
 module _ (s : List ℕ) (l : Layout) where
-  -- how many ids begin with a byte of at most b (gitformat-commit-graph, "OID Fanout")
+  -- The number of ids whose first byte is at most b, by the fanout table (gitformat-commit-graph,
+  -- "OID Fanout").
   abbrev pub fan : ℕ → ℕ
   fan b = word s (l.fanout + 4 * b)
 
-  -- how many ids begin with a lesser byte
+  -- The number of ids whose first byte is less than b, by the fanout table.
   abbrev pub fan_below : ℕ → ℕ
   fan_below b = cond (nat_eq b 0) 0 (fan (b - 1))
 
-  -- the fanout rises there, to the number of commits at most
+  -- At b the fanout table does not fall, and does not exceed the number of commits.
   pub record Fans (b : ℕ) : Type 0 where
     pub rises : fan_below b ≤ fan b
     pub most : fan b ≤ l.count
@@ -37,22 +39,23 @@ module _ (s : List ℕ) (l : Layout) where
   abbrev pub first_byte : ℕ → ℕ
   first_byte i = slice_index s (l.ids + 20 * i)
 
-  -- the id at a position stands where the fanout says
+  -- The id at position i is where the fanout table says.
   pub record IsFanned (i : ℕ) : Type 0 where
     pub above : fan_below (first_byte i) ≤ i
     pub below : i < fan (first_byte i)
 
-  -- the next id is greater
+  -- The id at position i + 1 is greater than the id at position i.
   abbrev pub Rises : ℕ → Type 0
   Rises i = compare_ids (id_of s l i) (id_of s l (i + 1)) ≡ Less
 
-  -- each parent of the commit at a position has a position of its own, or stands in EDGE
+  -- The first parent of the commit at position i is none, or the position of a commit. The second
+  -- is none, the position of a commit, or the place of a list in EDGE.
   pub record HasParents (i : ℕ) : Type 0 where
     pub first : row_word s l i 20 ≢ 0x7000_0000 → row_word s l i 20 < l.count
     pub second : row_word s l i 24 ≢ 0x7000_0000 → row_word s l i 24 < 2 ^ 31 → row_word s l i 24 < l.count
     pub others : 2 ^ 31 ≤ row_word s l i 24 → row_word s l i 24 - 2 ^ 31 < l.edge_count
 
-  -- what a number of EDGE names is a position
+  -- The number k of EDGE, without its highest bit, is the position of a commit.
   abbrev pub NamesCommit : ℕ → Type 0
   NamesCommit k = edge_word s l k % 2 ^ 31 < l.count
 
@@ -63,5 +66,5 @@ module _ (s : List ℕ) (l : Layout) where
     pub rises : (i : ℕ) → i + 1 < l.count → Rises i
     pub parents : (i : ℕ) → i < l.count → HasParents i
     pub edges : (k : ℕ) → k < l.edge_count → NamesCommit k
-    -- the last list ends
+    -- The last number of EDGE ends a list.
     pub ended : 0 < l.edge_count → 2 ^ 31 ≤ edge_word s l (l.edge_count - 1)

@@ -1,11 +1,11 @@
--- Where the chunks of a commit-graph file stand (gitformat-commit-graph, "CHUNK LOOKUP").
+-- Where the chunks of a commit-graph file are (gitformat-commit-graph, "CHUNK LOOKUP").
 use Rattle.std.specs.Prelude.{ℕ, zero, suc, ◌+◌, ◌-◌, ◌*◌, ◌/◌, List, cond, nat_eq, Option, Some, None, slice_index}
 use Rattle.std.specs.Option.{option_map}
 use Rattle.gix_commitgraph.specs.FileBytes.{word, long}
 use Rattle.gix_commitgraph.specs.declared.commit_graph.layout.Chunk.{Chunk}
 use Rattle.gix_commitgraph.specs.declared.commit_graph.layout.Layout.{Layout}
 
--- the ids of the chunks OIDF, OIDL, CDAT and EDGE, as the numbers of their 4 letters
+-- The chunk ids OIDF, OIDL, CDAT and EDGE, as the numbers of their 4 letters.
 abbrev pub oidf : ℕ
 oidf = 0x4f49_4446
 
@@ -18,24 +18,24 @@ cdat = 0x4344_4154
 abbrev pub edge : ℕ
 edge = 0x4544_4745
 
--- how many rows the table of contents has, but for its last
+-- The number of rows of the table of contents, without the last one.
 abbrev pub row_count : List ℕ → ℕ
 row_count s = slice_index s 6
 
--- the chunk id of a row of the table of contents
+-- The chunk id in row i of the table of contents.
 abbrev pub tag_of : List ℕ → ℕ → ℕ
 tag_of s i = word s (8 + 12 * i)
 
--- of n rows from row i on, the first with that chunk id
+-- Of the n rows from row i on, the first one with the chunk id tag.
 abbrev pub row_from : List ℕ → ℕ → ℕ → ℕ → Option ℕ
 row_from s tag i zero = None
 row_from s tag i (suc n) = cond (nat_eq (tag_of s i) tag) (Some i) (row_from s tag (i + 1) n)
 
--- a chunk begins at the offset of its row, and ends where the next row's chunk begins
+-- The chunk of row i begins at the offset in that row, and ends at the offset in the next row.
 abbrev pub chunk_of : List ℕ → ℕ → Chunk
 chunk_of s i = record { start = long s (12 + 12 * i); end = long s (24 + 12 * i) }
 
--- the chunk of that id
+-- The chunk with the chunk id tag, if the table of contents has one.
 unfoldable pub chunk_at : List ℕ → ℕ → Option Chunk
 chunk_at s tag = option_map (chunk_of s) (row_from s tag 0 (row_count s))
 
@@ -47,8 +47,8 @@ abbrev pub size_of : Option Chunk → ℕ
 size_of None = 0
 size_of (Some c) = c.end - c.start
 
--- where the chunks OIDF, OIDL, CDAT and EDGE begin, how many commits there are, by the last number of OIDF,
--- and how many numbers EDGE has
+-- The layout of the file s: the offsets of OIDF, OIDL, CDAT and EDGE, the number of commits, which
+-- is the last number of OIDF, and the number of entries of EDGE.
 unfoldable pub layout_of : List ℕ → Layout
 layout_of s = record {
   count = word s (start_of (chunk_at s oidf) + 1020);

@@ -1,4 +1,4 @@
--- What a commit-graph file says of its commits (gitformat-commit-graph, "Commit Data" and "Extra Edge List").
+-- The commits of a commit-graph file (gitformat-commit-graph, "Commit Data" and "Extra Edge List").
 use Rattle.std.specs.Prelude.{ℕ, zero, suc, ◌+◌, ◌-◌, ◌*◌, ◌/◌, ◌%◌, ◌^◌, pos, List, [], ◌∷◌, map, cond, nat_eq, nat_lt, Option, Some, None}
 use Rattle.gix_base.specs.declared.hash.ObjectId.{ObjectId}
 use Rattle.gix_revwalk.specs.History.{History, Entry}
@@ -7,41 +7,44 @@ use Rattle.gix_commitgraph.specs.FileChunks.{layout_of}
 use Rattle.gix_commitgraph.specs.declared.commit_graph.layout.Layout.{Layout}
 
 module _ (s : List ℕ) (l : Layout) where
-  -- the id of the commit at a position
+  -- The id of the commit at position i.
   abbrev pub id_of : ℕ → ObjectId
   id_of i = id_from s (l.ids + 20 * i)
 
-  -- a number of its row in CDAT, by the place in the row; the tree's id stands in the first 20 bytes
+  -- The number at offset at of row i in CDAT. The first 20 bytes of a row are the id of the
+  -- commit's tree.
   abbrev pub row_word : ℕ → ℕ → ℕ
   row_word i at = word s (l.rows + 36 * i + at)
 
-  -- a number of EDGE
+  -- The number k of EDGE.
   abbrev pub edge_word : ℕ → ℕ
   edge_word k = word s (l.edges + 4 * k)
 
-  -- a list of EDGE, from its number k on, of n that there are: a number with its highest bit set is the last
+  -- The list in EDGE that begins at its number k and has at most n entries. A number with its
+  -- highest bit set is the last of a list.
   abbrev pub edge_list : ℕ → ℕ → List ℕ
   edge_list k zero = []
   edge_list k (suc n) = cond (nat_lt (edge_word k) (2 ^ 31)) (edge_word k ∷ edge_list (k + 1) n) ((edge_word k - 2 ^ 31) ∷ [])
 
-  -- the positions of the second and further parents: 0x70000000 means none, and a number with its
-  -- highest bit set is the place of their list in EDGE
+  -- The positions of the second and further parents, if p is the second number of a row. 0x70000000
+  -- means none. If the highest bit of p is set, the rest is the place of their list in EDGE.
   abbrev pub others : ℕ → List ℕ
   others p = cond (nat_eq p 0x7000_0000) [] (cond (nat_lt p (2 ^ 31)) (p ∷ []) (edge_list (p - 2 ^ 31) (l.edge_count - (p - 2 ^ 31))))
 
-  -- the positions of all parents
+  -- The positions of all parents of the commit at position i.
   abbrev pub parents_at : ℕ → List ℕ
   parents_at i = cond (nat_eq (row_word i 20) 0x7000_0000) [] (row_word i 20 ∷ others (row_word i 24))
 
-  -- the topological level of the commit at a position: the upper 30 of the 64 bits that end its row
+  -- The topological level of the commit at position i: the upper 30 of the last 64 bits of its row.
   abbrev pub level_at : ℕ → ℕ
   level_at i = row_word i 28 / 4
 
-  -- it is the generation, but that 0 means that it was not computed
+  -- The generation number for the level n. The level 0 means that git did not compute it: then
+  -- there is none.
   abbrev pub generation_for : ℕ → Option ℕ
   generation_for n = cond (nat_eq n 0) None (Some n)
 
-  -- the commit at a position: its time is the lower 34 of those bits
+  -- The commit at position i. Its time is the lower 34 of the last 64 bits of its row.
   abbrev pub entry_of_row : ℕ → Entry
   entry_of_row i = record {
     parents = map id_of (parents_at i);
@@ -49,11 +52,11 @@ module _ (s : List ℕ) (l : Layout) where
     generation = generation_for (level_at i);
   }
 
-  -- n commits from position i on
+  -- The n commits from position i on, each with its id.
   abbrev pub commits_from : ℕ → ℕ → History
   commits_from i zero = []
   commits_from i (suc n) = (id_of i, entry_of_row i) ∷ commits_from (i + 1) n
 
--- the history that a file has: its commits, by their positions
+-- The history of the file s: its commits in the order of their positions.
 unfoldable pub history_in : List ℕ → History
 history_in s = commits_from s (layout_of s) 0 (layout_of s).count

@@ -1,11 +1,12 @@
--- The files that are opened (gitformat-commit-graph, "File Layout"): version 1, ids of SHA-1, no base graphs.
+-- The files that can be opened (gitformat-commit-graph, "File Layout"): version 1, SHA-1 ids, no
+-- base graphs.
 use Rattle.std.specs.Prelude.{◌≡◌, ◌≢◌, ℕ, ◌+◌, ◌*◌, ◌≤◌, ◌<◌, List, length, take, codes, slice_index, Option, Some, None}
 use Rattle.gix_commitgraph.specs.FileChunks.{row_count, tag_of, row_from, chunk_of, chunk_at, layout_of, cdat, edge, oidf, oidl}
 use Rattle.gix_commitgraph.specs.FileChecks.{IsSound}
 use Rattle.gix_commitgraph.specs.declared.commit_graph.layout.Chunk.{Chunk}
 
--- the header of 8 bytes; behind it the table of contents of 12 bytes for each chunk and 12 more, and at
--- the end 20 bytes of hash
+-- The file begins with a header of 8 bytes. The table of contents follows, with 12 bytes for each
+-- chunk and 12 more. The file ends with a hash of 20 bytes.
 pub record HasHeader (s : List ℕ) : Type 0 where
   pub signature : take 4 s ≡ codes "CGPH"
   pub version : slice_index s 4 ≡ 1
@@ -13,30 +14,31 @@ pub record HasHeader (s : List ℕ) : Type 0 where
   pub no_base : slice_index s 7 ≡ 0
   pub table : 40 + 12 * row_count s ≤ length s
 
--- a row of the table of contents: it has a chunk id, no row before it has the same one, and its chunk ends behind
--- its beginning and before the hash
+-- Row i of the table of contents has a chunk id, and no row before it has the same one. Its chunk
+-- does not end before it begins, and does not reach into the hash.
 pub record IsRow (s : List ℕ) (i : ℕ) : Type 0 where
   pub named : tag_of s i ≢ 0
   pub once : row_from s (tag_of s i) 0 (row_count s) ≡ Some i
   pub rises : (chunk_of s i).start ≤ (chunk_of s i).end
   pub inside : (chunk_of s i).end + 20 ≤ length s
 
--- the table of contents: its last row has no chunk id
+-- The rows of the table of contents are as in IsRow, and its last row has no chunk id.
 pub record HasTable (s : List ℕ) : Type 0 where
   pub rows : (i : ℕ) → i < row_count s → IsRow s i
   pub ended : tag_of s (row_count s) ≡ 0
 
--- the chunk is there and has n bytes
+-- The chunk exists and has n bytes.
 abbrev pub MustHave : Option Chunk → ℕ → Type 0
 MustHave None n = ⊥
 MustHave (Some c) n = c.start + n ≡ c.end
 
--- if the chunk is there it has n bytes
+-- If the chunk exists, it has n bytes.
 abbrev pub MayHave : Option Chunk → ℕ → Type 0
 MayHave None n = Unit {0}
 MayHave (Some c) n = c.start + n ≡ c.end
 
--- OIDF has 256 numbers of 4 bytes, OIDL 20 bytes for each commit, CDAT 36, and EDGE some numbers of 4
+-- OIDF has 256 numbers of 4 bytes. OIDL has 20 bytes for each commit, and CDAT has 36. EDGE, if it
+-- exists, has entries of 4 bytes.
 pub record HasChunks (s : List ℕ) : Type 0 where
   pub fanout : MustHave (chunk_at s oidf) 1024
   pub ids : MustHave (chunk_at s oidl) (20 * (layout_of s).count)

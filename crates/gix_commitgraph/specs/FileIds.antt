@@ -1,4 +1,4 @@
--- The ids of a file, and where an id would stand among them (gitformat-commit-graph, "OID Lookup").
+-- The ids of a file, and the place of an id among them (gitformat-commit-graph, "OID Lookup").
 use Rattle.std.specs.Prelude.{◌≡◌, ℕ, ◌≤◌, List, length, map, take, drop}
 use Rattle.std.specs.BTreeMap.Range.{IsLeBy}
 use Rattle.std.specs.List.{AllByRecursion}
@@ -8,11 +8,12 @@ use Rattle.gix_revwalk.specs.History.{Entry}
 use Rattle.gix_commitgraph.specs.FileChecks.{compare_ids}
 use Rattle.gix_commitgraph.specs.FileCommits.{history_in}
 
--- the ids of a file's commits, by their positions
+-- The ids of the commits of the file s, in the order of their positions.
 abbrev pub ids_in : List ℕ → List ObjectId
 ids_in s = map (λ (e : ObjectId × Entry). e.0) (history_in s)
 
--- k is the position of the first of these ids that is not less than that one; their number, where each is less
+-- Position k is that of the first of ids that is not less than id. If each of ids is less, then k
+-- is their number.
 pub record IsFirstFrom (ids : List ObjectId) (id : ObjectId) (k : ℕ) : Type 0 where
   pub within : k ≤ length ids
   pub before : AllByRecursion (λ x. compare_ids x id ≡ Less) (take k ids)

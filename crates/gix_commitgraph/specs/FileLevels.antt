@@ -1,5 +1,6 @@
--- Levels that fall from each commit to its parents (git's technical/commit-graph, "generation number": the topological
--- level of a commit is one more than the greatest of its parents', and 1 where it has none).
+-- Levels that fall from each commit to its parents (git's technical/commit-graph, "generation
+-- number": the topological level of a commit is one more than the greatest of its parents', and 1
+-- if it has none).
 use Rattle.std.specs.Prelude.{◌≡◌, ℕ, ◌-◌, ◌^◌, ◌<◌, List, Bool, true, ◌&&◌, nat_lt, IsTrue}
 use Rattle.std.specs.List.{list_all}
 use Rattle.gix_base.specs.declared.hash.ObjectId.{ObjectId}
@@ -9,23 +10,24 @@ use Rattle.gix_commitgraph.specs.FileCommits.{level_at, parents_at}
 use Rattle.gix_commitgraph.specs.declared.commit_graph.layout.Layout.{Layout}
 
 module _ (s : List ℕ) (l : Layout) where
-  -- a position of a commit of a lesser level than n
+  -- Position p is that of a commit whose level is less than n.
   abbrev pub is_lower : ℕ → ℕ → Bool
   is_lower n p = nat_lt p l.count && nat_lt (level_at s l p) n
 
-  -- the commit at a position has a level, and all its parents have lesser ones
+  -- The commit at position i has a level, and all its parents are commits of lesser levels.
   abbrev pub is_above : ℕ → Bool
   is_above i = nat_lt 0 (level_at s l i) && list_all (is_lower (level_at s l i)) (parents_at s l i)
 
--- each commit of a file has a level, and each parent a lesser one
+-- Each commit of the file s has a level, and each of its parents has a lesser one.
 abbrev pub LevelsFall : List ℕ → Type 0
 LevelsFall s = (i : ℕ) → i < (layout_of s).count → is_above s (layout_of s) i ≡ true
 
--- each parent's generation is less than its child's
+-- On every edge of the history h, the parent's generation number is less than the child's.
 abbrev pub GenerationsFall : History → Type 0
 GenerationsFall h = (a b : ObjectId) → IsEdge h a b → generation_of h b < generation_of h a
 
--- each commit of a history has a generation, each parent is a commit of the history, and has a lesser one
+-- Each commit of the history h has a generation number. Each of its parents is a commit of the
+-- history, and has a lesser one.
 pub record IsLevelled (h : History) : Type 0 where
   pub known : (a : ObjectId) → Has h a → generation_of h a < 2 ^ 32 - 1
   pub closed : (a b : ObjectId) → IsTrue (is_one_of (parents_in (entry_at h a)) b) → Has h b

@@ -1,4 +1,4 @@
--- Why a file is refused.
+-- What is wrong with a file that is not opened.
 use Rattle.std.specs.Prelude.{◌≡◌, ◌≢◌, ◌⊎◌, ℕ, ◌+◌, ◌-◌, ◌*◌, ◌^◌, ◌<◌, List, length, take, codes, slice_index, Some, None}
 use Rattle.gix_commitgraph.specs.FileCommits.{edge_word}
 use Rattle.gix_commitgraph.specs.FileChunks.{row_count, tag_of, row_from, chunk_of, chunk_at, layout_of, cdat, oidf, oidl}
@@ -8,7 +8,7 @@ use Rattle.gix_commitgraph.specs.declared.commit_graph.layout.Layout.{Layout}
 use Rattle.gix_commitgraph.specs.declared.commit_graph.fault.OpenFault.{OpenFault}
 use Rattle.gix_commitgraph.specs.declared.commit_graph.fault.OpenFault.TheVariants.{TooShort, Signature, Version, Hash, BaseGraphs, NoChunkId, Repeated, ChunkPlace, TableEnd, NoFanout, NoIds, NoRows, ChunkSize, Fanout, IdOrder, IdPlace, Parent, EdgeParent, EdgeEnd}
 
--- what the fault says of the commits is so
+-- What the fault says of the fanout table, the ids, the parents or EDGE of the file s is true.
 abbrev pub IsWrong : List ℕ → Layout → OpenFault → Type 0
 IsWrong s l Fanout = (b : ℕ) × (b < 256) × (¬ Fans s l b)
 IsWrong s l IdPlace = (i : ℕ) × (i < l.count) × (¬ IsFanned s l i)
@@ -18,7 +18,8 @@ IsWrong s l EdgeParent = (k : ℕ) × (k < l.edge_count) × (¬ NamesCommit s l 
 IsWrong s l EdgeEnd = (0 < l.edge_count) × (edge_word s l (l.edge_count - 1) < 2 ^ 31)
 IsWrong s l _ = ⊥
 
--- what the fault says of the header, of the table of contents and of the sizes of chunks is so
+-- What the fault says of the header, the table of contents or the sizes of chunks of the file s is
+-- true.
 abbrev pub IsMisshapen : List ℕ → OpenFault → Type 0
 IsMisshapen s TooShort = length s < 40 + 12 * row_count s
 IsMisshapen s Signature = take 4 s ≢ codes "CGPH"
@@ -35,11 +36,12 @@ IsMisshapen s NoRows = chunk_at s cdat ≡ None
 IsMisshapen s ChunkSize = ¬ HasChunks s
 IsMisshapen s _ = ⊥
 
--- why a chunk of n bytes is not there
+-- The file s has no chunk tag of n bytes. The fault e is missing if it has no such chunk at all,
+-- and ChunkSize if that chunk has another size.
 abbrev pub IsLacking : List ℕ → ℕ → ℕ → OpenFault → OpenFault → Type 0
 IsLacking s tag n missing e =
     ((e ≡ missing) × (chunk_at s tag ≡ None)) ⊎ ((e ≡ ChunkSize) × (¬ MustHave (chunk_at s tag) n))
 
--- what the fault says is so
+-- What the fault e says of the file s is true.
 abbrev pub IsRefused : List ℕ → OpenFault → Type 0
 IsRefused s e = IsMisshapen s e ⊎ IsWrong s (layout_of s) e

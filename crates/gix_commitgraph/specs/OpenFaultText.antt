@@ -1,4 +1,4 @@
--- What a fault that keeps a file from being opened prints.
+-- The text that a fault of opening a file prints.
 use Rattle.std.specs.Prelude.{ℕ, List, codes}
 use Rattle.gix_commitgraph.specs.declared.commit_graph.fault.OpenFault.{OpenFault}
 use Rattle.gix_commitgraph.specs.declared.commit_graph.fault.OpenFault.TheVariants.{TooShort, Signature, Version, Hash, BaseGraphs, NoChunkId, Repeated, ChunkPlace, TableEnd, NoFanout, NoIds, NoRows, ChunkSize, Fanout, IdOrder, IdPlace, Parent, EdgeParent, EdgeEnd}

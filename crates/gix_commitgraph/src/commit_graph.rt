@@ -1,4 +1,9 @@
-//! Commits from a commit-graph file of git, read where its bytes stand: gitformat-commit-graph.
+//! Reads commits from git's commit-graph file in place (gitformat-commit-graph).
+//!
+//! - [`CommitGraph`]: a checked file as a source of commits.
+//! - [`LevelledGraph`]: a file whose topological levels are checked, too. Its history is acyclic
+//!   and has ordered generations.
+//! - [`Joined`] and [`Commits`]: a levelled file, or none, and newer commits that it does not have.
 
 mod bytes;
 mod check;

@@ -1,4 +1,4 @@
-//! A source of commits over the bytes of a commit-graph file of git (gitformat-commit-graph).
+//! Reads commits from the bytes of git's commit-graph file (gitformat-commit-graph).
 #![tactic(auto)]
 
 pub mod commit_graph;

@@ -1,11 +1,11 @@
-//! Numbers and ids in the bytes of a file.
+//! Reads numbers and ids from the bytes of a file.
 
 ghost use Rattle.std.specs.Prelude.{◌≡◌, ◌+◌, ◌^◌, ◌≤◌, ◌<◌, length};
 ghost use Rattle.gix_commitgraph.specs.FileBytes.{word, long, id_from};
 
 use gix_base::hash::ObjectId;
 
-/// The number of the 4 bytes from a place on.
+/// Reads the big-endian number in the 4 bytes at offset `at`.
 #[tactic(auto, unfolding(crate::specs::FileBytes::word))]
 pub(crate) fn word_at(bytes: &[u8], at: usize) -> usize
     requires { at + 4 ≤ length bytes.now }
@@ -15,7 +15,7 @@ pub(crate) fn word_at(bytes: &[u8], at: usize) -> usize
     u32::from_be_bytes([bytes[at], bytes[at + 1], bytes[at + 2], bytes[at + 3]]) as usize
 }
 
-/// The number of the 8 bytes from a place on.
+/// Reads the big-endian number in the 8 bytes at offset `at`.
 #[tactic(auto, unfolding(crate::specs::FileBytes::long))]
 pub(crate) fn long_at(bytes: &[u8], at: usize) -> usize
     requires { at + 8 ≤ length bytes.now }
@@ -33,7 +33,7 @@ pub(crate) fn long_at(bytes: &[u8], at: usize) -> usize
     ]) as usize
 }
 
-/// The id that stands in the 20 bytes from a place on.
+/// Reads the id in the 20 bytes at offset `at`.
 #[tactic(auto, unfolding(crate::specs::FileBytes::id_from))]
 pub(crate) fn id_at(bytes: &[u8], at: usize) -> ObjectId
     requires { at + 20 ≤ length bytes.now }

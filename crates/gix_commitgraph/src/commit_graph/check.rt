@@ -1,4 +1,4 @@
-//! What is checked before a file is read.
+//! Checks the commits of a file when it is opened.
 
 ghost use Rattle.std.specs.Prelude.{◌≡◌, ℕ, ◌+◌, ◌-◌, ◌*◌, ◌%◌, ◌^◌, ◌≤◌, ◌<◌, length, OnOk, IfErr};
 ghost use Rattle.gix_commitgraph.specs.FileCommits.{id_of, row_word, edge_word};
@@ -10,12 +10,13 @@ use crate::commit_graph::fault::OpenFault;
 use crate::commit_graph::layout::Layout;
 use std::cmp::Ordering;
 
-/// In the place of no parent.
+/// The number in `CDAT` that stands for no parent.
 pub(crate) const NONE: usize = 0x7000_0000;
-/// Set in a number that leads to `EDGE`, and in the last of a list there.
+/// The bit that is set in a second parent that is a place in `EDGE`, and in the last number of a
+/// list there.
 pub(crate) const HIGH: usize = 0x8000_0000;
 
-/// How many ids begin with a lesser byte.
+/// Counts the ids whose first byte is less than `b`, by the fanout table.
 pub(crate) fn below(bytes: &[u8], l: Layout, b: u8) -> usize
     requires { Fits bytes.now l }
     ensures { result ≡ fan_below bytes.now l b }
@@ -27,7 +28,7 @@ pub(crate) fn below(bytes: &[u8], l: Layout, b: u8) -> usize
     }
 }
 
-/// The fanout rises to the number of commits.
+/// Checks that the fanout table never falls and never exceeds the number of commits.
 fn check_fanout(bytes: &[u8], l: Layout) -> Result<(), OpenFault>
     requires { Fits bytes.now l }
     ensures sound { OnOk result ((b : ℕ) → b < 256 → Fans bytes.now l b) }
@@ -44,7 +45,7 @@ fn check_fanout(bytes: &[u8], l: Layout) -> Result<(), OpenFault>
     Ok(())
 }
 
-/// The id at a position stands where the fanout says.
+/// Checks that the id at position `i` is where the fanout table says.
 fn check_place(bytes: &[u8], l: Layout, i: usize) -> Result<(), OpenFault>
     requires fits { Fits bytes.now l }
     requires here { i < l.count }
@@ -58,7 +59,7 @@ fn check_place(bytes: &[u8], l: Layout, i: usize) -> Result<(), OpenFault>
     Ok(())
 }
 
-/// Each id stands where the fanout says.
+/// Checks that every id is where the fanout table says.
 fn check_places(bytes: &[u8], l: Layout) -> Result<(), OpenFault>
     requires { Fits bytes.now l }
     ensures sound { OnOk result ((i : ℕ) → i < l.count → IsFanned bytes.now l i) }
@@ -70,7 +71,7 @@ fn check_places(bytes: &[u8], l: Layout) -> Result<(), OpenFault>
     Ok(())
 }
 
-/// The id behind the one at a position is greater.
+/// Checks that the id after position `i` is greater than the one at `i`.
 fn check_next(bytes: &[u8], l: Layout, i: usize) -> Result<(), OpenFault>
     requires fits { Fits bytes.now l }
     requires here { i + 1 < l.count }
@@ -83,7 +84,7 @@ fn check_next(bytes: &[u8], l: Layout, i: usize) -> Result<(), OpenFault>
     }
 }
 
-/// The ids rise.
+/// Checks that each id is greater than the one before it.
 fn check_order(bytes: &[u8], l: Layout) -> Result<(), OpenFault>
     requires { Fits bytes.now l }
     ensures sound { OnOk result ((i : ℕ) → i + 1 < l.count → Rises bytes.now l i) }
@@ -95,7 +96,8 @@ fn check_order(bytes: &[u8], l: Layout) -> Result<(), OpenFault>
     Ok(())
 }
 
-/// Each parent of the commit at a position has a position.
+/// Checks that the parents of the commit at position `i` are commits of the file, or a list in
+/// `EDGE`.
 fn check_parents(bytes: &[u8], l: Layout, i: usize) -> Result<(), OpenFault>
     requires fits { Fits bytes.now l }
     requires here { i < l.count }
@@ -117,7 +119,7 @@ fn check_parents(bytes: &[u8], l: Layout, i: usize) -> Result<(), OpenFault>
     Ok(())
 }
 
-/// Each parent of each commit has a position.
+/// Checks that the parents of every commit are commits of the file, or a list in `EDGE`.
 fn check_all_parents(bytes: &[u8], l: Layout) -> Result<(), OpenFault>
     requires { Fits bytes.now l }
     ensures sound { OnOk result ((i : ℕ) → i < l.count → HasParents bytes.now l i) }
@@ -129,7 +131,7 @@ fn check_all_parents(bytes: &[u8], l: Layout) -> Result<(), OpenFault>
     Ok(())
 }
 
-/// Each number of `EDGE` names a commit.
+/// Checks that every number of `EDGE` is the position of a commit, but for its highest bit.
 fn check_edges(bytes: &[u8], l: Layout) -> Result<(), OpenFault>
     requires { Fits bytes.now l }
     ensures sound { OnOk result ((k : ℕ) → k < l.edge_count → NamesCommit bytes.now l k) }
@@ -143,7 +145,7 @@ fn check_edges(bytes: &[u8], l: Layout) -> Result<(), OpenFault>
     Ok(())
 }
 
-/// The last list of `EDGE` ends.
+/// Checks that the last list of `EDGE` ends.
 fn check_end(bytes: &[u8], l: Layout) -> Result<(), OpenFault>
     requires { Fits bytes.now l }
     ensures sound { OnOk result (0 < l.edge_count → 2 ^ 31 ≤ edge_word bytes.now l (l.edge_count - 1)) }
@@ -155,7 +157,7 @@ fn check_end(bytes: &[u8], l: Layout) -> Result<(), OpenFault>
     Ok(())
 }
 
-/// All of it.
+/// Checks the fanout table, the ids, the parents and `EDGE`.
 pub(crate) fn check(bytes: &[u8], l: Layout) -> Result<(), OpenFault>
     requires { Fits bytes.now l }
     ensures sound { OnOk result (IsSound bytes.now l) }

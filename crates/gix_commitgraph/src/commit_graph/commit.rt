@@ -1,4 +1,4 @@
-//! The commit at a position.
+//! Reads the commit at a position.
 
 ghost use Rattle.std.specs.Prelude.{◌≡◌, ◌+◌, ◌-◌, ◌*◌, ◌<◌, ◌≤◌, ◌++◌, map, IfOk, OnOk};
 ghost use Rattle.gix_revwalk.specs.Held.{entry_of};
@@ -12,7 +12,7 @@ use gix_base::hash::ObjectId;
 use gix_revwalk::graph::SourceCommit;
 use std::alloc::{AllocError, Allocator};
 
-/// Adds the ids of a list of `EDGE`, from its number `start` on.
+/// Appends to `ids` the ids of the list in `EDGE` that begins at its number `start`.
 fn add_edges<A: Allocator>(
     bytes: &[u8],
     l: Layout,
@@ -32,7 +32,7 @@ fn add_edges<A: Allocator>(
     Ok(())
 }
 
-/// Adds the ids of the second parent and those behind it.
+/// Appends to `ids` the ids of the second and further parents of the commit at position `i`.
 fn add_others<A: Allocator>(
     bytes: &[u8],
     l: Layout,
@@ -54,7 +54,7 @@ fn add_others<A: Allocator>(
     Ok(())
 }
 
-/// The ids of the parents.
+/// Reads the ids of the parents of the commit at position `i`.
 fn parents<A: Allocator>(
     bytes: &[u8],
     l: Layout,
@@ -75,7 +75,7 @@ fn parents<A: Allocator>(
     Ok(ids)
 }
 
-/// The commit at a position.
+/// Reads the commit at position `i`, in the memory of `alloc`.
 pub(crate) fn commit_at<A: Allocator>(
     bytes: &[u8],
     l: Layout,

@@ -1,48 +1,48 @@
-//! Why bytes are not opened as a commit-graph file.
+//! Errors of opening a commit-graph file.
 
 ghost use Rattle.std.specs.Prelude.{Some};
 
 use std::fmt;
 use thiserror::Error as StdError;
 
-/// What is wrong with bytes that are not opened: gitformat-commit-graph, "File Layout".
+/// What is wrong with bytes that were not opened (gitformat-commit-graph, "File Layout").
 #[derive(Clone, Copy, Debug, PartialEq, Eq, Drop, StdError)]
 pub enum OpenFault {
-    /// The header, the table of contents and the hash at the end don't fit.
+    /// The file is too short for its header, its table of contents and its trailing hash.
     TooShort,
-    /// It does not begin with `CGPH`.
+    /// The file does not begin with `CGPH`.
     Signature,
-    /// Its version is not 1.
+    /// The version of the file is not 1.
     Version,
-    /// Its ids are not those of SHA-1.
+    /// The ids of the file are not SHA-1 ids.
     Hash,
-    /// It stands on other files of a chain, which are not read here.
+    /// The file has base graphs: it needs other files of a chain, which is not supported.
     BaseGraphs,
-    /// A row of the table of contents before its last has no chunk id.
+    /// A row of the table of contents other than the last has no chunk id.
     NoChunkId,
-    /// Two rows of the table of contents have one chunk id.
+    /// Two rows of the table of contents have the same chunk id.
     Repeated,
-    /// A chunk ends before it begins, or behind the beginning of the hash at the end.
+    /// A chunk ends before it begins, or reaches into the trailing hash.
     ChunkPlace,
-    /// The last row of the table of contents, which ends it, has a chunk id.
+    /// The last row of the table of contents, which must end it, has a chunk id.
     TableEnd,
-    /// It has no chunk `OIDF`.
+    /// The file has no chunk `OIDF`.
     NoFanout,
-    /// It has no chunk `OIDL`.
+    /// The file has no chunk `OIDL`.
     NoIds,
-    /// It has no chunk `CDAT`.
+    /// The file has no chunk `CDAT`.
     NoRows,
-    /// A chunk has not the size that the number of commits asks for.
+    /// The size of a chunk is not the one that its kind and the number of commits require.
     ChunkSize,
-    /// A number of the fanout is less than the one before it, or greater than the last.
+    /// A number of the fanout table is less than the one before it, or greater than the last.
     Fanout,
     /// An id is not greater than the one before it.
     IdOrder,
-    /// An id does not stand where the fanout says.
+    /// An id is not where the fanout table says.
     IdPlace,
-    /// A parent's position is that of no commit, or its list begins outside `EDGE`.
+    /// A parent's position is not that of a commit, or a list of parents begins outside `EDGE`.
     Parent,
-    /// A position in `EDGE` is that of no commit.
+    /// A position in `EDGE` is not that of a commit.
     EdgeParent,
     /// The last number of `EDGE` does not end a list.
     EdgeEnd,
@@ -78,10 +78,10 @@ impl fmt::Display for OpenFault {
     }
 }
 
-/// Bytes that are not opened, and why.
+/// Bytes that were not opened, and what is wrong with them.
 #[derive(Debug, Drop)]
 pub struct OpenError<B> {
-    /// What was handed in.
+    /// The bytes that were passed to the call.
     pub bytes: B,
     pub fault: OpenFault,
 }

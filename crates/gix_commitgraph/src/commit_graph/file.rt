@@ -1,4 +1,4 @@
-//! A file as a source of commits.
+//! A commit-graph file as a source of commits.
 
 ghost use Rattle.std.specs.Prelude.{◌≡◌, ◌↔◌, ◌<◌, ◌^◌, length, slice_get, IsOk, IfOk, IfErr, OnOk, IsTrue, is_some};
 ghost use Rattle.std.specs.Option.{option_map};
@@ -29,10 +29,11 @@ use std::alloc::{AllocError, Allocator, Global};
 use std::convert::AsSlice;
 use std::marker::Model;
 
-/// The bytes of a commit-graph file, as a source of its commits. They are read where they stand: a
-/// look-up takes memory for its answer alone. It never fails; it may want memory.
+/// A commit-graph file as a source of commits, read in place.
 ///
-/// The bytes are owned, or lent, as `CommitGraph<&[u8]>`.
+/// A look-up allocates its answer and nothing else. Its only error is out of memory.
+///
+/// The bytes are owned, or borrowed as `CommitGraph<&[u8]>`.
 #[derive(Drop)]
 pub struct CommitGraph<B: AsSlice<u8> + Drop = Vec<u8, Global>> {
     bytes: B,
@@ -52,7 +53,7 @@ impl<B: AsSlice<u8> + Drop> Model for CommitGraph<B> {
     ghost invariant = { λ g. (g.layout ≡ layout_of (B.items g.bytes)) × IsSound (B.items g.bytes) g.layout };
 }
 
-/// Where the chunks of a file stand, once all of it is checked.
+/// Checks all of a file, and finds its chunks.
 fn read(bytes: &[u8]) -> Result<Layout, OpenFault>
     ensures value { IfOk result (λ l. l ≡ layout_of bytes.now) }
     ensures sound { IfOk result (λ l. IsSound bytes.now l) }
@@ -65,15 +66,17 @@ fn read(bytes: &[u8]) -> Result<Layout, OpenFault>
 }
 
 impl<B: AsSlice<u8> + Drop> CommitGraph<B> {
-    /// A source over the bytes of a file, which are checked here once: each commit is looked at.
+    /// Opens the bytes of a commit-graph file as a source of commits.
     ///
-    /// Ids are those of SHA-1, and the file is the only one of its repository, or the first of a chain
-    /// (gitformat-commit-graph, "File Layout"). The hash at its end is not compared:
-    /// [`CommitGraph::hash_is_right`].
+    /// Succeeds exactly if the bytes are a well-formed file (gitformat-commit-graph, "File Layout")
+    /// of version 1 with SHA-1 ids and without base graphs. Such a file is the only one of its
+    /// repository, or the first of a chain. Every commit is checked here, so later look-ups meet no
+    /// malformed row. [`CommitGraph::hash_is_right`] compares the trailing hash;
+    /// [`CommitGraph::levels_fall`] checks the topological levels.
     ///
     /// # Errors
     ///
-    /// The bytes back, and what is wrong with them.
+    /// Returns the bytes, with one thing that is wrong with them.
     pub fn open(bytes: B) -> Result<CommitGraph<B>, OpenError<B>>
         ensures same { IfOk result (λ graph. graph ≡ B.items bytes) }
         ensures opened { IsOk result ↔ IsCommitGraph (B.items bytes) }
@@ -90,7 +93,7 @@ impl<B: AsSlice<u8> + Drop> CommitGraph<B> {
         }
     }
 
-    /// The bytes back.
+    /// Returns the bytes of the file.
     pub fn into_bytes(self) -> B
         ensures { B.items result ≡ self }
     {
@@ -102,8 +105,10 @@ impl<B: AsSlice<u8> + Drop> CommitGraph<B> {
         bytes
     }
 
-    /// The file once more, over the same bytes. Look-ups by [`Find`] keep where parents stand, each in the
-    /// file that it asks: so graphs that share a file are quickest over one of these each.
+    /// Returns a source over the same bytes, with a cache of its own.
+    ///
+    /// Look-ups through [`Find`] cache the positions of parents in the source that they ask. Graphs
+    /// that share a file are therefore fastest if each has a source of its own.
     pub fn lend(&self) -> CommitGraph<&[u8]>
         ensures { result ≡ self.now }
     {
@@ -114,14 +119,16 @@ impl<B: AsSlice<u8> + Drop> CommitGraph<B> {
         }
     }
 
-    /// How many commits there are.
+    /// Returns the number of commits.
     pub fn len(&self) -> usize
         ensures { result ≡ length (history_in self.now) }
     {
         self.layout.count
     }
 
-    /// The id of the commit at a position; `None` behind the last. Ids rise with their positions.
+    /// Returns the id of the commit at `position`, or `None` past the last one.
+    ///
+    /// Ids rise with their positions.
     pub fn id(&self, position: usize) -> Option<ObjectId>
         ensures { result ≡ option_map (λ e. e.0) (slice_get (history_in self.now) position) }
     {
@@ -132,9 +139,10 @@ impl<B: AsSlice<u8> + Drop> CommitGraph<B> {
         }
     }
 
-    /// The position of the first id that is not less than `id`, whether or not the file has that one; the
-    /// number of commits where each id is less. It takes no memory, and asks about as many ids as
-    /// [`CommitGraph::get`].
+    /// Returns the position of the first id that is not less than `id`.
+    ///
+    /// The file need not have `id`. If every id is less, the answer is the number of commits. The
+    /// call allocates nothing, and compares about as many ids as [`CommitGraph::get`].
     pub fn position_from(&self, id: ObjectId) -> usize
         ensures first { IsFirstFrom (ids_in self.now) id result }
         ensures rising { IsStrictlySortedBy compare_ids (ids_in self.now) }
@@ -146,9 +154,11 @@ impl<B: AsSlice<u8> + Drop> CommitGraph<B> {
         }
     }
 
-    /// Whether each commit has a level, and each parent a lesser one (git's technical/commit-graph,
-    /// "generation number"): so it is in what git writes. Then the history has no cycle, and no
-    /// generation rises. It looks at each commit.
+    /// Returns whether each commit has a topological level that is greater than those of its
+    /// parents.
+    ///
+    /// Files that git writes have such levels (git's technical/commit-graph, "generation number").
+    /// The history is then acyclic and has ordered generations. The call reads every commit.
     pub fn levels_fall(&self) -> bool
         ensures value { IsTrue result ↔ LevelsFall self.now }
         ensures levelled { IsTrue result → IsLevelled (history_in self.now) }
@@ -156,8 +166,9 @@ impl<B: AsSlice<u8> + Drop> CommitGraph<B> {
         levels::fall(self.bytes.as_slice(), self.layout)
     }
 
-    /// Whether the hash at the end of the file is that of the bytes before it: gitformat-commit-graph,
-    /// "TRAILER". It reads all bytes.
+    /// Returns whether the trailing hash is the SHA-1 of the bytes before it.
+    ///
+    /// See gitformat-commit-graph, "TRAILER". The call reads all bytes.
     pub fn hash_is_right(&self) -> bool
         ensures { IsTrue result ↔ HashIsRight self.now }
     {
@@ -166,18 +177,20 @@ impl<B: AsSlice<u8> + Drop> CommitGraph<B> {
         &bytes[end..] == Sha1::digest(&bytes[..end]).as_slice()
     }
 
-    /// Whether the file has a commit under an id. It takes no memory.
+    /// Returns whether the file has the commit `id`. Allocates nothing.
     pub fn contains(&self, id: ObjectId) -> bool
         ensures { result ≡ is_some (entry_at (history_in self.now) id) }
     {
         position(self.bytes.as_slice(), self.layout, id).is_some()
     }
 
-    /// The commit under an id, in the memory of `alloc`; `None` where the file has none.
+    /// Looks up the commit `id`. Returns `None` if the file does not have it.
+    ///
+    /// The answer is in the memory of `alloc`.
     ///
     /// # Errors
     ///
-    /// Where there was no memory for the answer.
+    /// - [`AllocError`]: the answer could not be allocated.
     pub fn get<A: Allocator>(
         &self,
         alloc: A,
@@ -192,7 +205,8 @@ impl<B: AsSlice<u8> + Drop> CommitGraph<B> {
         Ok(Some(commit_at(bytes, self.layout, i, alloc)?))
     }
 
-    /// As [`CommitGraph::get`], for a walk, which asks for the parents next: it keeps where they stand.
+    /// Looks up the commit `id` like [`CommitGraph::get`], and caches the positions of its parents
+    /// for a walk.
     pub(crate) fn get_on_walk<A: Allocator>(
         &mut self,
         alloc: A,
@@ -232,7 +246,7 @@ impl<B: AsSlice<u8> + Drop> Find for CommitGraph<B> {
     }
 }
 
-/// A file that several graphs share.
+/// Several graphs can share one file.
 impl<B: AsSlice<u8> + Drop> Find for &CommitGraph<B> {
     ghost history = { λ g. history_in g.now };
 

@@ -1,4 +1,4 @@
-//! Where in a file the parents stand that a walk was told last.
+//! A cache of the positions of parents that a walk has read.
 
 ghost use Rattle.std.specs.Prelude.{◌<◌, ◌^◌};
 ghost use Rattle.gix_commitgraph.specs.FileChecks.{IsSound};
@@ -7,27 +7,29 @@ use crate::commit_graph::bytes::word_at;
 use crate::commit_graph::layout::Layout;
 use gix_base::hash::ObjectId;
 
-/// How many places are kept.
+/// The number of positions that the cache keeps.
 const SPOTS: usize = 1024;
 
-/// Where an id's place is kept.
+/// Returns the index in the cache for the position of `id`.
 fn spot_of(id: ObjectId) -> usize
     ensures { result < 1024 }
 {
     u16::from_be_bytes([id.0[18], id.0[19]]) as usize % SPOTS
 }
 
-/// Places in a file, each kept by the id that stands there, and only until another one's comes to the same spot. So each is
-/// a guess, which counts only where the id itself stands there.
+/// Cached positions of ids in a file.
+///
+/// Two ids may share an index, and the later one is kept. A position is therefore only a guess: it
+/// counts only if the id is stored there.
 #[derive(Drop)]
 pub(crate) struct Hints {
     places: [u32; SPOTS],
-    /// Made of what was read ahead, so that reading it is no idle work that a compiler leaves out.
+    /// A sum of what was read ahead, so that the compiler does not drop those reads.
     read: usize,
 }
 
 impl Hints {
-    /// Nothing is known yet.
+    /// Makes a cache without positions.
     pub(crate) fn new() -> Hints {
         Hints {
             places: [0; SPOTS],
@@ -35,12 +37,12 @@ impl Hints {
         }
     }
 
-    /// Where an id may stand.
+    /// Returns a position at which `id` may be stored.
     pub(crate) fn guess(&self, id: ObjectId) -> usize {
         self.places[spot_of(id)] as usize
     }
 
-    /// Reads of the row at a position, if it is one.
+    /// Reads the row at `place`, if `place` is a position.
     fn read_row(&mut self, bytes: &[u8], l: Layout, place: usize)
         requires { IsSound bytes.now l }
     {
@@ -51,8 +53,9 @@ impl Hints {
         }
     }
 
-    /// Reads of the rows of the first two parents of the commit at a position. They are wanted next: so memory
-    /// brings them together with the parents' ids, where these are read behind this, and not after them.
+    /// Reads ahead the rows of the first two parents of the commit at position `i`. The walk needs
+    /// them next, so memory loads them together with the parents' ids, which are read after this
+    /// call.
     pub(crate) fn read_ahead(&mut self, bytes: &[u8], l: Layout, i: usize)
         requires sound { IsSound bytes.now l }
         requires here { i < l.count }
@@ -62,15 +65,15 @@ impl Hints {
         self.read_row(bytes, l, word_at(bytes, row + 24));
     }
 
-    /// Keeps where an id stands.
+    /// Caches `place` as the position of `id`.
     fn note(&mut self, id: ObjectId, place: usize)
         requires { place < 2 ^ 32 }
     {
         self.places[spot_of(id)] = place as u32;
     }
 
-    /// Keeps where the first two parents of the commit at a position stand. Where there are more what is kept of
-    /// the second is no position.
+    /// Caches the positions of the first two parents of the commit at position `i`. If there are
+    /// more than two, what is cached for the second is not a position.
     pub(crate) fn note_parents(&mut self, bytes: &[u8], l: Layout, i: usize, parents: &[ObjectId])
         requires sound { IsSound bytes.now l }
         requires here { i < l.count }

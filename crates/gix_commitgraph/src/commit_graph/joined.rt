@@ -1,4 +1,4 @@
-//! A file, where there is one, and a source of the commits that it lacks.
+//! A commit-graph file, if there is one, and a source of the commits that it does not have.
 
 ghost use Rattle.std.specs.Prelude.{◌≡◌, ◌++◌, None, Some, is_some, IfErr, IfOk, OnErr, OnOk, if◌then◌else◌};
 ghost use Rattle.std.specs.Option.{option_map};
@@ -17,21 +17,28 @@ use gix_revwalk::graph::{
 use std::alloc::{AllocError, Allocator, Global};
 use std::convert::AsSlice;
 
-/// A commit-graph file whose levels fall, where there is one, and another source that is asked for
-/// what the file lacks: git writes no file at each commit. Of a commit that both have, the file's counts.
+/// A levelled commit-graph file, or none, and another source for what the file does not have.
+///
+/// Git does not write a file at each commit, so a file may lack newer commits. If both have a
+/// commit, the file's counts.
 #[derive(Drop)]
 pub struct Joined<S: Find, B: AsSlice<u8> + Drop = Vec<u8, Global>> {
     pub file: Option<LevelledGraph<B>>,
     pub newer: S,
 }
 
-/// A commit-graph file, where there is one, and newer commits in memory.
+/// A levelled commit-graph file, or none, and newer commits in memory.
 pub type Commits<A> = Joined<MemorySource<A>>;
 
 impl<S: Find, B: AsSlice<u8> + Drop> Joined<S, B> {
-    /// What merge bases ask of a history, as far as the newer commits meet it: a call tells it to the
-    /// caller, and does nothing. No commit of the file has a parent outside it, and none counts as
-    /// newer than one without a generation.
+    /// Guarantees premises of merge bases, if the newer commits meet theirs. Does nothing else.
+    ///
+    /// - If the newer commits are acyclic, then so are all commits together.
+    /// - If no newer commit has a generation number, then all commits together have ordered
+    ///   generations.
+    ///
+    /// No commit of the file has a parent outside it, and a missing generation number counts as
+    /// infinity.
     pub fn premises(&self)
         ensures acyclic { IsAcyclic (S.history self.now.newer)
             → IsAcyclic (in_file self.now.file ++ S.history self.now.newer) }
@@ -44,7 +51,7 @@ impl<S: Find, B: AsSlice<u8> + Drop> Joined<S, B> {
         }
     }
 
-    /// Whether the file has a commit under an id.
+    /// Returns whether the file has the commit `id`.
     fn is_in_file(&self, id: ObjectId) -> bool
         ensures { result ≡ is_some (entry_at (in_file self.now.file) id) }
     {
@@ -54,7 +61,7 @@ impl<S: Find, B: AsSlice<u8> + Drop> Joined<S, B> {
         }
     }
 
-    /// The file's commit under an id.
+    /// Looks up the commit `id` in the file.
     fn find_in_file<A: Allocator>(
         &self,
         alloc: A,
@@ -68,7 +75,7 @@ impl<S: Find, B: AsSlice<u8> + Drop> Joined<S, B> {
         }
     }
 
-    /// The same on a walk, which asks for the parents next.
+    /// Looks up the commit `id` in the file, and caches the positions of its parents for a walk.
     fn find_on_walk<A: Allocator>(
         &mut self,
         alloc: A,
@@ -86,7 +93,7 @@ impl<S: Find, B: AsSlice<u8> + Drop> Joined<S, B> {
 }
 
 impl<A: Allocator + Copy> Joined<MemorySource<A>> {
-    /// The commits of a file, where there is one, and no newer one yet.
+    /// Makes a source of the commits of `file`, if there is one, without newer commits.
     pub fn new(alloc: A, file: Option<LevelledGraph>) -> Self
         ensures file { result.file ≡ file }
         ensures empty { (id : ObjectId) → entry_at result.newer id ≡ None }
@@ -100,11 +107,13 @@ impl<A: Allocator + Copy> Joined<MemorySource<A>> {
 }
 
 impl<M: Allocator, B: AsSlice<u8> + Drop> Joined<MemorySource<M>, B> {
-    /// The commit under an id, in the memory of `alloc`; `None` where neither has one.
+    /// Looks up the commit `id`. Returns `None` if neither the file nor the newer commits have it.
+    ///
+    /// The answer is in the memory of `alloc`.
     ///
     /// # Errors
     ///
-    /// Where there was no memory for the answer.
+    /// - [`AllocError`]: the answer could not be allocated.
     pub fn get<A: Allocator + Copy>(
         &self,
         alloc: A,
@@ -119,7 +128,10 @@ impl<M: Allocator, B: AsSlice<u8> + Drop> Joined<MemorySource<M>, B> {
         self.newer.get(alloc, id)
     }
 
-    /// The same commits once more, for a graph of its own, as [`CommitGraph::lend`](crate::commit_graph::CommitGraph::lend).
+    /// Returns a source of the same commits, with a cache of its own.
+    ///
+    /// Graphs that share the commits are fastest if each has a source of its own: see
+    /// [`CommitGraph::lend`](crate::commit_graph::CommitGraph::lend).
     pub fn lend(&self) -> Joined<&MemorySource<M>, &[u8]>
         ensures file { in_file result.file ≡ in_file self.now.file }
         ensures newer { result.newer.now ≡ self.now.newer }
@@ -164,7 +176,7 @@ impl<S: Find, B: AsSlice<u8> + Drop> Find for Joined<S, B> {
     }
 }
 
-/// Several graphs share them.
+/// Several graphs can share the same commits.
 impl<M: Allocator, B: AsSlice<u8> + Drop> Find for &Joined<MemorySource<M>, B> {
     ghost history = { λ j. in_file j.now.file ++ j.now.newer };
 
@@ -187,7 +199,7 @@ impl<M: Allocator, B: AsSlice<u8> + Drop> Find for &Joined<MemorySource<M>, B> {
     }
 }
 
-/// The newer commits grow by what the file lacks.
+/// Inserts commits that the file does not have into the newer commits.
 impl<M: Allocator + Copy, B: AsSlice<u8> + Drop> Insert for Joined<MemorySource<M>, B> {
     type Commit = SourceCommit<M>;
 

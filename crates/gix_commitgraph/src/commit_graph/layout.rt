@@ -1,4 +1,4 @@
-//! Where the chunks of a file stand: gitformat-commit-graph, "CHUNK LOOKUP".
+//! Finds the chunks of a file: gitformat-commit-graph, "CHUNK LOOKUP".
 
 ghost use Rattle.std.specs.Prelude.{◌≡◌, ℕ, ◌+◌, ◌*◌, ◌≤◌, ◌<◌, length, IfOk, IfErr, OnOk, IfSome};
 ghost use Rattle.gix_commitgraph.specs.FileChunks.{row_count, tag_of, row_from, chunk_at, start_of, size_of, layout_of};
@@ -17,14 +17,14 @@ const CDAT: usize = 0x4344_4154;
 
 const EDGE: usize = 0x4544_4745;
 
-/// A part of a file.
+/// A chunk of a file: the offsets at which it begins and ends.
 #[derive(Clone, Copy)]
 pub(crate) struct Chunk {
     pub(crate) start: usize,
     pub(crate) end: usize,
 }
 
-/// Where the chunks begin, and how much stands in them.
+/// The offsets of the chunks, the number of commits, and the number of entries of `EDGE`.
 #[derive(Clone, Copy)]
 pub(crate) struct Layout {
     pub(crate) count: usize,
@@ -35,7 +35,7 @@ pub(crate) struct Layout {
     pub(crate) edge_count: usize,
 }
 
-/// The header is one that is read here, and the table of contents has room.
+/// Checks that the header is supported, and that the table of contents fits in the file.
 fn check_header(bytes: &[u8]) -> Result<(), OpenFault>
     ensures header { OnOk result (HasHeader bytes.now) }
     ensures misshapen { IfErr result (IsMisshapen bytes.now) }
@@ -61,7 +61,7 @@ fn check_header(bytes: &[u8]) -> Result<(), OpenFault>
     Ok(())
 }
 
-/// The row of the table of contents for a chunk.
+/// Finds the row of the table of contents that has the chunk id `tag`.
 fn find_row(bytes: &[u8], tag: usize, rows: usize) -> Option<usize>
     requires { 20 + 12 * rows ≤ length bytes.now }
     ensures value { result ≡ row_from bytes.now tag 0 rows }
@@ -75,7 +75,8 @@ fn find_row(bytes: &[u8], tag: usize, rows: usize) -> Option<usize>
     None
 }
 
-/// A row of the table of contents has a chunk id of its own, and its chunk a place.
+/// Checks that row `i` of the table of contents has a chunk id of its own, and a chunk inside the
+/// file.
 fn check_row(bytes: &[u8], rows: usize, i: usize) -> Result<(), OpenFault>
     requires header { HasHeader bytes.now }
     requires all { rows ≡ row_count bytes.now }
@@ -97,7 +98,7 @@ fn check_row(bytes: &[u8], rows: usize, i: usize) -> Result<(), OpenFault>
     Ok(())
 }
 
-/// The table of contents is one of different chunks in order, and ends.
+/// Checks every row of the table of contents, and that the last one ends it.
 fn check_table(bytes: &[u8]) -> Result<(), OpenFault>
     requires { HasHeader bytes.now }
     ensures table { OnOk result (HasTable bytes.now) }
@@ -113,7 +114,7 @@ fn check_table(bytes: &[u8]) -> Result<(), OpenFault>
     Ok(())
 }
 
-/// A chunk, where there is one.
+/// Finds the chunk that has the chunk id `tag`.
 #[tactic(auto, unfolding(crate::specs::FileChunks::chunk_at))]
 fn find_chunk(bytes: &[u8], tag: usize) -> Option<Chunk>
     requires header { HasHeader bytes.now }
@@ -129,7 +130,7 @@ fn find_chunk(bytes: &[u8], tag: usize) -> Option<Chunk>
     })
 }
 
-/// Where a chunk of a known size begins.
+/// Returns the offset of the chunk that has the chunk id `tag`, and checks that it has `len` bytes.
 fn start(bytes: &[u8], tag: usize, len: usize, missing: OpenFault) -> Result<usize, OpenFault>
     requires header { HasHeader bytes.now }
     requires table { HasTable bytes.now }
@@ -147,7 +148,7 @@ fn start(bytes: &[u8], tag: usize, len: usize, missing: OpenFault) -> Result<usi
     Ok(chunk.start)
 }
 
-/// Where the extra edges begin, and how many there are.
+/// Returns the offset of `EDGE` and the number of its entries, or zeros if there is no `EDGE`.
 fn edges(bytes: &[u8]) -> Result<(usize, usize), OpenFault>
     requires header { HasHeader bytes.now }
     requires table { HasTable bytes.now }
@@ -167,7 +168,7 @@ fn edges(bytes: &[u8]) -> Result<(usize, usize), OpenFault>
     Ok((chunk.start, size / 4))
 }
 
-/// Where all chunks stand.
+/// Checks the header, the table of contents and the sizes of the chunks, and finds the chunks.
 pub(crate) fn read_layout(bytes: &[u8]) -> Result<Layout, OpenFault>
     ensures value { IfOk result (λ l. l ≡ layout_of bytes.now) }
     ensures fits { IfOk result (λ l. Fits bytes.now l) }

@@ -1,4 +1,4 @@
-//! A file whose levels fall.
+//! A commit-graph file in which each commit's level is greater than those of its parents.
 
 ghost use Rattle.std.specs.Prelude.{◌≡◌, ◌↔◌, IsOk, IfOk, IfErr};
 ghost use Rattle.std.specs.Option.{option_map};
@@ -14,8 +14,9 @@ use std::alloc::{AllocError, Allocator, Global};
 use std::convert::AsSlice;
 use std::marker::Model;
 
-/// A commit-graph file in which each commit has a level that is greater than those of its parents. So
-/// its history has no cycles, and generations never rise from a commit to a parent.
+/// A commit-graph file in which each commit has a level that is greater than those of its parents.
+///
+/// Its history is therefore acyclic and has ordered generations.
 #[derive(Drop)]
 pub struct LevelledGraph<B: AsSlice<u8> + Drop = Vec<u8, Global>> {
     graph: CommitGraph<B>,
@@ -34,11 +35,12 @@ impl<B: AsSlice<u8> + Drop> Model for LevelledGraph<B> {
 }
 
 impl<B: AsSlice<u8> + Drop> LevelledGraph<B> {
-    /// The file, whose levels are checked here once.
+    /// Checks the levels of `graph` once, and returns it as a levelled graph.
     ///
     /// # Errors
     ///
-    /// The file back, where a commit has no level or a parent no lesser one.
+    /// Returns `graph` if a commit has no level, or if a parent's level is not less than its
+    /// child's.
     pub fn new(graph: CommitGraph<B>) -> Result<LevelledGraph<B>, CommitGraph<B>>
         ensures fall { IsOk result ↔ LevelsFall graph }
         ensures same { IfOk result (λ levelled. levelled ≡ graph) }
@@ -51,7 +53,9 @@ impl<B: AsSlice<u8> + Drop> LevelledGraph<B> {
         }
     }
 
-    /// What merge bases ask of a history: a call tells it to the caller, and does nothing.
+    /// Guarantees the premises of merge bases. Does nothing else.
+    ///
+    /// The history is acyclic and has ordered generations.
     pub fn premises(&self)
         ensures levelled { IsLevelled (history_in self.now) }
         ensures acyclic { IsAcyclic (history_in self.now) }
@@ -60,14 +64,14 @@ impl<B: AsSlice<u8> + Drop> LevelledGraph<B> {
         let _graph = &self.graph;
     }
 
-    /// The file.
+    /// Returns the file.
     pub fn graph(&self) -> &CommitGraph<B>
         ensures { result.now ≡ self.now }
     {
         &self.graph
     }
 
-    /// The file once more, as [`CommitGraph::lend`].
+    /// Returns a source over the same bytes, with a cache of its own: see [`CommitGraph::lend`].
     pub fn lend(&self) -> LevelledGraph<&[u8]>
         ensures { result ≡ self.now }
     {
@@ -76,7 +80,7 @@ impl<B: AsSlice<u8> + Drop> LevelledGraph<B> {
         }
     }
 
-    /// As [`CommitGraph::get_on_walk`].
+    /// Looks up the commit `id`, and caches the positions of its parents for a walk.
     pub(crate) fn get_on_walk<A: Allocator>(
         &mut self,
         alloc: A,
@@ -89,7 +93,7 @@ impl<B: AsSlice<u8> + Drop> LevelledGraph<B> {
         self.graph.get_on_walk(alloc, id)
     }
 
-    /// The file back.
+    /// Turns the levelled graph back into its file.
     pub fn into_graph(self) -> CommitGraph<B>
         ensures { result ≡ self }
     {
@@ -121,7 +125,7 @@ impl<B: AsSlice<u8> + Drop> Find for LevelledGraph<B> {
     }
 }
 
-/// A file that several graphs share.
+/// Several graphs can share one file.
 impl<B: AsSlice<u8> + Drop> Find for &LevelledGraph<B> {
     ghost history = { λ g. history_in g.now };
 

@@ -1,4 +1,4 @@
-//! Levels that fall from each commit to its parents.
+//! Checks that each commit's level is greater than those of its parents.
 
 ghost use Rattle.std.specs.Prelude.{◌≡◌, ℕ, ◌-◌, ◌^◌, ◌<◌, IsTrue, true, false};
 ghost use Rattle.std.specs.List.{list_all};
@@ -10,7 +10,7 @@ use crate::commit_graph::bytes::word_at;
 use crate::commit_graph::check::{HIGH, NONE};
 use crate::commit_graph::layout::Layout;
 
-/// The level of the commit at a position.
+/// Reads the level of the commit at position `i`.
 fn level(bytes: &[u8], l: Layout, i: usize) -> usize
     requires sound { IsSound bytes.now l }
     requires here { i < l.count }
@@ -20,7 +20,7 @@ fn level(bytes: &[u8], l: Layout, i: usize) -> usize
     word_at(bytes, l.rows + 36 * i + 28) / 4
 }
 
-/// A position is that of a commit of a lesser level.
+/// Returns whether `p` is the position of a commit whose level is less than `limit`.
 fn is_lower(bytes: &[u8], l: Layout, limit: usize, p: usize) -> bool
     requires { IsSound bytes.now l }
     ensures { result ≡ is_lower bytes.now l limit p }
@@ -28,7 +28,7 @@ fn is_lower(bytes: &[u8], l: Layout, limit: usize, p: usize) -> bool
     p < l.count && level(bytes, l, p) < limit
 }
 
-/// All of a list of `EDGE` have lesser levels.
+/// Returns whether all commits of the list in `EDGE` at `start` have levels less than `limit`.
 fn are_lower(bytes: &[u8], l: Layout, limit: usize, start: usize) -> bool
     requires { IsSound bytes.now l }
     ensures { result ≡ list_all (is_lower bytes.now l limit) (edge_list bytes.now l start (l.edge_count - start)) }
@@ -45,7 +45,7 @@ fn are_lower(bytes: &[u8], l: Layout, limit: usize, start: usize) -> bool
     true
 }
 
-/// The second parent and those behind it have lesser levels.
+/// Returns whether the second and further parents have levels less than `limit`.
 fn others_lower(bytes: &[u8], l: Layout, limit: usize, second: usize) -> bool
     requires { IsSound bytes.now l }
     ensures { result ≡ list_all (is_lower bytes.now l limit) (others bytes.now l second) }
@@ -59,7 +59,7 @@ fn others_lower(bytes: &[u8], l: Layout, limit: usize, second: usize) -> bool
     is_lower(bytes, l, limit, second)
 }
 
-/// The commit at a position has a level, and its parents have lesser ones.
+/// Returns whether the commit at position `i` has a level, and its parents have lesser ones.
 fn is_above(bytes: &[u8], l: Layout, i: usize) -> bool
     requires sound { IsSound bytes.now l }
     requires here { i < l.count }
@@ -78,7 +78,7 @@ fn is_above(bytes: &[u8], l: Layout, i: usize) -> bool
     is_lower(bytes, l, own, first) && others_lower(bytes, l, own, second)
 }
 
-/// All levels fall.
+/// Returns whether every commit has a level, and its parents have lesser ones.
 pub(crate) fn fall(bytes: &[u8], l: Layout) -> bool
     requires { IsSound bytes.now l }
     ensures each { IsTrue result → (i : ℕ) → i < l.count → is_above bytes.now l i ≡ true }

@@ -1,4 +1,4 @@
-//! Where an id stands: gitformat-commit-graph, "OID Fanout" and "OID Lookup".
+//! Finds the position of an id: gitformat-commit-graph, "OID Fanout" and "OID Lookup".
 
 ghost use Rattle.std.specs.Prelude.{◌≡◌, ◌≤◌, ◌<◌, ◌^◌, MatchOption, MatchResult};
 ghost use Rattle.gix_commitgraph.specs.FileChecks.{IsSound};
@@ -10,16 +10,16 @@ use crate::commit_graph::layout::Layout;
 use gix_base::hash::ObjectId;
 use std::cmp::Ordering;
 
-/// How many places are guessed before the rest is halved.
+/// The number of guesses before the search bisects.
 const GUESSES: u32 = 6;
 
-/// The number of the four bytes behind an id's first.
+/// Reads the four bytes after the first byte of an id as a number.
 fn number_of(id: ObjectId) -> usize {
     u32::from_be_bytes([id.0[1], id.0[2], id.0[3], id.0[4]]) as usize
 }
 
-/// The positions from `low` on and before `high`, at which an id may stand, and the numbers between
-/// which those of their ids lie.
+/// The positions from `low` on and before `high` at which an id may be stored, and the numbers
+/// between which those of their ids lie.
 #[derive(Clone, Copy)]
 struct Span {
     low: usize,
@@ -29,8 +29,8 @@ struct Span {
 }
 
 impl Span {
-    /// One of the positions. While there are guesses left it is as far from the first as the number
-    /// lies from the least one, so near the id where ids are as even as hashes are; then the middle.
+    /// Returns one of the positions. While guesses are left, it interpolates by `number`, which
+    /// comes near the id if ids are as even as hashes are. After that it returns the middle.
     fn place(self, guesses: u32, number: usize) -> usize
         requires { self.low < self.high }
         ensures low { self.low ≤ result }
@@ -47,8 +47,8 @@ impl Span {
     }
 }
 
-/// The position of an id, or else the one before which it would stand: the fanout says between which
-/// positions that is, a few guesses come near it, and halves find it.
+/// Returns the position of an id, or as an error the position before which it would be stored. The
+/// fanout table gives the range, a few guesses narrow it, and bisection ends the search.
 pub(crate) fn search(bytes: &[u8], l: Layout, id: ObjectId) -> Result<usize, usize>
     requires { IsSound bytes.now l }
     ensures place { MatchResult result (IsAt bytes.now l id) (IsGap bytes.now l id) }
@@ -82,7 +82,7 @@ pub(crate) fn search(bytes: &[u8], l: Layout, id: ObjectId) -> Result<usize, usi
     Err(span.low)
 }
 
-/// The position of an id.
+/// Returns the position of an id.
 pub(crate) fn position(bytes: &[u8], l: Layout, id: ObjectId) -> Option<usize>
     requires { IsSound bytes.now l }
     ensures { MatchOption result (IsAbsent bytes.now l id) (IsAt bytes.now l id) }
@@ -93,7 +93,7 @@ pub(crate) fn position(bytes: &[u8], l: Layout, id: ObjectId) -> Option<usize>
     }
 }
 
-/// The position of an id, which may be a guess.
+/// Returns the position of an id, and tries the position `guess` first.
 pub(crate) fn position_near(bytes: &[u8], l: Layout, id: ObjectId, guess: usize) -> Option<usize>
     requires { IsSound bytes.now l }
     ensures { MatchOption result (IsAbsent bytes.now l id) (IsAt bytes.now l id) }
