@@ -1,4 +1,4 @@
--- What C is answered.
+-- What calls of C return.
 use Prim.Native.Nat.{zero, suc}
 use Rattle.std.specs.Prelude.{◌≡◌, ◌↔◌, ℕ, ℤ, pos, negsuc, List, ◌++◌, Bool, IsTrue, Some, None, if◌then◌else◌, map, take, drop, length, min}
 use Rattle.gix_base.specs.declared.hash.ObjectId.{ObjectId}
@@ -15,25 +15,26 @@ ByCode (pos zero) ok none refused = ok
 ByCode (pos (suc _)) ok none refused = none
 ByCode (negsuc _) ok none refused = refused
 
--- the id of 20 bytes
+-- The id with the given 20 bytes.
 abbrev pub id_of : List ℕ → ObjectId
 id_of bytes = record { 0 = bytes }
 
--- the 20 bytes of an id
+-- The 20 bytes of an id.
 abbrev pub bytes_in : ObjectId → List ℕ
 bytes_in id = id.0
 
--- a commit as its parts are passed
+-- The commit with the given parts, as C passes them.
 abbrev pub entry_given : List (List ℕ) → ℤ → Bool → ℕ → Entry
 entry_given parents time known generation =
     record { parents = map id_of parents; time = time; generation = if known then Some generation else None }
 
--- xs is counted, and its first items, as many as there is room for, are written over the first ones of a buffer
+-- The items of xs are counted. As many first ones as fit are written over the first items of the
+-- buffer old, which is new then.
 pub record IsWritten (xs old new : List (List ℕ)) (count : ℕ) : Type 0 where
   pub counted : count ≡ length xs
   pub written : new ≡ take (min (length xs) (length old)) xs ++ drop (min (length xs) (length old)) old
 
--- a list of exactly the merge bases, each once and in their order, is counted and written
+-- A list of exactly the merge bases of f and os, each once and in order, is counted and written.
 pub record HasBases (h : History) (f : ObjectId) (os : List ObjectId) (old new : List (List ℕ)) (count : ℕ) : Type 0 where
   pub ids : List ObjectId
   pub bases : AreBases h f os ids
@@ -41,22 +42,22 @@ pub record HasBases (h : History) (f : ObjectId) (os : List ObjectId) (old new :
   pub order : IsInOrder h ids
   pub written : IsWritten (map bytes_in ids) old new count
 
--- the octopus base is written
+-- The octopus base of f and os is written.
 pub record HasOctopusBase (h : History) (f : ObjectId) (os : List ObjectId) (new : List ℕ) : Type 0 where
   pub id : ObjectId
   pub base : IsOctopusBase h f os (Some id)
   pub written : new ≡ bytes_in id
 
--- those of ids that are reached from no other of them, each once and in the order of first places, are counted and written
--- (git-merge-base, "--independent")
+-- Those of ids that no other of them reaches, each once and in the order of first places, are
+-- counted and written (git-merge-base, "--independent").
 pub record HasIndependent (h : History) (ids : List ObjectId) (old new : List (List ℕ)) (count : ℕ) : Type 0 where
   pub left : List ObjectId
   pub independent : (c : ObjectId) → IsTrue (is_one_of left c) ↔ IsIndependent h ids c
   pub order : SomeOf ids left
   pub written : IsWritten (map bytes_in left) old new count
 
--- exactly those of ids that the history has, each once, by falling generation, then falling time, then rising id, are counted
--- and written (git-rev-list, "--topo-order")
+-- Exactly those of ids that the history has, each once, by falling generation number, then falling
+-- time, then rising id, are counted and written (git-rev-list, "--topo-order").
 pub record HasNewestFirst (h : History) (ids : List ObjectId) (old new : List (List ℕ)) (count : ℕ) : Type 0 where
   pub found : List ObjectId
   pub order : IsInOrder h found

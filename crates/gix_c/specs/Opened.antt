@@ -11,8 +11,8 @@ use Rattle.gix_c.specs.Noted.{Remembers}
 use Rattle.gix_c.specs.declared.handle.Handle.{Handle}
 use Rattle.gix_c.specs.declared.history.History.{History}
 
--- the history has exactly the commits of the file, holds none of them yet, notes what parents they have, and first
--- digits stand for their ids alone
+-- The history v has exactly the commits of the file. Its graph holds none of them yet, its noted
+-- parents are right, and abbreviated object names stand for the ids of those commits alone.
 pub record IsMadeOf (file : List ℕ) (v : History) : Type 0 where
   pub commits : commits_in v ≡ history_in file
   pub held : (id : ObjectId) → held_at v.graph id ≡ None
@@ -20,8 +20,8 @@ pub record IsMadeOf (file : List ℕ) (v : History) : Type 0 where
   pub ids : (id : ObjectId) → is_one_of v.table.ids.keys id ≡ is_some (entry_at (history_in file) id)
   pub levelled : IsLevelled (history_in file)
 
--- there is a handle, and its history is that of a commit-graph file in which each commit has a level and each parent
--- a lesser one
+-- There is a handle, and its history is that of a commit-graph file in which each commit has a
+-- level and each of its parents a lesser one.
 pub record IsOpened (bytes : List ℕ) (o : Option Handle) : Type 0 where
   pub file : IsCommitGraph bytes
   pub fall : LevelsFall bytes

@@ -5,8 +5,8 @@ use Rattle.gix_commitgraph.specs.FileLevels.{LevelsFall}
 use Rattle.gix_c.specs.declared.file.Unopened.{Unopened}
 use Rattle.gix_c.specs.declared.file.Unopened.TheVariants.{NoGraph, NoLevels, OutOfMemory}
 
--- they are no commit-graph file that is read, or are one in which a commit has no level or a parent no lesser one,
--- or there was no memory
+-- The bytes are not a supported commit-graph file, or they are one in which a commit has no level
+-- or a parent's level is not less than its child's, or an allocation failed.
 abbrev pub TellsCause : List ℕ → Unopened → Type 0
 TellsCause bytes NoGraph = ¬ IsCommitGraph bytes
 TellsCause bytes NoLevels = IsCommitGraph bytes × (¬ LevelsFall bytes)

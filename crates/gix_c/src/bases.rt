@@ -1,4 +1,4 @@
-//! What C calls for merge bases.
+//! C functions for merge bases.
 
 ghost use Rattle.std.specs.Prelude.{◌≡◌, ◌∷◌, ⊤, None, [], map, IsTrue};
 ghost use Rattle.gix_revwalk.specs.History.{Has, IsAncestor, same_id};
@@ -15,7 +15,11 @@ use gix_revision::hash::ObjectId;
 use gix_revision::merge_base::{self, is_ancestor, merge_base, octopus, reduce};
 use std::alloc::Global;
 
-/// The merge bases of `first` and a hypothetical merge of `others`.
+/// Writes the merge bases of `first` and a hypothetical merge of `others`.
+///
+/// # Premises
+///
+/// Acyclic and ordered generations, for what `first` and `others` reach.
 #[unsafe(no_mangle)]
 pub extern "C" fn gix_history_merge_bases(
     alloc: Global,
@@ -57,7 +61,11 @@ pub extern "C" fn gix_history_merge_bases(
     }
 }
 
-/// The octopus base of `first` and `others` together.
+/// Writes the octopus base of `first` and `others` together.
+///
+/// # Premises
+///
+/// Acyclic and ordered generations, for what `first` and `others` reach.
 #[unsafe(no_mangle)]
 pub extern "C" fn gix_history_octopus(
     alloc: Global,
@@ -96,8 +104,13 @@ pub extern "C" fn gix_history_octopus(
     }
 }
 
-/// Whether `ancestor` is reached from `of`, which reaches itself where the history has it. Among the ancestors
-/// of `of` no parent's generation may exceed its child's.
+/// Returns `OK` if `ancestor` is reachable from `of`, and `NONE` if it is not.
+///
+/// A commit that the history has is reachable from itself.
+///
+/// # Premises
+///
+/// Ordered generations, for what `of` reaches. Without them, `OK` is still right.
 #[unsafe(no_mangle)]
 pub extern "C" fn gix_history_is_ancestor(
     alloc: Global,
@@ -111,11 +124,11 @@ pub extern "C" fn gix_history_is_ancestor(
         (¬ IsAncestor (commits_of history.old) (id_of of.now) (id_of ancestor.now))
         ⊤ }
 
-    // Whatever the generations.
+    // Without any premise.
     ensures reached { ByCode result
         (IsAncestor (commits_of history.old) (id_of of.now) (id_of ancestor.now)) ⊤ ⊤ }
 
-    // Both are one id.
+    // If both are the same id.
     ensures same { IsTrue (same_id (id_of ancestor.now) (id_of of.now))
         → ByCode result (Has (commits_of history.old) (id_of of.now))
         (¬ Has (commits_of history.old) (id_of of.now)) ⊤ }
@@ -135,8 +148,13 @@ pub extern "C" fn gix_history_is_ancestor(
     }
 }
 
-/// Those of `ids` that cannot be reached from any other of them, each once, in the order of their
-/// first places.
+/// Writes those of `ids` that are not reachable from any other of them.
+///
+/// Each is written once, in the order of their first places.
+///
+/// # Premises
+///
+/// Acyclic and ordered generations, for what `ids` reach.
 #[unsafe(no_mangle)]
 pub extern "C" fn gix_history_independent(
     alloc: Global,

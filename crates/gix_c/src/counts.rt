@@ -1,4 +1,4 @@
-//! What C calls to have commits counted.
+//! C functions that count commits.
 
 ghost use Rattle.std.specs.Prelude.{◌≡◌, ◌∷◌, ◌⊎◌, [], ⊤, None};
 ghost use Rattle.gix_merge_base.specs.Premises.{GenerationsNeverRiseFrom};
@@ -13,7 +13,11 @@ use gix_resolve::{ListError, ahead_behind, count_commits};
 use gix_revision::hash::ObjectId;
 use std::alloc::Global;
 
-/// How many commits `ours` reaches and `theirs` does not, and how many the other way round.
+/// Counts the commits that `ours` reaches and `theirs` does not, and those the other way round.
+///
+/// # Premises
+///
+/// Ordered generations, for what `ours` and `theirs` reach. Without them, no count is too small.
 #[unsafe(no_mangle)]
 pub extern "C" fn gix_history_ahead_behind(
     alloc: Global,
@@ -27,7 +31,7 @@ pub extern "C" fn gix_history_ahead_behind(
         → ByCode result
         (HasSides (commits_of history.old) (id_of ours.now) (id_of theirs.now) ahead.new behind.new) ⊥ ⊤ }
 
-    // Whatever generations are.
+    // Without any premise.
     ensures most { ByCode result
         (HasSidesAtMost (commits_of history.old) (id_of ours.now) (id_of theirs.now) ahead.new behind.new) ⊥ ⊤ }
 
@@ -49,7 +53,7 @@ pub extern "C" fn gix_history_ahead_behind(
     OK
 }
 
-/// How many commits a set has.
+/// Counts the commits of a revision range or set.
 #[unsafe(no_mangle)]
 pub extern "C" fn gix_history_count(
     alloc: Global,

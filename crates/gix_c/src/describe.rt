@@ -1,4 +1,4 @@
-//! What C calls to have a commit described.
+//! C function that describes a commit.
 
 ghost use Rattle.std.specs.Prelude.{◌≡◌, ◌^◌, ◌⊎◌, ⊤, ℕ, IfOk, OnErr, OnOk, None};
 ghost use Rattle.gix_base.specs.declared.hash.ObjectId.{ObjectId};
@@ -21,7 +21,7 @@ use std::alloc::{AllocError, Global};
 use std::borrow::CowSlice;
 use std::collections::HashMap;
 
-/// The name of a commit.
+/// A tag or ref, by the id of its commit and its text.
 #[repr(C)]
 #[derive(Clone, Copy)]
 pub struct Name<'a> {
@@ -29,7 +29,7 @@ pub struct Name<'a> {
     text: &'a [u8],
 }
 
-/// How a commit is described.
+/// The options of a description.
 #[repr(C)]
 #[derive(Clone, Copy)]
 pub struct How {
@@ -40,7 +40,7 @@ pub struct How {
     long_form: bool,
 }
 
-/// Names a commit, unless it has a name.
+/// Adds a name to `map`, unless its commit already has one.
 fn add_name<'a>(map: &mut Names<'a>, name: &Name<'a>) -> Result<(), AllocError>
     ensures { OnOk result ((q : ObjectId) → name_at (names_of map.new.entries) q
         ≡ first_of (name_at (names_of map.old.entries) q) (named_by name.now q)) }
@@ -52,7 +52,7 @@ fn add_name<'a>(map: &mut Names<'a>, name: &Name<'a>) -> Result<(), AllocError>
     Ok(())
 }
 
-/// The first name of each commit.
+/// Collects the first name of each commit.
 fn first_names<'a>(alloc: Global, names: &[Name<'a>]) -> Result<Names<'a>, AllocError>
     ensures { IfOk result (λ map. (q : ObjectId)
         → name_at (names_of map.entries) q ≡ name_at (names_given names.now) q) }
@@ -64,7 +64,7 @@ fn first_names<'a>(alloc: Global, names: &[Name<'a>]) -> Result<Names<'a>, Alloc
     Ok(map)
 }
 
-/// What to describe by.
+/// Makes the options of `describe`.
 fn options_of<'a>(alloc: Global, names: &[Name<'a>], how: &How) -> Result<Options<'a>, AllocError>
     ensures { IfOk result (AreOptions (names_given names.now) how.now) }
 {
@@ -77,7 +77,7 @@ fn options_of<'a>(alloc: Global, names: &[Name<'a>], how: &How) -> Result<Option
     })
 }
 
-/// Copies the first bytes of a text, as many as there is room for, and says how many there are.
+/// Copies as many first bytes of `text` as fit into `out`, and stores in `len` how many there are.
 pub(crate) fn write_text(text: &[u8], out: &mut [u8], len: &mut usize)
     ensures { IsText text.now out.old out.new len.new }
 {
@@ -86,7 +86,7 @@ pub(crate) fn write_text(text: &[u8], out: &mut [u8], len: &mut usize)
     *len = text.len();
 }
 
-/// The description as it is printed.
+/// Prints a description into the caller's buffer.
 fn printed(
     alloc: Global,
     outcome: Outcome<'_>,
@@ -113,8 +113,10 @@ fn printed(
     Ok(())
 }
 
-/// The description of a commit, by names that are handed in. Nothing that the history holds is
-/// dropped.
+/// Describes `commit` by the names that are passed.
+///
+/// Of several names of one commit the first counts. The history is unchanged, and keeps all that it
+/// holds.
 #[unsafe(no_mangle)]
 pub extern "C" fn gix_history_describe(
     alloc: Global,

@@ -1,4 +1,4 @@
-//! Where in a text its fault lies.
+//! The place of a fault in a revision.
 
 ghost use Rattle.std.specs.Prelude.{◌≡◌, IfSome, Some};
 ghost use Rattle.std.specs.Option.{option_map};
@@ -8,7 +8,7 @@ ghost use Rattle.gix_c.specs.FaultPlaces.{IsPartAt};
 
 use bstr::ByteSlice;
 
-/// A fault of a text: its number, and of the part that it names the first byte and how many there are.
+/// A fault of a revision: its number, and the offset and length of the part that it names.
 #[repr(C)]
 #[derive(Clone, Copy)]
 pub struct FaultPlace {
@@ -17,19 +17,19 @@ pub struct FaultPlace {
     length: usize,
 }
 
-/// The last place at which a text has a part of it.
+/// Finds the last occurrence of `part` in `text`.
 fn last_place(text: &[u8], part: &[u8]) -> usize
     requires { IsPartOf part.now text.now }
     ensures { FindsLastNeedle text.now part.now (Some result) }
 {
     match text.rfind(part) {
         Some(start) => start,
-        // It is a part of the text.
+        // The text contains the part.
         None => unreachable!(),
     }
 }
 
-/// A fault of a text, by its number, with the part that it names.
+/// Makes the fault `number`, with the last occurrence in `text` of the part that it names.
 pub(crate) fn fault_place(text: &[u8], number: u8, part: Option<&[u8]>) -> FaultPlace
     requires { IfSome part (λ p. IsPartOf p.now text.now) }
     ensures number { result.number ≡ number }

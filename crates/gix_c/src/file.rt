@@ -1,4 +1,4 @@
-//! A commit-graph file, by bytes that C has.
+//! Reads a commit-graph file from bytes that C passes.
 
 ghost use Rattle.std.specs.Prelude.{◌≡◌, is_some, IfErr, IfOk, OnOk};
 ghost use Rattle.gix_base.specs.declared.hash.ObjectId.{ObjectId};
@@ -13,17 +13,17 @@ use gix_revision::hash::ObjectId;
 use std::alloc::{AllocError, Global};
 use std::collections::BTreeSet;
 
-/// Why bytes are not opened.
+/// Why bytes were not opened.
 #[derive(Drop)]
 pub(crate) enum Unopened {
-    /// They are no commit-graph file that is read.
+    /// The bytes are not a supported commit-graph file.
     NoGraph,
-    /// A commit has no level, or a parent no lesser one.
+    /// A commit has no level, or a parent's level is not less than its child's.
     NoLevels,
     OutOfMemory,
 }
 
-/// The commits of a file, whose bytes are copied.
+/// Opens a copy of the bytes of a commit-graph file, and checks its levels.
 pub(crate) fn read_file(alloc: Global, bytes: &[u8]) -> Result<LevelledGraph, Unopened>
     ensures same { IfOk result (λ file. file ≡ bytes.now) }
     ensures opened { OnOk result (IsCommitGraph bytes.now × LevelsFall bytes.now) }
@@ -41,7 +41,7 @@ pub(crate) fn read_file(alloc: Global, bytes: &[u8]) -> Result<LevelledGraph, Un
     }
 }
 
-/// The ids of a file's commits.
+/// Collects the ids of a file's commits.
 pub(crate) fn ids_of_file(
     alloc: Global,
     file: &LevelledGraph,

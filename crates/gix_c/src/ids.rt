@@ -1,4 +1,4 @@
-//! Ids as the bytes that C has of them.
+//! Ids as C passes them: 20 bytes each.
 
 ghost use Rattle.std.specs.Prelude.{◌≡◌, map, IfOk, OnErr, OnOk};
 ghost use Rattle.gix_base.specs.declared.hash.ObjectId.{ObjectId};
@@ -9,14 +9,14 @@ use gix_revision::error::NonEmpty;
 use gix_revision::hash::ObjectId;
 use std::alloc::{AllocError, Global};
 
-/// The ids of 20 bytes each.
+/// Makes ids of 20 bytes each.
 pub(crate) fn ids_of(alloc: Global, bytes: &[[u8; 20]]) -> Result<Vec<ObjectId>, AllocError>
     ensures { IfOk result (λ ids. ids.items ≡ map id_of bytes.now) }
 {
     bytes.iter().map(|id| ObjectId(*id)).collect(alloc)
 }
 
-/// The bytes of an id.
+/// Returns the bytes of an id.
 pub(crate) fn bytes_of(id: &ObjectId) -> [u8; 20]
     ensures { result ≡ bytes_in id.now }
 {
@@ -24,7 +24,7 @@ pub(crate) fn bytes_of(id: &ObjectId) -> [u8; 20]
     bytes
 }
 
-/// The bytes of each id.
+/// Returns the bytes of each id.
 pub(crate) fn bytes_of_each(alloc: Global, ids: &[ObjectId]) -> Result<Vec<[u8; 20]>, AllocError>
     ensures { IfOk result (λ bytes. bytes.items ≡ map bytes_in ids.now) }
 {
@@ -39,7 +39,7 @@ pub(crate) fn bytes_of_each(alloc: Global, ids: &[ObjectId]) -> Result<Vec<[u8; 
     Ok(bytes)
 }
 
-/// The bytes of each id of an answer.
+/// Returns the bytes of each id of an answer.
 pub(crate) fn bytes_of_found(
     alloc: Global,
     found: &Option<NonEmpty<ObjectId>>,
@@ -54,7 +54,7 @@ pub(crate) fn bytes_of_found(
     Ok(bytes)
 }
 
-/// Writes the first items, as many as there is room for, and how many there are.
+/// Writes as many first items as fit into `out`, and stores in `count` how many there are.
 pub(crate) fn write(bytes: &[[u8; 20]], out: &mut [[u8; 20]], count: &mut usize)
     ensures { IsWritten bytes.now out.old out.new count.new }
 {
@@ -63,7 +63,7 @@ pub(crate) fn write(bytes: &[[u8; 20]], out: &mut [[u8; 20]], count: &mut usize)
     *count = bytes.len();
 }
 
-/// Writes an answer, as [`write`].
+/// Writes the ids of an answer like [`write`].
 pub(crate) fn write_found(
     alloc: Global,
     found: &Option<NonEmpty<ObjectId>>,

@@ -1,5 +1,7 @@
-//! The library for programs in C, and in whatever calls C: histories behind a handle, and what is
-//! asked of them. `include/gix_revision.h` says what each function does, and what its caller owes.
+//! The library for programs in C, and in languages that call C.
+//!
+//! A program holds a history by a handle, and asks questions about it. `include/gix_revision.h`
+//! documents each function and what its caller must do.
 #![tactic(auto)]
 
 mod bases;

@@ -1,4 +1,4 @@
-//! What C calls to make a history, to fill it and to free it.
+//! C functions that make a history, insert commits and free it.
 
 ghost use Rattle.std.specs.Borrow.{sem};
 ghost use Rattle.std.specs.Prelude.{◌≡◌, ◌⊎◌, ⊤, Some, None, if◌then◌else◌};
@@ -20,8 +20,9 @@ use gix_revision::graph::{InsertError, SourceCommit};
 use gix_revision::hash::ObjectId;
 use std::alloc::Global;
 
-/// Makes a history without commits, which `*out` owns from then on. What it owned before is not
-/// freed.
+/// Makes a history without commits, which `*out` then owns.
+///
+/// What `*out` owned before is not freed.
 #[unsafe(no_mangle)]
 pub extern "C" fn gix_history_new(alloc: Global, out: &mut Place) -> i32
     ensures { ByCode result (IsNew out.new.value) ⊥ ((result ≡ OUT_OF_MEMORY) × (out.new ≡ out.old)) }
@@ -33,7 +34,7 @@ pub extern "C" fn gix_history_new(alloc: Global, out: &mut Place) -> i32
     OK
 }
 
-/// Puts a commit under an id that has none.
+/// Inserts a commit under `id`, if the history has none with that id yet.
 #[unsafe(no_mangle)]
 pub extern "C" fn gix_history_insert(
     alloc: Global,
@@ -81,7 +82,7 @@ fn dispose(handle: Loose<Handle, Global>) {
     drop(handle.into_box());
 }
 
-/// Frees a history that was made here. Null is none, and does nothing.
+/// Frees a history that this library made. Does nothing if the pointer is null.
 #[unsafe(no_mangle)]
 pub unsafe extern "C" fn gix_history_free(alloc: Global, history: *mut Handle)
     ghost value: { Handle }

@@ -1,4 +1,4 @@
-//! What C calls to hear which parents a history lacks.
+//! C function that lists the missing parents of a history.
 
 ghost use Rattle.std.specs.Prelude.{◌≡◌, ◌++◌, [], ◌∷◌, ⊤, IfOk, OnErr, OnOk, map, take, slice_get};
 ghost use Rattle.std.specs.List.{filter};
@@ -21,7 +21,7 @@ use gix_revision::hash::ObjectId;
 use std::alloc::{AllocError, Global};
 use std::collections::BTreeSet;
 
-/// Adds an id, where the source has no commit under it.
+/// Appends `id` to `found`, if the source does not have that commit.
 fn add_lacked(
     alloc: Global,
     id: ObjectId,
@@ -37,7 +37,7 @@ fn add_lacked(
     Ok(())
 }
 
-/// Those of `ids` under which the source has no commit.
+/// Returns those of `ids` that the source does not have.
 fn lacked(
     alloc: Global,
     ids: &[ObjectId],
@@ -52,7 +52,7 @@ fn lacked(
     Ok(found)
 }
 
-/// The set of some ids.
+/// Collects ids into a set.
 fn set_of(alloc: Global, ids: Vec<ObjectId>) -> Result<BTreeSet<ObjectId>, AllocError>
     ensures { IfOk result (λ set. (q : ObjectId) → is_one_of set.keys q ≡ is_one_of ids.items q) }
 {
@@ -60,7 +60,7 @@ fn set_of(alloc: Global, ids: Vec<ObjectId>) -> Result<BTreeSet<ObjectId>, Alloc
     Ok(set)
 }
 
-/// The ids of a set, by rising id.
+/// Lists the ids of a set by rising id.
 fn rising(alloc: Global, set: BTreeSet<ObjectId>) -> Result<Vec<ObjectId>, AllocError>
     ensures same { IfOk result (λ ids. ids.items ≡ set.keys) }
     ensures rising { IfOk result (λ ids. IsStrictlySortedBy id_order ids.items) }
@@ -69,7 +69,7 @@ fn rising(alloc: Global, set: BTreeSet<ObjectId>) -> Result<Vec<ObjectId>, Alloc
     Ok(ids)
 }
 
-/// Looks the noted parents through: those stay that the history lacks, each once, by rising id.
+/// Sifts the noted parents: those that the history does not have stay, each once, by rising id.
 fn sift(alloc: Global, history: &mut History) -> Result<(), AllocError>
     ensures sifted { OnOk result
         (AreLacked (commits_in history.old) history.old.named.items history.new.named.items) }
@@ -83,7 +83,7 @@ fn sift(alloc: Global, history: &mut History) -> Result<(), AllocError>
     Ok(())
 }
 
-/// The ids that are greater than the bound; all of them where there is none.
+/// Keeps the ids that are greater than the bound. Without a bound, all ids stay.
 fn keep_past(ids: &mut Vec<ObjectId>, bound: Option<ObjectId>)
     ensures { ids.new.items ≡ past bound ids.old.items }
 {
@@ -92,7 +92,7 @@ fn keep_past(ids: &mut Vec<ObjectId>, bound: Option<ObjectId>)
     }
 }
 
-/// The bytes of the first `limit` ids past the bound.
+/// Returns the bytes of the first `limit` ids that are greater than the bound.
 fn page_of(
     alloc: Global,
     ids: &[ObjectId],
@@ -108,8 +108,10 @@ fn page_of(
     bytes_of_each(alloc, &page)
 }
 
-/// The ids that commits of the history have as parents and under which it has no commit, by rising
-/// id: the first ones past `after`, as many as there is room for.
+/// Lists the missing parents: parents of commits of the history that are not commits of it.
+///
+/// They are sorted by rising id. The call writes the first ones that are greater than `after`, as
+/// many as fit into `out`.
 #[unsafe(no_mangle)]
 pub extern "C" fn gix_history_missing(
     alloc: Global,

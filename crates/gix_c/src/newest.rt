@@ -1,4 +1,4 @@
-//! What C calls to have commits put in order.
+//! C function that sorts commits.
 
 ghost use Rattle.std.specs.Prelude.{◌≡◌, ⊤, map};
 ghost use Rattle.gix_c.specs.Answers.{ByCode, HasNewestFirst, id_of};
@@ -10,8 +10,9 @@ use crate::status::{OK, OUT_OF_MEMORY};
 use gix_resolve::{ListError, newest_first};
 use std::alloc::Global;
 
-/// Those of `ids` that the history has, each once, by falling generation, then falling time, then
-/// rising id.
+/// Sorts those of `ids` that the history has, each once.
+///
+/// They are sorted by falling generation number, then falling time, then rising id.
 #[unsafe(no_mangle)]
 pub extern "C" fn gix_history_newest_first(
     alloc: Global,

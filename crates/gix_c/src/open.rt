@@ -1,4 +1,4 @@
-//! What C calls to make a history over a commit-graph file.
+//! C function that opens a history over a commit-graph file.
 
 ghost use Rattle.std.specs.Prelude.{◌≡◌, ◌++◌, ◌⊎◌, ⊤};
 ghost use Rattle.gix_commitgraph.specs.FileCommits.{history_in};
@@ -15,17 +15,18 @@ use crate::place::Place;
 use crate::status::{NO_GRAPH, NO_LEVELS, OK, OUT_OF_MEMORY};
 use std::alloc::Global;
 
-/// Makes a history over the bytes of a commit-graph file, which `*out` owns from then on. What it owned
-/// before is not freed.
+/// Makes a history over the bytes of a commit-graph file, which `*out` then owns.
+///
+/// What `*out` owned before is not freed.
 #[unsafe(no_mangle)]
 pub extern "C" fn gix_history_open(alloc: Global, bytes: &[u8], out: &mut Place) -> i32
     ensures opened { ByCode result (IsOpened bytes.now out.new.value) ⊥ (out.new ≡ out.old) }
 
-    // What merge bases ask of a history.
+    // The premises of merge bases.
     ensures premises { ByCode result
         (IsAcyclic (history_in bytes.now) × GenerationsNeverRise (history_in bytes.now)) ⊥ ⊤ }
 
-    // With newer commits behind those of the file, as far as these meet it.
+    // The premises of merge bases with newer commits, if these meet theirs.
     ensures acyclic { ByCode result ((newer : Commits)
         → IsAcyclic newer → IsAcyclic (history_in bytes.now ++ newer)) ⊥ ⊤ }
     ensures never_rise { ByCode result ((newer : Commits)

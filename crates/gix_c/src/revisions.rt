@@ -1,4 +1,4 @@
-//! What C calls to have revision texts resolved, and commits listed.
+//! C functions that resolve revisions and list commits.
 
 ghost use Rattle.std.specs.Prelude.{◌≡◌, ◌⊎◌, ⊤, None, Some, slice_get};
 ghost use Rattle.std.specs.Option.{option_map};
@@ -19,7 +19,7 @@ use gix_revision::spec::Spec;
 use gix_revision::spec::parse::Error;
 use std::alloc::Global;
 
-/// A set of commits by the ids that span it. The second id counts for `RANGE` and `MERGE` alone.
+/// A revision range or set, by its kind and ids. The second id counts only for `RANGE` and `MERGE`.
 #[repr(C)]
 #[derive(Clone, Copy)]
 pub struct Span {
@@ -60,7 +60,7 @@ fn span_of(spec: Spec) -> Span
     }
 }
 
-/// The set that a span stands for, where it has a kind.
+/// Converts a span into a spec. Returns `None` if its kind is none of the known ones.
 pub(crate) fn spec_of(span: &Span) -> Option<Spec>
     ensures { result ≡ spec_at span.now }
 {
@@ -83,7 +83,7 @@ pub(crate) fn spec_of(span: &Span) -> Option<Spec>
     }
 }
 
-/// Says what a name stands for. A name that stood for another id stands for this one.
+/// Makes the ref `name` stand for `id`, instead of the id that it stood for before, if any.
 #[unsafe(no_mangle)]
 pub extern "C" fn gix_history_name(
     alloc: Global,
@@ -106,7 +106,9 @@ pub extern "C" fn gix_history_name(
     }
 }
 
-/// The set of commits that a text means, read at a moment.
+/// Resolves a revision, such as `main~2..topic`.
+///
+/// Relative dates count from the moment that `seconds` and `offset` give.
 #[unsafe(no_mangle)]
 pub extern "C" fn gix_history_resolve(
     alloc: Global,
@@ -149,8 +151,9 @@ pub extern "C" fn gix_history_resolve(
     }
 }
 
-/// The set of commits that a text means, read at a moment, names before first digits
-/// of an id.
+/// Resolves a revision in git's order: a ref name wins over an abbreviated object name.
+///
+/// Relative dates count from the moment that `seconds` and `offset` give.
 #[unsafe(no_mangle)]
 pub extern "C" fn gix_history_rev_parse(
     alloc: Global,
@@ -193,7 +196,9 @@ pub extern "C" fn gix_history_rev_parse(
     }
 }
 
-/// The commits of a set, by rising id: the first ones past `after`, as many as there is room for.
+/// Lists the commits of a revision range or set by rising id.
+///
+/// The call writes the first ones that are greater than `after`, as many as fit into `out`.
 #[unsafe(no_mangle)]
 pub extern "C" fn gix_history_list(
     alloc: Global,

@@ -1,22 +1,22 @@
-//! What each function answers beside its results. -3 is kept for a source that fails, as none here does.
+//! The codes that functions return. -3 is reserved for a source that fails, which none here does.
 
-/// Answered.
+/// The call succeeded.
 pub const OK: i32 = 0;
-/// Answered: there is none, or it is not so.
+/// The call succeeded, and the answer is "none" or "no".
 pub const NONE: i32 = 1;
-/// There was no memory.
+/// An allocation failed.
 pub const OUT_OF_MEMORY: i32 = -1;
-/// The history has a commit under that id already, and keeps it.
+/// The history already has a commit with that id, and keeps it.
 pub const ALREADY_THERE: i32 = -2;
-/// The history lacks the commit that is to be described.
+/// The history does not have the commit that was to be described.
 pub const NO_COMMIT: i32 = -4;
-/// There are more commits than a count of 32 bits can say.
+/// There are more commits than 32 bits can count.
 pub const TOO_MANY: i32 = -5;
-/// The kind of a set of commits is none.
+/// The kind of a span is none of the known ones.
 pub const NO_KIND: i32 = -6;
-/// The bytes are no commit-graph file that is read.
+/// The bytes are not a supported commit-graph file.
 pub const NO_GRAPH: i32 = -7;
-/// A commit of a commit-graph file has no level, or a parent no lesser one.
+/// A commit of a commit-graph file has no level, or a parent's level is not less than its child's.
 pub const NO_LEVELS: i32 = -8;
-/// A text is refused, by the number of its fault, from 1 to 27, beyond this.
+/// A revision was refused. The code is this one plus the number of the fault, from 1 to 27.
 pub const FAULT: i32 = 100;
