@@ -2,10 +2,12 @@
 
 ghost use Rattle.std.specs.Prelude.{◌≡◌, ◌↔◌, IsOk, IfOk, IfErr};
 ghost use Rattle.std.specs.Option.{option_map};
+ghost use Rattle.gix_revwalk.specs.Generations.{AreSo};
 ghost use Rattle.gix_revwalk.specs.Held.{entry_of};
 ghost use Rattle.gix_revwalk.specs.History.{IsAcyclic, GenerationsNeverRise, entry_at};
 ghost use Rattle.gix_commitgraph.specs.FileCommits.{history_in};
 ghost use Rattle.gix_commitgraph.specs.FileLevels.{LevelsFall, IsLevelled};
+ghost use Rattle.gix_revwalk.specs.declared.graph.find.Generations.TheVariants.{NeverRise};
 
 use crate::commit_graph::file::CommitGraph;
 use gix_base::hash::ObjectId;
@@ -119,7 +121,10 @@ impl<B: AsSlice<u8> + Drop> Find for LevelledGraph<B> {
         0
     }
 
-    fn generations(&self) -> Generations {
+    fn generations(&self) -> Generations
+        ensures so { AreSo result (history_in self.now) }
+        ensures known { result ≡ NeverRise }
+    {
         self.premises();
         Generations::NeverRise
     }
@@ -143,8 +148,10 @@ impl<B: AsSlice<u8> + Drop> Find for &LevelledGraph<B> {
         0
     }
 
-    fn generations(&self) -> Generations {
-        self.premises();
-        Generations::NeverRise
+    fn generations(&self) -> Generations
+        ensures so { AreSo result (history_in self.now.now) }
+        ensures known { result ≡ NeverRise }
+    {
+        (**self).generations()
     }
 }
