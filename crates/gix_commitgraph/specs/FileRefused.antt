@@ -36,8 +36,8 @@ IsMisshapen s NoRows = chunk_at s cdat ≡ None
 IsMisshapen s ChunkSize = ¬ HasChunks s
 IsMisshapen s _ = ⊥
 
--- The file s has no chunk tag of n bytes. The fault e is missing if it has no such chunk at all,
--- and ChunkSize if that chunk has another size.
+-- Either e is missing and the file s has no chunk tag, or e is ChunkSize and s has no chunk tag of n
+-- bytes.
 abbrev pub IsLacking : List ℕ → ℕ → ℕ → OpenFault → OpenFault → Type 0
 IsLacking s tag n missing e =
     ((e ≡ missing) × (chunk_at s tag ≡ None)) ⊎ ((e ≡ ChunkSize) × (¬ MustHave (chunk_at s tag) n))
