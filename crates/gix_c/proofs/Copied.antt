@@ -32,16 +32,19 @@ last [] (suc i) is = refl
 last (x ∷ h) zero is = cc
 last (x ∷ h) (suc i) is = ap (λ l. x ∷ l) (last h i is)
 
+-- one id more in a set
+pub one-more : (id : ObjectId) (s n : BTreeSet ObjectId) → ((q : ObjectId) → contains id_order n q ≡ cond (is_eq (id_order id q)) true (contains id_order s q))
+    → (q : ObjectId) → is_one_of n.keys q ≡ cond (same_id id q) true (is_one_of s.keys q)
+one-more id s n up q = by-order n.keys q ∙ up q ∙ ap (λ b. cond b true (contains id_order s q)) (sym (texts_ties id.0 q.0)) ∙ ap (λ b. cond (same_id id q) true b) (sym (by-order s.keys q))
+
 -- one id more
 pub more : (h : History) (i : ℕ) (id : ObjectId) (s n : BTreeSet ObjectId) → option_map (λ e. e.0) (slice_get h i) ≡ Some id
     → ((q : ObjectId) → contains id_order n q ≡ cond (is_eq (id_order id q)) true (contains id_order s q))
     → ((q : ObjectId) → is_one_of s.keys q ≡ is_one_of (ids_in (take i h)) q)
     → (q : ObjectId) → is_one_of n.keys q ≡ is_one_of (ids_in (take (i + 1) h)) q
 more h i id s n is up so q =
-    let new : is_one_of n.keys q ≡ cond (same_id id q) true (is_one_of s.keys q) =
-    by-order n.keys q ∙ up q ∙ ap (λ b. cond b true (contains id_order s q)) (sym (texts_ties id.0 q.0)) ∙ ap (λ b. cond (same_id id q) true b) (sym (by-order s.keys q)) in
     let at : is_one_of n.keys q ≡ (is_one_of (ids_in (take i h)) q || same_id q id) =
-    new ∙ ap (λ b. cond b true (is_one_of s.keys q)) (same_id-sym id q) ∙ ap (λ b. cond (same_id q id) true b) (so q) ∙ either (same_id q id) (is_one_of (ids_in (take i h)) q) in
+    one-more id s n up q ∙ ap (λ b. cond b true (is_one_of s.keys q)) (same_id-sym id q) ∙ ap (λ b. cond (same_id q id) true b) (so q) ∙ either (same_id q id) (is_one_of (ids_in (take i h)) q) in
     rw add-one (at ∙ sym (next h i id q is))
   where
     either : (a b : Bool) → cond a true b ≡ (b || a)

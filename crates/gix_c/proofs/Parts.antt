@@ -19,7 +19,7 @@ use Rattle.gix_resolve.specs.Steps.{start}
 use Rattle.gix_resolve.specs.declared.state.State.{State}
 use Rattle.memchr.specs.Find.{OccursAt, Nowhere}
 use Rattle.gix_spec.specs.Ends.{IsPartOf}
-use Rattle.gix_c.specs.Answers.{ByCode}
+use Rattle.gix_c.specs.Answers.{ByFault}
 use Rattle.gix_c.specs.FaultPlaces.{IsPartAt}
 use Rattle.gix_c.specs.Spans.{HasFault}
 use Rattle.gix_c.specs.declared.faults.FaultPlace.{FaultPlace}
@@ -60,7 +60,7 @@ fault-code z n is small = rw is (search rules)
 pub faulted : (Means : Result Spec Error → Type 0) (text : List ℕ) (at : FaultPlace) (code : ℤ) (ok refused : Type 0) (e : Error)
     → (f : Fault) (input : Option (Bor (List ℕ))) (first second : Option Exn) → Means (Err e) → e ≡ Refused f input first second
     → code ≡ pos (100 + number_of f) → at.number ≡ number_of f → IsPartAt text (option_map (λ p. p.now) input) at.start at.length
-    → ByCode code ok (HasFault Means text at code) refused
+    → ByFault code ok (HasFault Means text at code) refused
 faulted Means text at code ok refused e f input first second means is tells number part =
     let n = number_of f in
     let more : 100 + n ≡ suc (99 + n) = omega arith in
@@ -70,4 +70,4 @@ faulted Means text at code ok refused e f input first second means is tells numb
       told = ap pos (sym more);
       placed = (number, part);
     } in
-    subst (λ (c : ℤ). ByCode c ok (HasFault Means text at c) refused) (sym (tells ∙ ap pos more)) has
+    subst (λ (c : ℤ). ByFault c ok (HasFault Means text at c) refused) (sym (tells ∙ ap pos more)) has

@@ -9,11 +9,20 @@ use Rattle.gix_merge_base.specs.Keys.{IsInOrder}
 use Rattle.gix_merge_base.specs.Octopus.{IsOctopusBase}
 use Rattle.gix_merge_base.specs.Reducing.{IsIndependent, SomeOf}
 
--- what holds by the code that is answered: 0, a greater one, a refusal
+-- What holds by the code of a call: ok if it is 0, none if it is 1, and refused if it is below 0. No
+-- other code is returned.
 abbrev pub ByCode : ℤ → Type 0 → Type 0 → Type 0 → Type 0
 ByCode (pos zero) ok none refused = ok
-ByCode (pos (suc _)) ok none refused = none
+ByCode (pos (suc zero)) ok none refused = none
+ByCode (pos (suc (suc _))) ok none refused = ⊥
 ByCode (negsuc _) ok none refused = refused
+
+-- What holds by the code of a call that resolves a revision: ok if it is 0, fault if it is above 0,
+-- and refused if it is below 0.
+abbrev pub ByFault : ℤ → Type 0 → Type 0 → Type 0 → Type 0
+ByFault (pos zero) ok fault refused = ok
+ByFault (pos (suc _)) ok fault refused = fault
+ByFault (negsuc _) ok fault refused = refused
 
 -- The id with the given 20 bytes.
 abbrev pub id_of : List ℕ → ObjectId

@@ -40,6 +40,7 @@ pub extern "C" fn gix_history_merge_bases(
         ((result ≡ OUT_OF_MEMORY) × (out.new ≡ out.old) × (count.new ≡ count.old)) }
     ensures commits { commits_of history.new ≡ commits_of history.old }
     ensures named { history.new.value.named ≡ history.old.value.named }
+    ensures table { history.new.value.table ≡ history.old.value.table }
 {
     let Ok(others) = ids_of(alloc, others) else {
         return OUT_OF_MEMORY;
@@ -84,6 +85,7 @@ pub extern "C" fn gix_history_octopus(
     ensures refused { ByCode result ⊤ ⊤ (result ≡ OUT_OF_MEMORY) }
     ensures commits { commits_of history.new ≡ commits_of history.old }
     ensures named { history.new.value.named ≡ history.old.value.named }
+    ensures table { history.new.value.table ≡ history.old.value.table }
 {
     let Ok(others) = ids_of(alloc, others) else {
         return OUT_OF_MEMORY;
@@ -136,6 +138,7 @@ pub extern "C" fn gix_history_is_ancestor(
     ensures refused { ByCode result ⊤ ⊤ (result ≡ OUT_OF_MEMORY) }
     ensures commits { commits_of history.new ≡ commits_of history.old }
     ensures named { history.new.value.named ≡ history.old.value.named }
+    ensures table { history.new.value.table ≡ history.old.value.table }
 {
     let ancestor = ObjectId(*ancestor);
     let of = ObjectId(*of);
@@ -171,6 +174,7 @@ pub extern "C" fn gix_history_independent(
         ((result ≡ OUT_OF_MEMORY) × (out.new ≡ out.old) × (count.new ≡ count.old)) }
     ensures commits { commits_of history.new ≡ commits_of history.old }
     ensures named { history.new.value.named ≡ history.old.value.named }
+    ensures table { history.new.value.table ≡ history.old.value.table }
 {
     let Ok(ids) = ids_of(alloc, ids) else {
         return OUT_OF_MEMORY;

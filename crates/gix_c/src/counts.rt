@@ -39,6 +39,7 @@ pub extern "C" fn gix_history_ahead_behind(
         ((result ≡ OUT_OF_MEMORY) × (ahead.new ≡ ahead.old) × (behind.new ≡ behind.old)) }
     ensures commits { commits_of history.new ≡ commits_of history.old }
     ensures named { history.new.value.named ≡ history.old.value.named }
+    ensures table { history.new.value.table ≡ history.old.value.table }
 {
     let ours = ObjectId(*ours);
     let theirs = ObjectId(*theirs);
@@ -67,6 +68,7 @@ pub extern "C" fn gix_history_count(
     ensures refused { ByCode result ⊤ ⊥ ((result ≡ NO_KIND) ⊎ (result ≡ OUT_OF_MEMORY)) }
     ensures commits { commits_of history.new ≡ commits_of history.old }
     ensures named { history.new.value.named ≡ history.old.value.named }
+    ensures table { history.new.value.table ≡ history.old.value.table }
 {
     let Some(spec) = spec_of(span) else {
         return NO_KIND;

@@ -6,6 +6,7 @@ ghost use Rattle.gix_revwalk.specs.History.{Has, entry_at, same_id};
 ghost use Rattle.gix_base.specs.declared.hash.ObjectId.{ObjectId};
 ghost use Rattle.gix_c.specs.Answers.{ByCode, entry_given, id_of};
 ghost use Rattle.gix_c.specs.Behind.{commits_of};
+ghost use Rattle.gix_c.specs.Insertion.{HasOneMore};
 ghost use Rattle.gix_c.specs.Missing.{IsNoted};
 ghost use Rattle.gix_c.specs.declared.handle.Handle.{Handle};
 ghost use Rattle.gix_c.specs.Owned.{owns_unless_null, IsNew};
@@ -52,6 +53,12 @@ pub extern "C" fn gix_history_insert(
         else entry_at (commits_of history.old) q)) ⊥ (commits_of history.new ≡ commits_of history.old) }
     ensures there { result ≡ ALREADY_THERE → Has (commits_of history.old) (id_of id.now) }
     ensures refused { ByCode result ⊤ ⊥ ((result ≡ ALREADY_THERE) ⊎ (result ≡ OUT_OF_MEMORY)) }
+    ensures names { history.new.value.table.names ≡ history.old.value.table.names }
+    ensures ids { ByCode result
+        (HasOneMore (id_of id.now) history.old.value.table.ids.keys history.new.value.table.ids.keys)
+        ⊥
+        (HasOneMore (id_of id.now) history.old.value.table.ids.keys history.new.value.table.ids.keys
+        ⊎ (history.new.value.table.ids.keys ≡ history.old.value.table.ids.keys)) }
     ensures held { history.new.value.graph.held ≡ history.old.value.graph.held }
     ensures noted { IsNoted history.old → IsNoted history.new }
 {

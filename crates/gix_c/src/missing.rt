@@ -127,6 +127,7 @@ pub extern "C" fn gix_history_missing(
         ((result ≡ OUT_OF_MEMORY) × (out.new ≡ out.old) × (count.new ≡ count.old)) }
     ensures commits { commits_of history.new ≡ commits_of history.old }
     ensures noted { IsNoted history.old → IsNoted history.new }
+    ensures table { history.new.value.table ≡ history.old.value.table }
 {
     let after = after.first().map(|id| ObjectId(*id));
     let history = history.get_mut();

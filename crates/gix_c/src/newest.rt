@@ -27,6 +27,7 @@ pub extern "C" fn gix_history_newest_first(
         ((result ≡ OUT_OF_MEMORY) × (out.new ≡ out.old) × (count.new ≡ count.old)) }
     ensures commits { commits_of history.new ≡ commits_of history.old }
     ensures named { history.new.value.named ≡ history.old.value.named }
+    ensures table { history.new.value.table ≡ history.old.value.table }
 {
     let Ok(ids) = ids_of(alloc, ids) else {
         return OUT_OF_MEMORY;

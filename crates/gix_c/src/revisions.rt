@@ -4,7 +4,7 @@ ghost use Rattle.std.specs.Prelude.{◌≡◌, ◌⊎◌, ⊤, None, Some, slice
 ghost use Rattle.std.specs.Option.{option_map};
 ghost use Rattle.gix_resolve.specs.Resolved.{Resolved};
 ghost use Rattle.gix_resolve.specs.RevParse.{RevParsed};
-ghost use Rattle.gix_c.specs.Answers.{ByCode, id_of};
+ghost use Rattle.gix_c.specs.Answers.{ByCode, ByFault, id_of};
 ghost use Rattle.gix_c.specs.Behind.{commits_of, known_in};
 ghost use Rattle.gix_c.specs.Spans.{spec_at, HasFault, HasSpec, HasPage};
 
@@ -119,16 +119,17 @@ pub extern "C" fn gix_history_resolve(
     out: &mut Span,
     fault: &mut FaultPlace,
 ) -> i32
-    ensures spec { ByCode result
+    ensures spec { ByFault result
         (HasSpec (Resolved text.now (record { seconds = seconds; offset = offset })
         (known_in history.old.value) (commits_of history.old)) out.new)
         (HasFault (Resolved text.now (record { seconds = seconds; offset = offset })
         (known_in history.old.value) (commits_of history.old)) text.now fault.new result)
         (result ≡ OUT_OF_MEMORY) }
-    ensures kept { ByCode result ⊤ (out.new ≡ out.old) (out.new ≡ out.old) }
-    ensures faultless { ByCode result (fault.new ≡ fault.old) ⊤ (fault.new ≡ fault.old) }
+    ensures kept { ByFault result ⊤ (out.new ≡ out.old) (out.new ≡ out.old) }
+    ensures faultless { ByFault result (fault.new ≡ fault.old) ⊤ (fault.new ≡ fault.old) }
     ensures commits { commits_of history.new ≡ commits_of history.old }
     ensures named { history.new.value.named ≡ history.old.value.named }
+    ensures table { history.new.value.table ≡ history.old.value.table }
 {
     let history = history.get_mut();
     let now = Time { seconds, offset };
@@ -164,16 +165,17 @@ pub extern "C" fn gix_history_rev_parse(
     out: &mut Span,
     fault: &mut FaultPlace,
 ) -> i32
-    ensures spec { ByCode result
+    ensures spec { ByFault result
         (HasSpec (RevParsed text.now (record { seconds = seconds; offset = offset })
         (known_in history.old.value) (commits_of history.old)) out.new)
         (HasFault (RevParsed text.now (record { seconds = seconds; offset = offset })
         (known_in history.old.value) (commits_of history.old)) text.now fault.new result)
         (result ≡ OUT_OF_MEMORY) }
-    ensures kept { ByCode result ⊤ (out.new ≡ out.old) (out.new ≡ out.old) }
-    ensures faultless { ByCode result (fault.new ≡ fault.old) ⊤ (fault.new ≡ fault.old) }
+    ensures kept { ByFault result ⊤ (out.new ≡ out.old) (out.new ≡ out.old) }
+    ensures faultless { ByFault result (fault.new ≡ fault.old) ⊤ (fault.new ≡ fault.old) }
     ensures commits { commits_of history.new ≡ commits_of history.old }
     ensures named { history.new.value.named ≡ history.old.value.named }
+    ensures table { history.new.value.table ≡ history.old.value.table }
 {
     let history = history.get_mut();
     let now = Time { seconds, offset };
@@ -215,6 +217,7 @@ pub extern "C" fn gix_history_list(
     ensures kind { result ≡ NO_KIND → spec_at span.now ≡ None }
     ensures commits { commits_of history.new ≡ commits_of history.old }
     ensures named { history.new.value.named ≡ history.old.value.named }
+    ensures table { history.new.value.table ≡ history.old.value.table }
 {
     let Some(spec) = spec_of(span) else {
         return NO_KIND;
