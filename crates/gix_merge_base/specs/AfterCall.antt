@@ -9,7 +9,8 @@ use Rattle.gix_merge_base.specs.declared.merge_base.flags.Flags.{Flags}
 use Rattle.gix_merge_base.specs.declared.merge_base.error.Error.{Error}
 
 module _ {S A T : Type 0} (history : S → History) (faults : S → ℕ) where
-  -- the graph after a call that answered r; where r is a refusal since the source failed, with one of the two texts
+  -- The graph is as GraphAfter says of a call that returned r. If r is a source error, then it has
+  -- one of the two texts.
   pub record AfterCall (before after : Graphed S (Commit Flags A)) (r : Result T Error) : Type 0 where
     pub graph : GraphAfter history faults is_source_fault before after r
     pub cause : IfErr r HasInsertText

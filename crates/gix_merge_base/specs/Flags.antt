@@ -1,12 +1,12 @@
--- Sets of marks, as the number that has their bits.
+-- Sets of marks as numbers whose bits are the marks.
 use Rattle.std.specs.Prelude.{ℕ, Bool, ◌==◌}
 use Rattle.std.specs.Int.RustNames.{bit_and}
 use Rattle.gix_merge_base.specs.declared.merge_base.flags.Flags.{Flags}
 
--- the bits of a set of marks
+-- The bits of a set of marks.
 abbrev pub bits_of : Flags → ℕ
 bits_of flags = flags.0
 
--- every bit of the second set is in the first
+-- Every bit of other is in flags.
 abbrev pub has_all : Flags → Flags → Bool
 has_all flags other = bit_and (bits_of flags) (bits_of other) == bits_of other

@@ -1,5 +1,5 @@
--- The queued commits of a walk, over the graph that has its marks, and what a step does to both: to the graph g and its
--- front f, which are g' and f' then.
+-- The queue of a walk, over the graph that has its marks, and what a step does to both. The graph
+-- is g and the queue with its count is f before the step; they are g' and f' after it.
 use Rattle.std.specs.Prelude.{◌≡◌, ◌≤◌, ◌∷◌, ℕ, Bool, List, IsTrue, cond}
 use Rattle.std.specs.List.Sorted.{IsPermutation}
 use Rattle.gix_base.specs.declared.hash.ObjectId.{ObjectId}
@@ -17,53 +17,54 @@ use Rattle.gix_merge_base.specs.PaintSteps.{Hands, Begins, Begun, Steps, results
 use Rattle.gix_merge_base.specs.declared.merge_base.flags.Flags.{Flags}
 use Rattle.gix_merge_base.specs.declared.merge_base.hand.Front.{Front}
 
--- each entry is of a commit of the graph, under its key
+-- Each queued number is one of the graph, and is queued under the key of its commit.
 pub record IsQueued {S T A : Type 0} (h : History) (g : Graphed S T) (f : Front A) : Type 0 where
   pub held : AreHeld g f.queue
   pub keyed : Keyed h g f.queue
 
--- the front counts the entries whose commit is not stale
+-- The front counts the entries whose commit is not stale.
 abbrev pub CountsOpen : {S A : Type 0} → Graphed S (Commit Flags A) → Front A → Type 0
 CountsOpen g f = Counts (marks_at g) (queued_at g) (queued_ids g f.queue) f.open_entries
 
--- the front counts those of ids that are not stale
+-- The front counts those of ids that are not stale.
 abbrev pub CountsLeft : {S A : Type 0} → List ObjectId → Graphed S (Commit Flags A) → Front A → Type 0
 CountsLeft ids g f = CountsUnmet (marks_at g) (queued_at g) ids f.open_entries
 
--- what painting keeps beside the marks of its graph is right
+-- The queue of painting is sound, and its count is right.
 pub record IsRight {S A : Type 0} (h : History) (g : Graphed S (Commit Flags A)) (f : Front A) : Type 0 where
   pub queued : IsQueued h g f
   pub counts : CountsOpen g f
 
--- the marks w went to id, which is queued once more
+-- The commit id gets the marks w, and is queued once more.
 pub record Enters {S A : Type 0} (w : MarkSet) (id : ObjectId) (g : Graphed S (Commit Flags A)) (f : Front A) (g' : Graphed S (Commit Flags A)) (f' : Front A) : Type 0 where
   pub marks : (c : ObjectId) → marks_at g' c ≡ cond (same_id id c) (joined w (marks_at g c)) (marks_at g c)
   pub queue : IsPermutation (id ∷ queued_ids g f.queue) (queued_ids g' f'.queue)
 
--- the marks w went to those of ps that the history has
+-- Those of ps that the history has get the marks w.
 abbrev pub HandsOn : {S A : Type 0} → History → MarkSet → List ObjectId → Graphed S (Commit Flags A) → Front A → Graphed S (Commit Flags A) → Front A → Type 0
 HandsOn h w ps g f g' f' = Hands h w ps (marks_at g) (queued_ids g f.queue) (marks_at g') (queued_ids g' f'.queue)
 
--- id is marked and queued, where the history has it
+-- The commit id gets the marks w and is queued, if the history has it.
 abbrev pub BeginsOn : {S A : Type 0} → History → MarkSet → ObjectId → Graphed S (Commit Flags A) → Front A → Graphed S (Commit Flags A) → Front A → Type 0
 BeginsOn h w id g f g' f' = Begins h w id (marks_at g) (queued_ids g f.queue) (marks_at g') (queued_ids g' f'.queue)
 
--- before the first pop
+-- The marks and the queue before the first pop are those of Begun.
 abbrev pub BegunOn : {S A : Type 0} → History → ObjectId → List ObjectId → Graphed S (Commit Flags A) → Front A → Type 0
 BegunOn h first others g f = Begun h first others (marks_at g) (queued_ids g f.queue)
 
--- a popped commit became one of the results where its marks say so, and handed its marks on to its parents
+-- The popped commit id becomes a result if its marks say so, and hands its marks on to its parents.
 pub record StepsOn {S A : Type 0} (h : History) (id : ObjectId) (g : Graphed S (Commit Flags A)) (f : Front A) (before : List ObjectId) (g' : Graphed S (Commit Flags A)) (f' : Front A) (after : List ObjectId) : Type 0 where
   pub steps : Steps h id (marks_at g) (queued_ids g f.queue) (marks_at g') (queued_ids g' f'.queue)
   pub results : after ≡ results_after (marks_at g) id before
 
--- what was right of the queue and of its count is right where the marks w were handed on
+-- If the queue and a count were right before the marks w were handed on, they are right after it.
 pub record Keeps {S A : Type 0} (h : History) (w : MarkSet) (g : Graphed S (Commit Flags A)) (f : Front A) (g' : Graphed S (Commit Flags A)) (f' : Front A) : Type 0 where
   pub queued : IsQueued h g f → IsQueued h g' f'
   pub counts : CountsOpen g f → CountsOpen g' f'
   pub left : IsTrue w.stale → (ids : List ObjectId) → CountsLeft ids g f → CountsLeft ids g' f'
 
--- n was the entry of a commit with a greatest key, and is not queued any more
+-- Before the pop, n was the entry of a commit with a greatest key. After it, that entry is not
+-- queued.
 pub record Pops {S A : Type 0} (h : History) (n : Number) (g : Graphed S (Commit Flags A)) (f : Front A) (g' : Graphed S (Commit Flags A)) (f' : Front A) : Type 0 where
   pub some : 1 ≤ unstale (marks_at g) (queued_ids g f.queue)
   pub inside : IsIn g' n
@@ -72,17 +73,18 @@ pub record Pops {S A : Type 0} (h : History) (n : Number) (g : Graphed S (Commit
   pub marks : (c : ObjectId) → marks_at g' c ≡ marks_at g c
   pub right : IsRight h g' f'
 
--- g' holds what g does, in the same places, and its source is as it was
+-- Graph g' holds the same commits as g, in the same places, and has the same source.
 pub record HoldsSame {S T : Type 0} (g g' : Graphed S T) : Type 0 where
   pub source : g'.source ≡ g.source
   pub ids : held_ids g' ≡ held_ids g
 
--- the numbers of g are those of the same commits in g'
+-- Each number of g is a number of g', of the same commit.
 abbrev pub KeepsNumbers : {S T : Type 0} → Graphed S T → Graphed S T → Type 0
 KeepsNumbers g g' = (ns : List Number) → AreIn g ns → AreIn g' ns × (ids_at g' ns ≡ ids_at g ns)
 
 module _ {S T R : Type 0} (history : S → History) (faults : S → ℕ) (is_fault : R → Bool) where
-  -- the graph after a step that answered r: it holds more of ps alone, and all numbers are as they were
+  -- The graph after a step that returned r: it newly holds only members of ps, and all numbers keep
+  -- their commits.
   pub record Meets (ps : List ObjectId) (g g' : Graphed S T) (r : R) : Type 0 where
     pub more : HoldsMore (history g.source) ps g g'
     pub numbers : KeepsNumbers g g'

@@ -1,4 +1,4 @@
--- The order of commits by generation, then time, then id: git's technical/commit-graph,
+-- The order of commits by generation number, then time, then id: git's technical/commit-graph,
 -- "generation number".
 use Rattle.std.specs.Prelude.{◌≡◌, ◌<◌, ◌≤◌, List, [], ◌∷◌, IsTrue, ◌⊎◌, ◌<ℤ◌, ◌≤ℤ◌}
 use Rattle.std.specs.List.Sorted.{IsStrictlySortedBy}
@@ -8,40 +8,42 @@ use Rattle.std.specs.declared.cmp.Ordering.{Ordering}
 use Rattle.gix_revwalk.specs.History.{History, IsEdge, is_one_of, generation_of, time_of}
 use Rattle.gix_base.specs.declared.hash.ObjectId.{ObjectId}
 
--- the key of a is less than that of b
+-- The key of a is less than the key of b.
 abbrev pub KeyBelow : History → ObjectId → ObjectId → Type 0
 KeyBelow h a b =
     (generation_of h a < generation_of h b)
     ⊎ ((generation_of h a ≡ generation_of h b) × (time_of h a <ℤ time_of h b))
 
--- the key of a is at most that of b
+-- The key of a is at most the key of b.
 abbrev pub KeyAtMost : History → ObjectId → ObjectId → Type 0
 KeyAtMost h a b =
     (generation_of h a < generation_of h b)
     ⊎ ((generation_of h a ≡ generation_of h b) × (time_of h a ≤ℤ time_of h b))
 
--- the key strictly falls along every edge
+-- On every edge of the history, the parent's key is less than the child's.
 abbrev pub KeysFall : History → Type 0
 KeysFall h = (a b : ObjectId) → IsEdge h a b → KeyBelow h b a
 
--- neither generation nor time rises from child to parent
+-- On every edge of the history, the parent has neither a greater generation number nor a later time
+-- than the child.
 abbrev pub NoneRises : History → Type 0
 NoneRises h =
     (a b : ObjectId) → IsEdge h a b
     → (generation_of h b ≤ generation_of h a) × (time_of h b ≤ℤ time_of h a)
 
--- no later id has a greater key
+-- In the list, no later id has a greater key than an earlier one.
 abbrev pub InFallingOrder : History → List ObjectId → Type 0
 InFallingOrder h [] = Unit {0}
 InFallingOrder h (x ∷ xs) =
     ((y : ObjectId) → IsTrue (is_one_of xs y) → KeyAtMost h y x) × InFallingOrder h xs
 
--- `Less` where x comes before y: the greater generation, then the greater time, then the smaller id
+-- The answer is `Less` if x is listed before y: x has the greater generation number, then the
+-- greater time, then the smaller id.
 abbrev pub choice : History → ObjectId → ObjectId → Ordering
 choice h x y =
     ordering_then (nat_cmp (generation_of h y) (generation_of h x))
     (ordering_then (int_cmp (time_of h y) (time_of h x)) (slice_cmp nat_cmp x.0 y.0))
 
--- each id comes before all later ones
+-- Each id is listed before all later ones.
 abbrev pub IsInOrder : History → List ObjectId → Type 0
 IsInOrder h ids = IsStrictlySortedBy (choice h) ids

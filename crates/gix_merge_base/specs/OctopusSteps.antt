@@ -7,23 +7,23 @@ use Rattle.gix_merge_base.specs.Premises.{GenerationsNeverRiseFrom}
 use Rattle.gix_merge_base.specs.Bases.{IsCommon}
 use Rattle.gix_merge_base.specs.Keys.{choice}
 
--- no one of ids is reached from another
+-- No member of ids is an ancestor of another member.
 abbrev pub AreApart : History → List ObjectId → Type 0
 AreApart h ids = (c d : ObjectId) → IsTrue (is_one_of ids c) → IsTrue (is_one_of ids d) → IsAncestor h c d → c ≡ d
 
--- ys are ancestors of o below one of bs, all of these ancestors lie below them, and no one of them is
--- reached from another where no parent's generation exceeds its child's among what o and bs reach
+-- Each of ys is an ancestor of o and of one of bs, and each such ancestor is an ancestor of one of
+-- ys. If o and bs have ordered generations, then no member of ys is an ancestor of another member.
 pub record IsStep (h : History) (bs : List ObjectId) (o : ObjectId) (ys : List ObjectId) : Type 0 where
   pub common : (c : ObjectId) → IsTrue (is_one_of ys c) → IsCommon h o bs c
   pub below : (c : ObjectId) → IsCommon h o bs c → IsAncestorOfOne h ys c
   pub apart : GenerationsNeverRiseFrom h (o ∷ bs) → AreApart h ys
 
--- x is one of ids and in the history, and no other such is chosen before it
+-- Commit x is one of ids, the history has it, and no other such commit is listed before it.
 pub record IsFirstChoice (h : History) (ids : List ObjectId) (x : ObjectId) : Type 0 where
   pub member : IsTrue (is_one_of ids x)
   pub has : Has h x
   pub first : (y : ObjectId) → IsTrue (is_one_of ids y) → Has h y → IsTrue (is_gt (choice h x y)) → ⊥
 
--- the first choice among those of ids that the history has, and none where it has none of them
+-- The answer r is the first choice among ids. There is none only if the history has none of ids.
 abbrev pub IsBestOf : History → List ObjectId → Option ObjectId → Type 0
 IsBestOf h ids r = MatchOption r ((y : ObjectId) → IsTrue (is_one_of ids y) → ¬ Has h y) (IsFirstChoice h ids)

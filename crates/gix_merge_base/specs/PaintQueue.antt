@@ -15,66 +15,66 @@ use Rattle.gix_merge_base.specs.Marks.{MarkSet, marks_of}
 use Rattle.gix_merge_base.specs.declared.merge_base.flags.Flags.{Flags}
 use Rattle.gix_merge_base.specs.declared.merge_base.gen_then_time.GenThenTime.{GenThenTime}
 
--- the key of what was found
+-- The key of a look-up's answer.
 abbrev pub key_in : Option Entry → GenThenTime
 key_in e = record { generation = generation_in e; time = time_in e }
 
--- the key of the commit under an id
+-- The key of the commit under an id.
 abbrev pub key_at : History → ObjectId → GenThenTime
 key_at h id = key_in (entry_at h id)
 
--- the parents of the commit under an id
+-- The parents of the commit under an id.
 abbrev pub parents_at : History → ObjectId → List ObjectId
 parents_at h id = parents_in (entry_at h id)
 
--- no marks, and not queued
+-- No marks, and not queued.
 abbrev pub no_mark : Mark Flags
 no_mark = record { marks = record { 0 = 0 }; queued = 0 }
 
--- what the walk gave an id; no marks where it gave it nothing
+-- The mark that the walk gave an id; no marks if it gave none.
 abbrev pub mark_or : {S A : Type 0} → Graphed S (Commit Flags A) → ObjectId → Mark Flags
 mark_or g q = unwrap_or (mark_at g q) no_mark
 
--- the marks that the walk gave an id
+-- The set of marks that the walk gave an id.
 abbrev pub marks_at : {S A : Type 0} → Graphed S (Commit Flags A) → ObjectId → MarkSet
 marks_at g q = marks_of (mark_or g q).marks
 
--- how often an id is queued
+-- How often an id is queued.
 abbrev pub queued_at : {S A : Type 0} → Graphed S (Commit Flags A) → ObjectId → ℕ
 queued_at g q = (mark_or g q).queued
 
--- the id of a number of the graph
+-- The id at a place of the graph.
 abbrev pub id_at : {S T : Type 0} → Graphed S T → ℕ → ObjectId
 id_at g k = unwrap_or (named g k) (record { 0 = [] })
 
--- the id of a number
+-- The id of a number.
 abbrev pub id_of : {S T : Type 0} → Graphed S T → Number → ObjectId
 id_of g n = id_at g (place_in n)
 
--- the ids that are queued
+-- The ids that are queued.
 abbrev pub queued_ids : {S T K : Type 0} → Graphed S T → List (K × Number) → List ObjectId
 queued_ids g ps = map (λ p. id_at g (place_in p.1)) ps
 
--- each queued number is one of the graph
+-- Each queued number is one of the graph.
 abbrev pub AreHeld : {S T K : Type 0} → Graphed S T → List (K × Number) → Type 0
 AreHeld g ps = AllByRecursion (λ p. place_in p.1 < held_len g) ps
 
--- each number is queued under the key of its commit
+-- Each number is queued under the key of its commit.
 abbrev pub Keyed : {S T : Type 0} → History → Graphed S T → List (GenThenTime × Number) → Type 0
 Keyed h g ps = AllByRecursion (λ p. p.0 ≡ key_at h (id_at g (place_in p.1))) ps
 
--- the ids of numbers
+-- The ids of numbers.
 abbrev pub ids_at : {S T : Type 0} → Graphed S T → List Number → List ObjectId
 ids_at g ns = map (λ n. id_at g (place_in n)) ns
 
--- it is a number of the graph
+-- The number n is one of the graph.
 abbrev pub IsIn : {S T : Type 0} → Graphed S T → Number → Type 0
 IsIn g n = place_in n < held_len g
 
--- each is a number of the graph
+-- Each of the numbers ns is one of the graph.
 abbrev pub AreIn : {S T : Type 0} → Graphed S T → List Number → Type 0
 AreIn g ns = AllByRecursion (λ n. place_in n < held_len g) ns
 
--- the graph has the commit
+-- The graph holds the commit q.
 abbrev pub IsHeld : {S T : Type 0} → Graphed S T → ObjectId → Type 0
 IsHeld g q = IsTrue (is_some (held_at g q))

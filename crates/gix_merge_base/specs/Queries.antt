@@ -20,7 +20,7 @@ use Rattle.gix_merge_base.specs.declared.merge_base.queries.Query.TheVariants.{M
 use Rattle.gix_merge_base.specs.declared.merge_base.queries.Answer.{Answer}
 use Rattle.gix_merge_base.specs.declared.merge_base.queries.Answer.TheVariants.{MergeBase, Octopus, Refused}
 
--- what `merge_base` promises of an answer
+-- What `merge_base` promises of an answer.
 pub record AnswersBases (h : History) (f : ObjectId) (os ids : List ObjectId) : Type 0 where
   pub bases : IsAcyclicFrom h (f ∷ os) → GenerationsNeverRiseFrom h (f ∷ os) → AreBases h f os ids
   pub without_generations : IsAcyclicFrom h (f ∷ os) → is_trivial f os ≡ false → CoverBases h f os ids
@@ -28,13 +28,14 @@ pub record AnswersBases (h : History) (f : ObjectId) (os ids : List ObjectId) : 
   pub order : IsInOrder h ids
   pub alone : IsTrue (is_trivial f os) → ids ≡ f ∷ []
 
--- what `octopus` promises of an answer
+-- What `octopus` promises of an answer.
 pub record AnswersOctopus (h : History) (f : ObjectId) (os : List ObjectId) (r : Option ObjectId) : Type 0 where
   pub base : IsAcyclicFrom h (f ∷ os) → GenerationsNeverRiseFrom h (f ∷ os) → IsOctopusBase h f os r
   pub common : IsAcyclicFrom h (f ∷ os) → list_all (same_id f) os ≡ false → IsCommonToAll h f os r
   pub alone : IsTrue (list_all (same_id f) os) → r ≡ Some f
 
--- where keys fall and there is at most one base, a call of `merge_base` takes little in
+-- With falling keys and at most one merge base, a call of `merge_base` loads little. Of `octopus`
+-- nothing is said.
 abbrev pub TakesLittle : {S T A : Type 0} → History → Graphed S T → Graphed S T → Query A → Type 0
 TakesLittle h old new (AskBases f os) =
     KeysFallFrom h (f ∷ os.items)
@@ -42,12 +43,13 @@ TakesLittle h old new (AskBases f os) =
     → (p : ObjectId) → IsHeld new p → IsHeld old p ⊎ MayBeTaken h f os.items p
 TakesLittle h old new (AskOctopus f os) = Unit {0}
 
--- nothing has to be looked up
+-- Nothing has to be looked up to answer the query.
 abbrev pub asks_nothing : {A : Type 0} → Query A → Bool
 asks_nothing (AskBases f os) = is_trivial f os.items
 asks_nothing (AskOctopus f os) = list_all (same_id f) os.items
 
--- the answer is one to this query, and right over h; where nothing has to be looked up it is not refused
+-- The answer is one to this query, and right over the history h. If nothing has to be looked up, it
+-- is no error.
 abbrev pub IsRight : {A : Type 0} → History → Query A → Answer A → Type 0
 IsRight h (AskBases f os) (MergeBase found) = AnswersBases h f os.items (ids_of found)
 IsRight h (AskBases f os) (Octopus r) = ⊥
@@ -56,25 +58,25 @@ IsRight h (AskOctopus f os) (MergeBase found) = ⊥
 IsRight h (AskOctopus f os) (Octopus r) = AnswersOctopus h f os.items r
 IsRight h (AskOctopus f os) (Refused e) = list_all (same_id f) os.items ≡ false
 
--- there is one answer for each query, in order, and each is right
+-- There is one answer for each query, in order, and each is right.
 abbrev pub AreRight : {A : Type 0} → History → List (Query A) → List (Answer A) → Type 0
 AreRight h [] [] = Unit {0}
 AreRight h [] (a ∷ rest) = ⊥
 AreRight h (q ∷ qs) [] = ⊥
 AreRight h (q ∷ qs) (a ∷ rest) = IsRight h q a × AreRight h qs rest
 
--- a call's answer as its result: refused with an error, or not
+-- The answer as the result of a call.
 abbrev pub outcome_of : {A : Type 0} → Answer A → Result (Unit {0}) Error
 outcome_of (MergeBase found) = Ok tt
 outcome_of (Octopus r) = Ok tt
 outcome_of (Refused e) = Err e
 
--- the answer is a refusal since the source failed
+-- The answer is the source error.
 abbrev pub is_refused_by_source : {A : Type 0} → Answer A → Bool
 is_refused_by_source a = is_source_fault (outcome_of a)
 
 module _ {S A : Type 0} (history : S → History) (faults : S → ℕ) where
-  -- one call: its answer over the graph as it was, and how the graph is left
+  -- What one call promises: its answer over the old graph, and how it leaves the graph.
   pub record IsCall (old new : Graphed S (Commit Flags A)) (q : Query A) (a : Answer A) : Type 0 where
     pub right : IsRight (history old.source) q a
     pub unchanged : IsTrue (asks_nothing q) → new ≡ old

@@ -1,20 +1,20 @@
--- Why the calls of `merge_base` refuse.
+-- Why calls fail.
 use Rattle.std.specs.Prelude.{◌≡◌, ◌⊎◌, ℕ, List, codes, Bool, true, false, Result, Ok, Err}
 use Rattle.gix_merge_base.specs.declared.merge_base.error.Error.{Error}
 use Rattle.gix_merge_base.specs.declared.merge_base.error.Error.TheVariants.{Source, OutOfMemory}
 
--- what was being done when the source failed
+-- The text says what the call was doing when the source failed.
 abbrev pub IsInsertText : List ℕ → Type 0
 IsInsertText text =
     (text ≡ codes "could not insert commit into graph")
     ⊎ (text ≡ codes "could not insert parent commit into graph")
 
--- a source fault comes with one of the two texts
+-- A source error has one of the two texts.
 abbrev pub HasInsertText : Error → Type 0
 HasInsertText (Source simple) = IsInsertText simple.0.now
 HasInsertText OutOfMemory = Unit {0}
 
--- the call was refused since the source failed
+-- The call returned the source error.
 abbrev pub is_source_fault : {T : Type 0} → Result T Error → Bool
 is_source_fault (Ok x) = false
 is_source_fault (Err (Source simple)) = true

@@ -1,4 +1,4 @@
-//! The best common ancestors of commits.
+//! Merge bases, octopus bases, independent commits and ancestry.
 
 mod ancestry;
 mod bases;

@@ -1,6 +1,6 @@
-//! What the calls of the trait `bitflags::Flags` answer for the marks of a commit, as numbers.
+//! What the calls of the trait `bitflags::Flags` return for the marks of a commit, as numbers.
 //!
-//! Each function is named like the call whose answer it states.
+//! Each function is named after the call whose answer it states.
 
 ghost use Rattle.std.specs.Prelude.{◌≡◌, ◌==◌, [], ◌∷◌};
 ghost use Rattle.std.specs.Int.RustNames.{bit_or};
@@ -10,7 +10,7 @@ ghost use Rattle.gix_merge_base.specs.Flags.{bits_of, has_all};
 use crate::merge_base::Flags;
 use bitflags::Flags as BitFlags;
 
-/// The bits of the constants `COMMIT1`, `COMMIT2`, `STALE` and `RESULT`.
+/// Returns the bits of the constants `COMMIT1`, `COMMIT2`, `STALE` and `RESULT`.
 pub fn constants() -> [u8; 4]
     ensures { result ≡ 1 ∷ 2 ∷ 4 ∷ 8 ∷ [] }
 {
@@ -22,63 +22,63 @@ pub fn constants() -> [u8; 4]
     ]
 }
 
-/// Every bit is kept.
+/// Returns a set with exactly these bits.
 pub fn from_bits_retain(bits: u8) -> Flags
     ensures { bits_of result ≡ bits }
 {
     Flags::from_bits_retain(bits)
 }
 
-/// The bits of the set.
+/// Returns the bits of the set.
 pub fn bits(flags: Flags) -> u8
     ensures { result ≡ bits_of flags }
 {
     flags.bits()
 }
 
-/// No bit.
+/// Returns a set with no bits.
 pub fn empty() -> Flags
     ensures { bits_of result ≡ 0 }
 {
     Flags::empty()
 }
 
-/// No bit.
+/// Returns a set with no bits.
 pub fn default() -> Flags
     ensures { bits_of result ≡ 0 }
 {
     Flags::default()
 }
 
-/// The bits of the four marks.
+/// Returns a set with the bits of the four marks.
 pub fn all() -> Flags
     ensures { bits_of result ≡ 15 }
 {
     Flags::all()
 }
 
-/// Whether there is no bit.
+/// Tests whether the set has no bits.
 pub fn is_empty(flags: Flags) -> bool
     ensures { result ≡ (bits_of flags == 0) }
 {
     flags.is_empty()
 }
 
-/// Whether every bit of the argument is set.
+/// Tests whether every bit of `other` is set.
 pub fn contains(flags: Flags, other: Flags) -> bool
     ensures { result ≡ has_all flags other }
 {
     flags.contains(other)
 }
 
-/// The bits of the argument are set as well.
+/// Sets the bits of `other` as well.
 pub fn insert(flags: &mut Flags, other: Flags)
     ensures { bits_of flags.new ≡ bit_or (bits_of flags.old) (bits_of other) }
 {
     flags.insert(other);
 }
 
-/// The bits of the argument are cleared.
+/// Clears the bits of `other`.
 pub fn remove(flags: &mut Flags, other: Flags)
     ensures { bits_of flags.new ≡ without 8 (bits_of flags.old) (bits_of other) }
 {

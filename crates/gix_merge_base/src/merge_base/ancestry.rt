@@ -1,4 +1,4 @@
-//! Whether one commit is reached from another.
+//! Tests whether one commit is reachable from another.
 
 ghost use Rattle.std.specs.Prelude.{◌≡◌, ◌<◌, ◌∷◌, [], ◌⊎◌, ◌↔◌, IfOk, IfErr, OnOk, IsTrue, is_some};
 ghost use Rattle.std.specs.Option.{option_map};
@@ -26,10 +26,11 @@ use gix_revwalk::graph::{Commit, Find, Graph};
 use gix_revwalk::numbers::{self, Number};
 use std::alloc::Allocator;
 
-/// The mark of what the walk has met.
+/// Marks what the walk has met.
 const MET: Flags = Flags::STALE;
 
-/// The number of a commit, which is taken in unless it is held; `None` where the source lacks it.
+/// Returns the number of a commit, and loads it unless it is held; `None` if the source does not
+/// have it.
 fn look_up<S: Find, A: Allocator + Copy>(
     alloc: A,
     id: ObjectId,
@@ -49,7 +50,7 @@ fn look_up<S: Find, A: Allocator + Copy>(
     }
 }
 
-/// Whether the source has a commit, which is taken in unless it is held.
+/// Tests whether the source has a commit, and loads it unless it is held.
 fn is_there<S: Find, A: Allocator + Copy>(
     alloc: A,
     id: ObjectId,
@@ -62,8 +63,8 @@ fn is_there<S: Find, A: Allocator + Copy>(
     Ok(look_up(alloc, id, graph)?.is_some())
 }
 
-/// Whether a walk from one commit meets another. It takes commits by falling generation, then time, and
-/// ends once all that is queued has a smaller generation than the one that is looked for.
+/// Tests whether a walk from one commit meets another. Pops commits by falling generation number,
+/// then time, and ends once everything queued has a smaller generation number than `target`.
 fn meets<S: Find, A: Allocator + Copy>(
     alloc: A,
     from: Number,
@@ -85,7 +86,7 @@ fn meets<S: Find, A: Allocator + Copy>(
     ensures after { AfterCall S.history S.fault_count graph.old graph.new result }
 {
     let least = GenThenTime::from(numbers::value(graph, target)).generation;
-    // What is met is stale, so no entry counts as open.
+    // Everything that the walk meets is stale, so no entry counts as open.
     let mut walk = Walk::new(alloc, 0);
     walk.front.hand(from, MET, graph)?;
     while !mark_of(graph, target).marks.is_stale() {
@@ -102,7 +103,7 @@ fn meets<S: Find, A: Allocator + Copy>(
     Ok(true)
 }
 
-/// Begins a walk: whether `of` reaches `ancestor`.
+/// Begins a walk, and tests whether `of` reaches `ancestor`.
 fn reaches<S: Find, A: Allocator + Copy>(
     alloc: A,
     ancestor: ObjectId,
@@ -128,22 +129,32 @@ fn reaches<S: Find, A: Allocator + Copy>(
     meets(alloc, from, target, graph)
 }
 
-/// Whether `ancestor` is reached from `of`, which reaches itself: git-merge-base, "--is-ancestor".
+/// Tests whether `ancestor` is reachable from `of`, like `git merge-base --is-ancestor`.
 ///
-/// An id that the source lacks is nobody's ancestor and has none, and so does not reach itself. Where both
-/// are one id, it alone is looked up.
+/// - A commit is reachable from itself.
+/// - An id that the source does not have is not reachable from anything, not even from itself, and
+///   nothing is reachable from it.
+/// - If both ids are equal, only that id is looked up.
 ///
-/// The walk starts at `of` alone, and goes no lower than the generation of `ancestor`. So among the
-/// ancestors of `of` no parent's generation may exceed its child's, an absent one counting as the
-/// greatest (git's technical/commit-graph, "generation number"); otherwise `false` may be wrong, and `true`
-/// is still right. Cycles, times, and what else the source has do not matter.
+/// The walk starts at `of` alone, and goes no lower than the generation number of `ancestor`.
 ///
-/// What the graph held it still holds, refused or not; the data beside it may have changed. What it newly
-/// holds is `ancestor`, or is reached from `of`.
+/// # Premises
+///
+/// [Ordered generations](crate#premises), for what `of` reaches (git's technical/commit-graph,
+/// "generation number"). Without them `true` is still right, but `false` may be wrong. Cycles,
+/// times, and the rest of the history do not matter.
+///
+/// # Graph
+///
+/// [The graph keeps every commit that it holds](crate#graph), also on an error. Data may change. A
+/// commit that it newly holds is `ancestor`, or reachable from `of`.
 ///
 /// # Errors
 ///
-/// As [`merge_base`](crate::merge_base::merge_base).
+/// - [`Error::Source`]: the source failed. Its [fault count](crate#fault-count) has grown by one.
+/// - [`Error::OutOfMemory`]: an allocation failed.
+///
+/// The graph can be used again after either.
 pub fn is_ancestor<S: Find, A: Allocator + Copy>(
     alloc: A,
     ancestor: ObjectId,
@@ -153,11 +164,11 @@ pub fn is_ancestor<S: Find, A: Allocator + Copy>(
     ensures ancestor { GenerationsNeverRiseFrom (S.history graph.old.source) (of ∷ [])
         → IfOk result (λ yes. IsTrue yes ↔ IsAncestor (S.history graph.old.source) of ancestor) }
 
-    // Whatever the generations.
+    // Needs no premise.
     ensures reached { IfOk result (λ yes. IsTrue yes
         → IsAncestor (S.history graph.old.source) of ancestor) }
 
-    // Both are one id.
+    // Both ids are equal.
     ensures same { IsTrue (same_id ancestor of)
         → IfOk result (λ yes. yes ≡ is_some (entry_at (S.history graph.old.source) of)) }
     ensures same_taken { IsTrue (same_id ancestor of)

@@ -1,4 +1,4 @@
-//! Why no merge base is answered.
+//! The errors of the calls in this crate.
 
 ghost use Rattle.std.specs.Prelude.{◌≡◌, Some, Err};
 ghost use Rattle.gix_merge_base.specs.ErrorTexts.{merge_base_error_text};
@@ -10,7 +10,7 @@ use std::alloc::AllocError;
 use std::fmt;
 use thiserror::Error as StdError;
 
-/// A text that says what was being done when the source failed. It prints as it stands.
+/// Says what the call was doing when the source failed. `Display` writes the text as it is.
 #[derive(Clone, Copy, Debug, PartialEq, Eq, Drop, StdError)]
 pub struct Simple(pub &'static str);
 
@@ -22,13 +22,13 @@ impl fmt::Display for Simple {
     }
 }
 
-/// Why `merge_base` and `octopus` give no answer. The next call on the graph meets its contract.
+/// Says why a call failed. The next call on the graph keeps all its promises.
 #[derive(Clone, Copy, Debug, PartialEq, Eq, Drop, StdError)]
 pub enum Error {
-    /// The source failed while a commit that was handed in, or a parent, was taken from it: its
-    /// count of faults is one more than before, or still the greatest `u64`.
+    /// The source failed while the call loaded an argument or a parent. The [fault
+    /// count](crate#fault-count) has grown by one, unless it was `u64::MAX`.
     Source(Simple),
-    /// There was no memory, for the call or for the source's answer.
+    /// An allocation failed, in the call or for the source's answer.
     OutOfMemory,
 }
 
@@ -53,7 +53,7 @@ impl From<AllocError> for Error {
     }
 }
 
-/// The refusal for a commit that was handed in and could not be taken from the source.
+/// Returns the error for an argument that could not be loaded.
 pub(crate) fn commit_refused(error: graph::Error) -> Error
     ensures cause { HasInsertText result }
     ensures same { is_source_fault {T = Unit {0}} (Err result)
@@ -65,7 +65,7 @@ pub(crate) fn commit_refused(error: graph::Error) -> Error
     }
 }
 
-/// The refusal for a parent that could not be taken from the source.
+/// Returns the error for a parent that could not be loaded.
 pub(crate) fn parent_refused(error: graph::Error) -> Error
     ensures cause { HasInsertText result }
     ensures same { is_source_fault {T = Unit {0}} (Err result)

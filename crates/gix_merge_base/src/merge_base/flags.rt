@@ -1,4 +1,4 @@
-//! The marks of a commit: from which side it was reached, and what became of it.
+//! The marks of a commit: which sides reach it, and what became of it.
 
 ghost use Rattle.std.specs.Prelude.{⊤, ◌≡◌, [], ◌∷◌, codes};
 ghost use Rattle.gix_merge_base.specs.Marks.{marks_of, joined as joined_marks, has_marks, handed_on as marks_handed_on};
@@ -6,62 +6,62 @@ ghost use Rattle.gix_merge_base.specs.Marks.{noted as noted_marks, becomes_resul
 
 use bitflags::{Flag, Flags as BitFlags};
 
-/// A set of marks beside a commit. Its operations are those of the trait `bitflags::Flags`.
+/// Holds the marks of a commit. Its operations are those of the trait `bitflags::Flags`.
 #[derive(Clone, Copy, Debug, PartialEq, Eq, Default)]
 pub struct Flags(u8);
 
 impl Flags {
-    /// Reached from the first commit.
+    /// Marks a commit that is reachable from the first commit.
     pub const COMMIT1: Flags = Flags(1);
 
-    /// Reached from one of the others.
+    /// Marks a commit that is reachable from one of the others.
     pub const COMMIT2: Flags = Flags(2);
 
-    /// Reached from a commit that both sides reach.
+    /// Marks a commit that is reachable from a commit that both sides reach.
     pub const STALE: Flags = Flags(4);
 
-    /// Found as a common ancestor.
+    /// Marks a commit that was found as a common ancestor.
     pub const RESULT: Flags = Flags(8);
 
-    /// All but that of a result, which is never handed on.
+    /// The marks that a commit can hand on: all but `RESULT`.
     const HANDED_ON: u8 = 7;
 
-    /// Whether it was reached from the first commit.
+    /// Tests whether the first commit reaches the commit.
     fn is_ours(self) -> bool
         ensures { result ≡ (marks_of self).one }
     {
         self.contains(Flags::COMMIT1)
     }
 
-    /// Whether it was reached from one of the others.
+    /// Tests whether one of the others reaches the commit.
     fn is_theirs(self) -> bool
         ensures { result ≡ (marks_of self).two }
     {
         self.contains(Flags::COMMIT2)
     }
 
-    /// Whether it is stale.
+    /// Tests whether the commit is stale.
     pub(crate) fn is_stale(self) -> bool
         ensures { result ≡ (marks_of self).stale }
     {
         self.contains(Flags::STALE)
     }
 
-    /// Whether it was found as a common ancestor.
+    /// Tests whether the commit was found as a common ancestor.
     fn is_result(self) -> bool
         ensures { result ≡ (marks_of self).result }
     {
         self.contains(Flags::RESULT)
     }
 
-    /// These marks beside `old`, which stays a result where it was one.
+    /// Returns these marks, except `RESULT`, together with `old`.
     pub(crate) fn joined(self, old: Flags) -> Flags
         ensures { marks_of result ≡ joined_marks (marks_of self) (marks_of old) }
     {
         Flags((Flags::HANDED_ON & self.0) | old.0)
     }
 
-    /// Whether each of the marks is here, but for that of a result.
+    /// Tests whether each of `marks` is set, except `RESULT`.
     pub(crate) fn has(self, marks: Flags) -> bool
         ensures { result ≡ has_marks (marks_of self) (marks_of marks) }
     {
@@ -70,8 +70,8 @@ impl Flags {
             && (!marks.is_stale() || self.is_stale())
     }
 
-    /// What a commit with these marks hands on to its parents: what lies below a commit that both
-    /// sides reach is stale.
+    /// Returns the marks that a commit with these marks hands on to its parents. Parents of a
+    /// commit that both sides reach become stale.
     pub(crate) fn handed_on(self) -> Flags
         ensures { marks_of result ≡ marks_handed_on (marks_of self) }
     {
@@ -83,14 +83,14 @@ impl Flags {
         }
     }
 
-    /// Whether a commit with these marks becomes a result.
+    /// Tests whether a commit with these marks becomes a result.
     pub(crate) fn becomes_result(self) -> bool
         ensures { result ≡ becomes_one (marks_of self) }
     {
         self.is_ours() && self.is_theirs() && !self.is_stale() && !self.is_result()
     }
 
-    /// The marks, and that of a result.
+    /// Returns these marks and `RESULT`.
     pub(crate) fn noted(self) -> Flags
         ensures { marks_of result ≡ noted_marks (marks_of self) }
     {

@@ -21,26 +21,36 @@ use gix_base::hash::ObjectId;
 use gix_revwalk::graph::{Commit, Find, Graph};
 use std::alloc::Allocator;
 
-/// The merge bases of `first` and a hypothetical merge of `others`: git-merge-base, "Discussion".
+/// Returns the merge bases of `first` and a hypothetical merge of `others`.
 ///
-/// Where `others` is empty or contains `first`, the answer is `first` alone; no memory is taken and
-/// nothing is asked of the source. Otherwise it is the maximal ones among the ancestors of `first`
-/// that are ancestors of at least one of `others`, each once; `None` where there is none. They are
-/// ordered by falling generation, an absent one counting as the greatest, then falling time, then
-/// rising id. An id that the source lacks has no ancestors.
+/// This is `git merge-base --all` (git-merge-base, "Discussion"). A common ancestor is a commit
+/// that is reachable from `first` and from at least one of `others`. A merge base is a common
+/// ancestor that no other common ancestor reaches.
 ///
-/// Among the ancestors of `first` and `others` there must be no cycles, and no parent may have a
-/// greater generation than its child, an absent one counting as the greatest; whatever else the
-/// source has does not matter. Where a parent has one, every maximal one is still answered, and
-/// common ancestors alone. With cycles the call returns, and its answer has no promise.
+/// Each merge base is returned once. They are sorted by falling generation number, then falling
+/// time, then rising id. The answer is `None` if there is no merge base.
 ///
-/// What the graph held it still holds, refused or not; the data beside it may have changed.
+/// - If `others` is empty or contains `first`, the answer is `first`. The call then succeeds, takes
+///   no memory, asks the source nothing, and leaves the graph as it was.
+/// - An id that the source does not have has no ancestors.
+///
+/// # Premises
+///
+/// [Acyclic and ordered generations](crate#premises), for what `first` and `others` reach. Without
+/// ordered generations the answer still contains every merge base, and only common ancestors. With
+/// a cycle the call returns, but which commits it answers is unspecified.
+///
+/// # Graph
+///
+/// [The graph keeps every commit that it holds](crate#graph), also on an error. Data may change. A
+/// commit that it newly holds is an argument, or reachable from one.
 ///
 /// # Errors
 ///
-/// [`Error::Source`] where the source failed: its count of faults is then one more than before, or
-/// still the greatest `u64`, and after every other answer it is as it was. [`Error::OutOfMemory`]
-/// where there was no memory. The graph can be used again after either.
+/// - [`Error::Source`]: the source failed. Its [fault count](crate#fault-count) has grown by one.
+/// - [`Error::OutOfMemory`]: an allocation failed.
+///
+/// The graph can be used again after either.
 pub fn merge_base<S: Find, A: Allocator + Copy>(
     alloc: A,
     first: ObjectId,
@@ -57,17 +67,16 @@ pub fn merge_base<S: Find, A: Allocator + Copy>(
         CoverBases (S.history graph.old.source) first others.now (ids_of found)) }
     ensures once { IfOk result (λ found. IsDistinct same_id (ids_of found)) }
 
-    // Whatever the times and generations.
+    // Needs no premise.
     ensures order { IfOk result (λ found.
         IsInOrder (S.history graph.old.source) (ids_of found)) }
 
-    // There are no others, or `first` is one of them.
+    // `others` is empty or contains `first`.
     ensures trivial { IsTrue (is_trivial first others.now) → IsOk result × (graph.new ≡ graph.old) }
     ensures trivial_answer { IsTrue (is_trivial first others.now)
         → IfOk result (λ found. ids_of found ≡ first ∷ []) }
 
-    // Where keys fall along every edge that is reached, and there is at most one base, little is
-    // taken in.
+    // With falling keys and at most one merge base, the call loads little.
     ensures taken { KeysFallFrom (S.history graph.old.source) (first ∷ others.now)
         → ((a b : ObjectId) → IsBase (S.history graph.old.source) first others.now a
         → IsBase (S.history graph.old.source) first others.now b → a ≡ b)

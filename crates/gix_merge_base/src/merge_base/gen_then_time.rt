@@ -1,4 +1,4 @@
-//! The key by which commits are compared: generation, then time.
+//! The key by which walks compare commits: generation number, then time.
 
 ghost use Rattle.std.specs.Prelude.{◌≡◌};
 ghost use Rattle.gix_merge_base.specs.GenThenTime.{key_of};
@@ -7,13 +7,13 @@ use crate::merge_base::flags::Flags;
 use gix_revwalk::graph::Commit;
 use std::alloc::Allocator;
 
-/// Generation and time of a commit. Keys are ordered by generation, then by time.
+/// Holds the key of a commit. Keys are ordered by generation number, then by time.
 #[derive(Clone, Copy, Debug, PartialEq, Eq, PartialOrd, Ord)]
 pub struct GenThenTime {
-    /// The generation; the greatest `u32` where none is known (git's technical/commit-graph,
+    /// The generation number; `u32::MAX` if it is missing (git's technical/commit-graph,
     /// "generation number").
     pub generation: u32,
-    /// The commit time, in seconds since 1970-01-01 00:00:00 UTC.
+    /// The commit time in seconds since 1970-01-01 00:00:00 UTC.
     pub time: i64,
 }
 

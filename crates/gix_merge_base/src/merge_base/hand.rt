@@ -1,6 +1,7 @@
-//! Handing marks to commits, by their numbers, with a count of the entries that are not stale. The
-//! reduction, which hands on that mark alone, has it count the ids that are not stale: each of them
-//! counts as queued once, without an entry.
+//! Hands marks to commits, by their numbers, and counts the queue entries that are not stale.
+//!
+//! The reduction hands on `STALE` alone. There the count is that of the ids that are not stale:
+//! each of them counts as queued once, without an entry.
 
 ghost use Rattle.std.specs.Prelude.{◌≡◌, ◌<◌, ◌-◌, ◌^◌, ◌∷◌, [], OnOk, IfOk, IfSome, IsNone, IsTrue, cond};
 ghost use Rattle.gix_base.specs.declared.hash.ObjectId.{ObjectId};
@@ -22,7 +23,7 @@ use gix_revwalk::numbers::{self, Mark, Number};
 use gix_revwalk::queue::PriorityQueue;
 use std::alloc::{AllocError, Allocator};
 
-/// What the walk gave a commit; no marks where it gave it nothing.
+/// Returns the mark that the walk gave a commit; no marks if it gave none.
 pub(crate) fn mark_of<S: Find, A: Allocator + Copy>(
     graph: &Graph<S, Commit<Flags, A>, A>,
     number: Number,
@@ -39,8 +40,8 @@ pub(crate) fn mark_of<S: Find, A: Allocator + Copy>(
     }
 }
 
-/// The count of entries that are not stale, once one is queued more of a commit that had `old` and
-/// has the marks `new`.
+/// Returns the count of entries that are not stale, after one more entry is queued for a commit
+/// that had `old` and now has the marks `new`.
 fn open_after(open_entries: usize, old: Mark<Flags>, new: Flags) -> usize
     requires { open_entries < 2 ^ 64 - 1 }
     ensures { result ≡ open_then open_entries old new }
@@ -54,7 +55,8 @@ fn open_after(open_entries: usize, old: Mark<Flags>, new: Flags) -> usize
     }
 }
 
-/// The count of entries that are not stale, once one has left that had `old`.
+/// Returns the count of entries that are not stale, after an entry of a commit that had `old` has
+/// left.
 fn open_without(open_entries: usize, old: Mark<Flags>) -> usize
     ensures { result ≡ cond (marks_of old.marks).stale open_entries (open_entries - 1) }
 {
@@ -65,18 +67,19 @@ fn open_without(open_entries: usize, old: Mark<Flags>) -> usize
     }
 }
 
-/// The queued commits of a walk, with its count.
+/// Holds the queue of a walk, and counts its open entries.
 #[derive(Drop)]
 pub(crate) struct Front<A: Allocator> {
-    /// Their numbers, each as often as it is queued, by generation, then time.
+    /// The numbers of the queued commits, each as often as it is queued, by generation number, then
+    /// time.
     pub(crate) queue: PriorityQueue<GenThenTime, Number, A>,
-    /// How many of the entries are of a commit that is not stale; in the reduction, how many of the
-    /// ids are not.
+    /// The number of entries whose commit is not stale; in the reduction, of ids that are not
+    /// stale.
     pub(crate) open_entries: usize,
 }
 
 impl<A: Allocator + Copy> Front<A> {
-    /// Queues a commit once more, and puts marks beside those that it has.
+    /// Queues a commit once more, and adds marks to those that it has.
     pub(crate) fn enter<S: Find>(
         &mut self,
         number: Number,
@@ -92,7 +95,7 @@ impl<A: Allocator + Copy> Front<A> {
             graph.old self.old graph.new self.new) }
         ensures same { HoldsSame graph.old graph.new }
     {
-        // Neither count can be full before memory is.
+        // Memory runs out before either count is full.
         let Some(queued) = old.queued.checked_add(1) else {
             return Err(AllocError);
         };
@@ -110,7 +113,7 @@ impl<A: Allocator + Copy> Front<A> {
         Ok(())
     }
 
-    /// Hands marks to a commit, which is queued where it lacked one of them.
+    /// Hands marks to a commit, and queues it if it lacked one of them.
     pub(crate) fn hand<S: Find>(
         &mut self,
         number: Number,
@@ -133,7 +136,7 @@ impl<A: Allocator + Copy> Front<A> {
         Ok(())
     }
 
-    /// Hands marks to each of the commits.
+    /// Hands marks to each of the commits, and queues those that lacked one of them.
     fn hand_all<S: Find>(
         &mut self,
         numbers: &[Number],
@@ -155,7 +158,7 @@ impl<A: Allocator + Copy> Front<A> {
         Ok(())
     }
 
-    /// Takes a commit with a greatest key out, unless each queued one is stale.
+    /// Removes a commit with a greatest key from the queue, unless every queued commit is stale.
     pub(crate) fn pop_open<S: Find>(
         &mut self,
         graph: &mut Graph<S, Commit<Flags, A>, A>,
@@ -185,7 +188,7 @@ impl<A: Allocator + Copy> Front<A> {
     }
 }
 
-/// Makes a commit a result where its marks say so. What it hands on.
+/// Makes a commit a result if its marks say so, and returns the marks that it hands on.
 fn note<S: Find, A: Allocator + Copy>(
     number: Number,
     results: &mut Vec<ObjectId, A>,
@@ -218,7 +221,7 @@ fn note<S: Find, A: Allocator + Copy>(
     Ok(old.marks.handed_on())
 }
 
-/// What a walk keeps beside the marks of its graph.
+/// Holds what a walk needs besides the marks in its graph.
 #[derive(Drop)]
 pub(crate) struct Walk<A: Allocator> {
     pub(crate) front: Front<A>,
@@ -227,7 +230,7 @@ pub(crate) struct Walk<A: Allocator> {
 }
 
 impl<A: Allocator + Copy> Walk<A> {
-    /// Nothing is queued; the count begins with what is handed in. It takes no memory.
+    /// Creates a walk with an empty queue and the count `open_entries`. It takes no memory.
     pub(crate) fn new(alloc: A, open_entries: usize) -> Walk<A>
         ensures queue { result.front.queue ≡ [] }
         ensures count { result.front.open_entries ≡ open_entries }
@@ -241,7 +244,7 @@ impl<A: Allocator + Copy> Walk<A> {
         }
     }
 
-    /// Hands marks to the parents of a commit that the source has.
+    /// Hands marks to those parents of a commit that the source has.
     pub(crate) fn hand_parents<S: Find>(
         &mut self,
         alloc: A,
@@ -266,7 +269,7 @@ impl<A: Allocator + Copy> Walk<A> {
         }
     }
 
-    /// What a pop of a commit does.
+    /// Notes a popped commit as a result if it is one, and hands its marks on to its parents.
     pub(crate) fn step<S: Find>(
         &mut self,
         alloc: A,
@@ -288,7 +291,7 @@ impl<A: Allocator + Copy> Walk<A> {
             Err(AllocError) => return Err(graph::Error::OutOfMemory),
         };
         self.hand_parents(alloc, number, marks, graph)?;
-        // No graph holds more ids than a usize counts, so the pops are fewer than a u128 counts.
+        // A graph holds fewer than 2^64 ids, so a `u128` can count the pops.
         let _held = graph.len();
         Ok(())
     }

@@ -1,4 +1,4 @@
-//! The best commit that all of several heads go back to.
+//! The octopus bases of several heads.
 
 ghost use Rattle.std.specs.Prelude.{◌≡◌, ◌∷◌, [], Some, IfOk, Ok, IfErr, IsTrue, false};
 ghost use Rattle.std.specs.List.{list_all};
@@ -24,14 +24,14 @@ use gix_revwalk::seen::Seen;
 use std::alloc::{AllocError, Allocator};
 use std::cmp::Reverse;
 
-/// Whether each of `ids` is `id`.
+/// Tests whether each of `ids` is `id`.
 fn all_are(ids: &[ObjectId], id: ObjectId) -> bool
     ensures { result ≡ list_all (same_id id) ids.now }
 {
     ids.iter().all(|other| id == *other)
 }
 
-/// Each of `first` and `others` once.
+/// Returns each of `first` and `others` once, in the order of first places.
 fn distinct<A: Allocator + Copy>(
     alloc: A,
     first: ObjectId,
@@ -45,7 +45,8 @@ fn distinct<A: Allocator + Copy>(
     Ok(heads.into_vec())
 }
 
-/// The one of `ids` that is chosen before all others; `None` where the source has none of them.
+/// Returns the one of `ids` that comes first in the order of answers; `None` if the source has none
+/// of them.
 fn best_of<S: Find, A: Allocator + Copy>(
     alloc: A,
     ids: &[ObjectId],
@@ -64,8 +65,8 @@ fn best_of<S: Find, A: Allocator + Copy>(
     }
 }
 
-/// What is left of `bases` with one head more, which the source has: the best of its ancestors that
-/// lie below one of them.
+/// Returns what remains of `bases` with one more head, which the source has: the best of the
+/// ancestors of `head` that one of `bases` reaches.
 fn step<S: Find, A: Allocator + Copy>(
     alloc: A,
     bases: &[ObjectId],
@@ -89,7 +90,7 @@ fn step<S: Find, A: Allocator + Copy>(
     Ok(left)
 }
 
-/// Goes from head to head, of which the source has each: as [`bases_of_heads`], in the order given.
+/// Returns the octopus bases of heads that the source has, and follows them in the order given.
 fn steps<S: Find, A: Allocator + Copy>(
     alloc: A,
     first: ObjectId,
@@ -111,9 +112,11 @@ fn steps<S: Find, A: Allocator + Copy>(
     Ok(left)
 }
 
-/// Ancestors common to `first` and all of `others`, with all maximal ones, and these alone where no
-/// parent has a greater generation than its child. Each head is looked up, and then followed once at
-/// most, the newest first: along a chain each walk goes on where the one before it ended.
+/// Returns common ancestors of `first` and all of `others`, every maximal one among them. With
+/// ordered generations they are exactly the maximal ones.
+///
+/// Each head is looked up, and then followed at most once, the newest first. Along a chain each
+/// walk goes on where the one before it ended.
 fn bases_of_heads<S: Find, A: Allocator + Copy>(
     alloc: A,
     first: ObjectId,
@@ -131,26 +134,39 @@ fn bases_of_heads<S: Find, A: Allocator + Copy>(
     if known.len() < heads.len() {
         return Ok(Vec::new(alloc));
     }
-    // At its own step the newest is the only base, which costs no walk.
+    // The step of the newest head costs no walk: the head is then the only base.
     let newest = known[0];
     steps(alloc, newest, &known, graph)
 }
 
-/// All octopus bases of `first` and `others` together: git-merge-base, "--octopus" with "--all".
+/// Returns all octopus bases of `first` and `others` together.
 ///
-/// Where all ids are equal, also with no `others`, the answer is that id, and nothing is asked of the
-/// source. Otherwise it is each maximal one among the ancestors that are common to all the ids, by falling
-/// generation, an absent one counting as the greatest, then falling time, then rising id: the first of them
-/// is what [`octopus`] answers. An id that the source lacks has no ancestors.
+/// An octopus base is an ancestor of all the ids that no other such ancestor reaches
+/// (git-merge-base, "--octopus" with "--all"). Each is returned once. They are sorted by falling
+/// generation number, then falling time, then rising id: the first is what [`octopus`] returns. The
+/// list is empty if the ids have no common ancestor.
 ///
-/// The premises are those of [`octopus`]. Where a parent has a greater generation than its child, only
-/// ancestors common to all are answered, and of each such ancestor one that reaches it.
+/// - If all ids are equal, also with no `others`, the answer is that id. The source is then asked
+///   nothing, and the graph is left as it was.
+/// - An id that the source does not have has no ancestors.
 ///
-/// What the graph held it still holds, refused or not; the data beside it may have changed.
+/// # Premises
+///
+/// [Acyclic and ordered generations](crate#premises), for what the ids reach. Without ordered
+/// generations the answer still contains only ancestors of all the ids, and for each such ancestor
+/// one that reaches it. With a cycle the call returns, but which commits it answers is unspecified.
+///
+/// # Graph
+///
+/// [The graph keeps every commit that it holds](crate#graph), also on an error. Data may change. A
+/// commit that it newly holds is an argument, or reachable from one.
 ///
 /// # Errors
 ///
-/// As [`octopus`].
+/// - [`Error::Source`]: the source failed. Its [fault count](crate#fault-count) has grown by one.
+/// - [`Error::OutOfMemory`]: an allocation failed.
+///
+/// The graph can be used again after either.
 pub fn octopus_bases<S: Find, A: Allocator + Copy>(
     alloc: A,
     first: ObjectId,
@@ -163,7 +179,7 @@ pub fn octopus_bases<S: Find, A: Allocator + Copy>(
         AreOctopusBases (S.history graph.old.source) first others.now bases.items) }
     ensures order { IfOk result (λ bases. IsInOrder (S.history graph.old.source) bases.items) }
 
-    // Nothing is looked up.
+    // All ids are equal.
     ensures trivial { IsTrue (list_all (same_id first) others.now) → graph.new ≡ graph.old }
     ensures trivial_answer { IsTrue (list_all (same_id first) others.now)
         → IfOk result (λ bases. bases.items ≡ first ∷ []) }
@@ -181,25 +197,34 @@ pub fn octopus_bases<S: Find, A: Allocator + Copy>(
     bases_of_heads(alloc, first, others, graph)
 }
 
-/// The octopus base of `first` and `others` together: git-merge-base, "--octopus".
+/// Returns the first octopus base of `first` and `others` together.
 ///
-/// Where all ids are equal, also with no `others`, the answer is that id; no memory is taken and
-/// nothing is asked of the source. Otherwise it is one of the maximal ones among the ancestors that
-/// are common to all the ids: the one with the greatest generation, then the greatest time, then
-/// the smaller id; `None` where nothing is common. An id that the source lacks has no ancestors.
+/// An octopus base is an ancestor of all the ids that no other such ancestor reaches
+/// (git-merge-base, "--octopus"). Of several, the answer is the one with the greatest generation
+/// number, then the greatest time, then the smallest id: the first of [`octopus_bases`]. The answer
+/// is `None` if the ids have no common ancestor.
 ///
-/// Among the ancestors of the ids there must be no cycles, and no parent may have a greater
-/// generation than its child, an absent one counting as the greatest; whatever else the source has
-/// does not matter. Where a parent has one, the answer is still a commit common to all, and `None`
-/// only where nothing is. With cycles the call returns, and its answer has no promise.
+/// - If all ids are equal, also with no `others`, the answer is that id. The call then succeeds,
+///   takes no memory, asks the source nothing, and leaves the graph as it was.
+/// - An id that the source does not have has no ancestors.
 ///
-/// What the graph held it still holds, refused or not; the data beside it may have changed.
+/// # Premises
+///
+/// [Acyclic and ordered generations](crate#premises), for what the ids reach. Without ordered
+/// generations the answer is still an ancestor of all the ids, and `None` only if there is none.
+/// With a cycle the call returns, but which commit it answers is unspecified.
+///
+/// # Graph
+///
+/// [The graph keeps every commit that it holds](crate#graph), also on an error. Data may change. A
+/// commit that it newly holds is an argument, or reachable from one.
 ///
 /// # Errors
 ///
-/// [`Error::Source`] where the source failed: its count of faults is then one more than before, or
-/// still the greatest `u64`, and after every other answer it is as it was. [`Error::OutOfMemory`]
-/// where there was no memory. The graph can be used again after either.
+/// - [`Error::Source`]: the source failed. Its [fault count](crate#fault-count) has grown by one.
+/// - [`Error::OutOfMemory`]: an allocation failed.
+///
+/// The graph can be used again after either.
 pub fn octopus<S: Find, A: Allocator + Copy>(
     alloc: A,
     first: ObjectId,
@@ -213,7 +238,7 @@ pub fn octopus<S: Find, A: Allocator + Copy>(
         → list_all (same_id first) others.now ≡ false
         → IfOk result (IsCommonToAll (S.history graph.old.source) first others.now) }
 
-    // Nothing is looked up.
+    // All ids are equal.
     ensures trivial { IsTrue (list_all (same_id first) others.now)
         → (result ≡ Ok (Some first)) × (graph.new ≡ graph.old) }
 

@@ -1,4 +1,4 @@
-//! The order of what is answered: by falling generation, then falling time, then rising id.
+//! The order of answers: by falling generation number, then falling time, then rising id.
 
 ghost use Rattle.std.specs.Prelude.{◌≡◌, ◌↔◌, IfOk, IsTrue, map};
 ghost use Rattle.std.specs.List.{IsDistinct, filter_map};
@@ -18,12 +18,12 @@ use gix_revwalk::numbers;
 use std::alloc::{AllocError, Allocator};
 use std::cmp::Reverse;
 
-/// What decides which commit comes before another, the greatest first: generation, time, and the
-/// smaller id.
+/// Decides which commit is listed first: the one with the greatest generation number, then the
+/// greatest time, then the smallest id.
 pub(crate) type Candidate = (GenThenTime, Reverse<ObjectId>);
 
-/// The commit under `id`, which is taken in from the source unless it is held; `None` where the
-/// source lacks it.
+/// Returns the candidate for `id`, and loads the commit unless it is held; `None` if the source
+/// does not have it.
 pub(crate) fn candidate_of<S: Find, A: Allocator + Copy>(
     alloc: A,
     id: ObjectId,
@@ -42,8 +42,8 @@ pub(crate) fn candidate_of<S: Find, A: Allocator + Copy>(
     }
 }
 
-/// The candidates of those of `ids` that the source has, in the order of `ids`. They are turned round,
-/// so that the least comes first.
+/// Returns the candidates for those of `ids` that the source has, in the order of `ids`. Each is
+/// reversed, so that sorting puts the greatest candidate first.
 fn candidates_of<S: Find, A: Allocator + Copy>(
     alloc: A,
     ids: &[ObjectId],
@@ -66,7 +66,7 @@ fn candidates_of<S: Find, A: Allocator + Copy>(
     Ok(candidates)
 }
 
-/// The ids of candidates, in their order.
+/// Returns the ids of candidates, in their order.
 fn ids_of<A: Allocator + Copy>(
     alloc: A,
     candidates: &[Reverse<Candidate>],
@@ -80,7 +80,8 @@ fn ids_of<A: Allocator + Copy>(
     Ok(ids)
 }
 
-/// Those of `ids` that the source has, by falling generation, then falling time, then rising id.
+/// Returns those of `ids` that the source has, by falling generation number, then falling time,
+/// then rising id.
 pub(crate) fn in_order<S: Find, A: Allocator + Copy>(
     alloc: A,
     ids: &[ObjectId],

@@ -1,4 +1,4 @@
-//! Painting: common ancestors, each once, with the count of pops.
+//! Painting: finds common ancestors, and counts its pops.
 
 ghost use Rattle.std.specs.Prelude.{◌≡◌, ◌≤◌, ◌+◌, ◌*◌, ◌∷◌, [], ◌⊎◌, ℕ, length, IsTrue, IfErr, IfOk, OnOk};
 ghost use Rattle.std.specs.List.{IsDistinct};
@@ -26,7 +26,7 @@ use gix_revwalk::graph::{self, Commit, Find, Graph};
 use gix_revwalk::numbers;
 use std::alloc::{AllocError, Allocator};
 
-/// Marks an id that is handed in, and queues it, where the source has it.
+/// Marks and queues an argument if the source has it.
 fn begin<S: Find, A: Allocator + Copy>(
     alloc: A,
     id: ObjectId,
@@ -50,7 +50,7 @@ fn begin<S: Find, A: Allocator + Copy>(
     }
 }
 
-/// Begins a walk, and queues what is handed in.
+/// Begins a walk, and queues the arguments.
 fn start<S: Find, A: Allocator + Copy>(
     alloc: A,
     first: ObjectId,
@@ -75,18 +75,42 @@ fn start<S: Find, A: Allocator + Copy>(
     Ok(())
 }
 
-/// Common ancestors of `first` and a hypothetical merge of `others`, each once and every maximal one
-/// among them, beside the number of pops that the walk made.
+/// Finds common ancestors of `first` and a hypothetical merge of `others`, and counts the pops.
 ///
-/// The walk takes commits by falling generation, then time, and ends once each that is queued lies
-/// below a common one. So with `n` commits in the source and `m` others it makes at most
-/// `3 * n + 1 + m` pops, and at least one for each ancestor that no other common ancestor reaches.
-/// An id that the source lacks has no ancestors. The ancestors of the ids must have no cycles for
-/// each maximal one to be there; with cycles the call returns.
+/// A common ancestor is a commit that is reachable from `first` and from at least one of `others`.
+/// The call returns only common ancestors, each once, and among them every one that no other common
+/// ancestor reaches.
+///
+/// The walk pops commits by falling generation number, then time, and ends once every queued commit
+/// is reachable from a common ancestor. The call returns the number of pops, too. With `n` commits
+/// in the source and `m` others it is
+///
+/// - at most `3 * n + 1 + m`;
+/// - at least the number of commits that the ids reach and that no other common ancestor reaches.
+///
+/// An id that the source does not have has no ancestors.
+///
+/// # Premises
+///
+/// For what `first` and `others` reach:
+///
+/// - [Acyclic](crate#premises), for every maximal common ancestor to be returned, and for the least
+///   number of pops. With a cycle the call returns.
+/// - [Falling keys](crate#premises): only maximal common ancestors are returned.
+/// - [Never-rising keys](crate#premises): the answers are sorted by falling generation number, then
+///   falling time.
+///
+/// # Graph
+///
+/// [The graph keeps every commit that it holds](crate#graph), also on an error. Data may change. A
+/// commit that it newly holds is an argument, or reachable from one.
 ///
 /// # Errors
 ///
-/// As [`merge_base`](crate::merge_base::merge_base).
+/// - [`Error::Source`]: the source failed. Its [fault count](crate#fault-count) has grown by one.
+/// - [`Error::OutOfMemory`]: an allocation failed.
+///
+/// The graph can be used again after either.
 pub fn paint<S: Find, A: Allocator + Copy>(
     alloc: A,
     first: ObjectId,
@@ -101,7 +125,7 @@ pub fn paint<S: Find, A: Allocator + Copy>(
         → IsTrue (is_one_of r.0.items c)) }
     ensures once { IfOk result (λ r. IsDistinct same_id r.0.items) }
 
-    // The pops, over the number of commits that the source has.
+    // Bounds the number of pops; n is the number of commits that the source has.
     ensures most { (n : ℕ) → HasSize (Has (S.history graph.old.source)) n
         → IfOk result (λ r. r.1 ≤ 3 * n + 1 + length others.now) }
     ensures least { IsAcyclicFrom (S.history graph.old.source) (first ∷ others.now)
@@ -111,8 +135,7 @@ pub fn paint<S: Find, A: Allocator + Copy>(
     ensures reached { (q : ObjectId) → IsHeld graph.new q
         → IsHeld graph.old q ⊎ MayBeMet (S.history graph.old.source) first others.now q }
 
-    // Where keys fall along every edge that is reached, little is taken in, and each answer is a
-    // maximal one.
+    // With falling keys the call loads little, and each answer is maximal.
     ensures taken { KeysFallFrom (S.history graph.old.source) (first ∷ others.now)
         → (q : ObjectId) → IsHeld graph.new q
         → IsHeld graph.old q ⊎ MayBeTaken (S.history graph.old.source) first others.now q }

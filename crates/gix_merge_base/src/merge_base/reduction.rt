@@ -1,4 +1,4 @@
-//! The reduction of ids to those that cannot be reached from any other of them.
+//! Reduces ids to those that no other one of them reaches.
 
 ghost use Rattle.std.specs.Prelude.{◌≡◌, ◌++◌, ◌∷◌, [], length, is_some, ◌↔◌, IsTrue, OnOk, IfOk, IfErr};
 ghost use Rattle.std.specs.List.Sorted.{IsPermutation};
@@ -30,10 +30,10 @@ use gix_revwalk::numbers::{self, Mark, Number};
 use gix_revwalk::seen::Seen;
 use std::alloc::{AllocError, Allocator};
 
-/// The mark of what the reduction has met.
+/// Marks what the reduction has met.
 const MET: Flags = Flags::STALE;
 
-/// Each id once, in the order of first places.
+/// Returns each id once, in the order of first places.
 fn gather<A: Allocator + Copy>(alloc: A, ids: &[ObjectId]) -> Result<Vec<ObjectId, A>, AllocError>
     ensures { IfOk result (λ v. v.items ≡ firsts ids.now) }
 {
@@ -42,7 +42,7 @@ fn gather<A: Allocator + Copy>(alloc: A, ids: &[ObjectId]) -> Result<Vec<ObjectI
     Ok(seen.into_vec())
 }
 
-/// Puts the number of one of the ids at the end, where the source has it, and counts it as queued.
+/// Appends the number of an id if the source has it, and counts it as queued once more.
 fn list_one<S: Find, A: Allocator + Copy>(
     alloc: A,
     id: ObjectId,
@@ -69,7 +69,7 @@ fn list_one<S: Find, A: Allocator + Copy>(
         Err(_) => return Err(Error::OutOfMemory),
     }
     let old = mark_of(graph, number);
-    // The count cannot be full before memory is.
+    // Memory runs out before the count is full.
     let Some(queued) = old.queued.checked_add(1) else {
         return Err(Error::OutOfMemory);
     };
@@ -77,8 +77,8 @@ fn list_one<S: Find, A: Allocator + Copy>(
     Ok(())
 }
 
-/// Begins a walk. The numbers of the ids that the source has, in order. Each counts as queued once, so
-/// that a count of those that were not met is kept where marks are handed on.
+/// Begins a walk, and returns the numbers of the ids that the source has, in order. Each counts as
+/// queued once, so that handing marks on also counts the ids that were not met.
 fn list<S: Find, A: Allocator + Copy>(
     alloc: A,
     ids: &[ObjectId],
@@ -127,7 +127,7 @@ fn meet_parents<S: Find, A: Allocator + Copy>(
     Ok(())
 }
 
-/// The numbers by rising generation, each beside that of its commit.
+/// Returns the numbers by rising generation number, each after that of its commit.
 fn by_generation<S: Find, A: Allocator + Copy>(
     alloc: A,
     numbers: &[Number],
@@ -148,16 +148,16 @@ fn by_generation<S: Find, A: Allocator + Copy>(
     Ok(order)
 }
 
-/// The first by generation of the ids that were not met.
+/// Locates the first id, by generation number, that was not met.
 #[derive(Clone, Copy)]
 struct Left {
-    /// Its place; past the end where all were met.
+    /// Its place; past the end if all ids were met.
     place: usize,
-    /// Its generation; the greatest `u32` where all were met.
+    /// Its generation number; `u32::MAX` if all ids were met.
     least: u32,
 }
 
-/// Looks for the first that was not met, from a place on. All before it were met.
+/// Finds the first id that was not met, from `place` on. All ids before `place` were met.
 fn left_from<S: Find, A: Allocator + Copy>(
     place: usize,
     order: &[(u32, Number)],
@@ -183,8 +183,9 @@ fn left_from<S: Find, A: Allocator + Copy>(
     }
 }
 
-/// Meets what lies below the queued commits, but not below the least generation of the ids that were
-/// not met, and no more once one of these is left. The place of the first of them only moves forward.
+/// Meets what the queued commits reach, but nothing below the least generation number of the ids
+/// that were not met. Stops once at most one of these is left. The place of the first only moves
+/// forward.
 fn meet<S: Find, A: Allocator + Copy>(
     alloc: A,
     numbers: &[Number],
@@ -218,7 +219,7 @@ fn meet<S: Find, A: Allocator + Copy>(
     Ok(())
 }
 
-/// Whether an id was met.
+/// Tests whether an id was met.
 fn is_met<S: Find, A: Allocator + Copy>(
     id: &ObjectId,
     graph: &Graph<S, Commit<Flags, A>, A>,
@@ -231,17 +232,28 @@ fn is_met<S: Find, A: Allocator + Copy>(
     }
 }
 
-/// The ids that cannot be reached from any other of them, each once, in the order of their first
-/// places: git-merge-base, "--independent".
+/// Returns those of `ids` that no other one of them reaches.
 ///
-/// An id that the source lacks reaches nothing, and is reached from nothing. Among the ancestors of
-/// the ids no parent's generation may exceed its child's, an absent one counting as the greatest;
-/// otherwise each such id is answered, and perhaps others of them. There must be no cycles among
-/// these ancestors; with cycles the call returns some of the ids.
+/// This is `git merge-base --independent`. Each such id is returned once, in the order of first
+/// places. An id that the source does not have reaches nothing, and nothing reaches it.
+///
+/// # Premises
+///
+/// [Acyclic and ordered generations](crate#premises), for what `ids` reach. Without ordered
+/// generations every such id is still returned, and perhaps others of `ids`. With a cycle the call
+/// returns some of `ids`, each once.
+///
+/// # Graph
+///
+/// [The graph keeps every commit that it holds](crate#graph), also on an error. Data may change. A
+/// commit that it newly holds is an argument, or reachable from one.
 ///
 /// # Errors
 ///
-/// As [`merge_base`](crate::merge_base::merge_base).
+/// - [`Error::Source`]: the source failed. Its [fault count](crate#fault-count) has grown by one.
+/// - [`Error::OutOfMemory`]: an allocation failed.
+///
+/// The graph can be used again after either.
 pub fn reduce<S: Find, A: Allocator + Copy>(
     alloc: A,
     ids: &[ObjectId],
