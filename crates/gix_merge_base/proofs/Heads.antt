@@ -1,8 +1,11 @@
 -- How an octopus goes from head to head.
-use Rattle.std.proofs.Common.{◌≡◌, ℕ, true, false, refl, sym, subst, ◌∙◌, List, [], ◌∷◌, ◌++◌, inl, inr, IsTrue, ◌↔◌, ◌<◌, ◌≤◌, ◌+◌, arith, take, length, get_or, Option, Some, None}
+use Rattle.std.proofs.Common.{◌≡◌, ℕ, true, false, refl, sym, subst, ◌∙◌, List, [], ◌∷◌, ◌++◌, inl, inr, IsTrue, ◌↔◌, ◌<◌, ◌≤◌, ◌+◌, arith, take, length, get_or, Option, Some}
 use Rattle.std.specs.Bool.{MatchBool}
 use Rattle.std.specs.Option.{MatchOption}
 use Rattle.std.specs.Ordering.{is_gt}
+use Rattle.std.specs.Prelude.{slice_get}
+use Rattle.std.specs.Cmp.{tied_itself}
+use Rattle.std.specs.declared.cmp.Ordering.TheVariants.{Less, Equal}
 use Rattle.std.specs.List.{list_all, IsDistinct}
 use Rattle.std.proofs.lemmas.List.{length_push}
 use Rattle.std.proofs.lemmas.Map.Keys.{IsDistinct-push}
@@ -13,13 +16,15 @@ use Rattle.gix_merge_base.specs.Premises.{IsAcyclicFrom, GenerationsNeverRiseFro
 use Rattle.gix_revwalk.specs.History.IsAncestor.{itself}
 use Rattle.gix_merge_base.specs.Bases.{IsCommon, IsMaximal, CoverBases}
 use Rattle.gix_merge_base.specs.Octopus.{IsOctopusBase, IsCommonToAll, AreOctopusBases}
-use Rattle.gix_merge_base.specs.Keys.{choice}
+use Rattle.gix_merge_base.specs.Keys.{choice, IsInOrder}
 use Rattle.gix_merge_base.specs.Reducing.{firsts}
-use Rattle.gix_merge_base.specs.OctopusSteps.{AreApart, IsStep, IsBestOf}
+use Rattle.gix_merge_base.specs.OctopusSteps.{AreApart, IsStep}
 use Rattle.gix_revwalk.proofs.Ids.{same_id-laws}
 use Rattle.gix_revwalk.proofs.Members.{one_of-left, one_of-right, one_of-cases, one_of-cons_cases, one_of-single, one_of-head, one_of-tail, one_of-at, take_next}
 use Rattle.gix_revwalk.proofs.Ancestors.{anc-trans, has_ancestor}
+use Rattle.gix_merge_base.proofs.Choice.{choice_total}
 use Rattle.gix_merge_base.proofs.Octopus.{best_above}
+use Rattle.gix_merge_base.proofs.Orders.{head_first}
 use Rattle.gix_merge_base.proofs.Reached.{ReachNoMore, acyclic_within, never_within, same_both_ways}
 use Rattle.gix_merge_base.proofs.Reduction.{firsts_has, firsts_once}
 
@@ -127,27 +132,33 @@ module _ (h : History) (f : ObjectId) (os us : List ObjectId) (acyclic : IsAcycl
     cover = λ c s. (stand.below c).1 s;
   }
 
--- the first choice among these is the octopus base
-module _ (h : History) (f : ObjectId) (os ids : List ObjectId) where
+-- the first of these in order is the octopus base
+module _ (h : History) (f : ObjectId) (os : List ObjectId) where
   -- what is said where not all are f
   abbrev IsChosenOne : Option ObjectId → Type 0
   IsChosenOne r =
       MatchOption r ((c : ObjectId) → ¬ IsAncestorOfAll h (f ∷ os) c)
       (λ x. IsMaximal h (IsAncestorOfAll h (f ∷ os)) x × ((y : ObjectId) → IsMaximal h (IsAncestorOfAll h (f ∷ os)) y → IsTrue (is_gt (choice h x y)) → ⊥))
 
-  none_common : AreOctopusBases h f os ids → ((y : ObjectId) → IsTrue (is_one_of ids y) → ¬ Has h y) → (c : ObjectId) → ¬ IsAncestorOfAll h (f ∷ os) c
-  none_common are lacked c all = let a = are.cover c all in lacked a.0 a.1 (has_ancestor h a.0 c a.2).1
+  none_common : AreOctopusBases h f os [] → (c : ObjectId) → ¬ IsAncestorOfAll h (f ∷ os) c
+  none_common are c all = let a = are.cover c all in let none : IsTrue (is_one_of [] a.0) = a.1 in cc
 
-  best_is_chosen : (r : Option ObjectId) → GenerationsNeverRiseFrom h (f ∷ os) → AreOctopusBases h f os ids → IsBestOf h ids r → IsChosenOne r
-  best_is_chosen None never are lacked = none_common are lacked
-  best_is_chosen (Some x) never are best = ((are.maximal never x).0 best.member, λ y m. best.first y ((are.maximal never y).1 m) (has_ancestor h f y (m.0 f (one_of-head f os))).0)
+  none_before : (x : ObjectId) (xs : List ObjectId) → IsInOrder h (x ∷ xs) → (y : ObjectId) → IsTrue (is_one_of (x ∷ xs) y) → IsTrue (is_gt (choice h x y)) → ⊥
+  none_before x xs order y k later = elim (one_of-cons_cases x xs y k) as (λ _. ⊥) [
+    | inl is ↦ let tie = tied_itself (choice_total h) x in let e : IsTrue (is_gt (choice h x x)) = subst (λ z. IsTrue (is_gt (choice h x z))) is later in let g : IsTrue (is_gt Equal) = subst (λ r. IsTrue (is_gt r)) tie e in cc
+    | inr m ↦ let less = head_first h x xs order y m in let g : IsTrue (is_gt Less) = subst (λ r. IsTrue (is_gt r)) less later in cc
+  ]
 
-  pub best_is_octopus : (r : Option ObjectId) → list_all (same_id f) os ≡ false → GenerationsNeverRiseFrom h (f ∷ os) → AreOctopusBases h f os ids → IsBestOf h ids r → IsOctopusBase h f os r
-  best_is_octopus r differ never are best = subst (λ b. MatchBool b (r ≡ Some f) (IsChosenOne r)) (sym differ) (best_is_chosen r never are best)
+  first_is_chosen : (ids : List ObjectId) (r : Option ObjectId) → GenerationsNeverRiseFrom h (f ∷ os) → AreOctopusBases h f os ids → IsInOrder h ids → r ≡ slice_get ids 0 → IsChosenOne r
+  first_is_chosen [] r never are order is = subst IsChosenOne (sym is) (none_common are)
+  first_is_chosen (x ∷ xs) r never are order is = subst IsChosenOne (sym is) ((are.maximal never x).0 (one_of-head x xs), λ y m. none_before x xs order y ((are.maximal never y).1 m))
 
-  pub best_is_common : (r : Option ObjectId) → AreOctopusBases h f os ids → IsBestOf h ids r → IsCommonToAll h f os r
-  best_is_common None are lacked = none_common are lacked
-  best_is_common (Some x) are best = are.each x best.member
+  pub first_is_octopus : (ids : List ObjectId) (r : Option ObjectId) → list_all (same_id f) os ≡ false → GenerationsNeverRiseFrom h (f ∷ os) → AreOctopusBases h f os ids → IsInOrder h ids → r ≡ slice_get ids 0 → IsOctopusBase h f os r
+  first_is_octopus ids r differ never are order is = subst (λ b. MatchBool b (r ≡ Some f) (IsChosenOne r)) (sym differ) (first_is_chosen ids r never are order is)
+
+  pub first_is_common : (ids : List ObjectId) (r : Option ObjectId) → AreOctopusBases h f os ids → r ≡ slice_get ids 0 → IsCommonToAll h f os r
+  first_is_common [] r are is = subst (IsCommonToAll h f os) (sym is) (none_common are)
+  first_is_common (x ∷ xs) r are is = subst (IsCommonToAll h f os) (sym is) (are.each x (one_of-head x xs))
 
 pub some_head : (f : ObjectId) (os : List ObjectId) → 0 < length (firsts (f ∷ os))
 some_head f os = one (firsts (f ∷ os)) ((firsts_has (f ∷ os) f).1 (one_of-head f os))

@@ -27,6 +27,7 @@ pub mod PaintBegins
 pub mod Fronts
 pub mod PaintPops
 pub mod Unheld
+pub mod Loads
 pub mod ParentsOf
 pub mod Reduction
 pub mod Heads

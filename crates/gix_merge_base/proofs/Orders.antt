@@ -20,7 +20,7 @@ each_of P [] a y k = cc
 each_of P (x ∷ xs) a y k = elim (one_of-cons_cases x xs y k) as (λ _. P y) [ inl is ↦ subst P (sym is) a.0 | inr m ↦ each_of P xs a.1 y m ]
 
 -- the head comes before each of the rest
-head_first : (h : History) (x : ObjectId) (xs : List ObjectId) → IsInOrder h (x ∷ xs) → (y : ObjectId) → IsTrue (is_one_of xs y) → choice h x y ≡ Less
+pub head_first : (h : History) (x : ObjectId) (xs : List ObjectId) → IsInOrder h (x ∷ xs) → (y : ObjectId) → IsTrue (is_one_of xs y) → choice h x y ≡ Less
 unfolding IsStrictlySortedBy
 head_first h x xs o y k = each_of (λ z. choice h x z ≡ Less) xs o.0 y k
 

@@ -107,6 +107,15 @@ WholeHistoriesMeet =
     × (KeysFall h → KeysFallFrom h ids)
     × (NoneRises h → NoneRisesFrom h ids)
 
+-- If each of ids is one of more, and more has a property of the premises, then so has ids.
+abbrev pub FewerIdsAskLess : Type 0
+FewerIdsAskLess =
+    (h : History) (ids more : List ObjectId) → ((i : ObjectId) → Among ids i → Among more i)
+    → (IsAcyclicFrom h more → IsAcyclicFrom h ids)
+    × (GenerationsNeverRiseFrom h more → GenerationsNeverRiseFrom h ids)
+    × (KeysFallFrom h more → KeysFallFrom h ids)
+    × (NoneRisesFrom h more → NoneRisesFrom h ids)
+
 -- If ids have falling keys, then they are acyclic and have ordered generations.
 abbrev pub FallingKeysSuffice : Type 0
 FallingKeysSuffice =

@@ -1,12 +1,12 @@
 -- The octopus base of many heads: git-merge-base, "--octopus", over all bases of each step.
-use Rattle.std.specs.Prelude.{◌≡◌, ◌↔◌, List, ◌∷◌, IsTrue, Option, Some, MatchBool, MatchOption}
+use Rattle.std.specs.Prelude.{◌≡◌, ◌↔◌, List, [], ◌∷◌, IsTrue, false, Option, Some, MatchBool, MatchOption, slice_get}
 use Rattle.std.specs.List.{list_all}
 use Rattle.std.specs.Ordering.{is_gt}
 use Rattle.gix_base.specs.declared.hash.ObjectId.{ObjectId}
 use Rattle.gix_revwalk.specs.History.{History, same_id, is_one_of, IsAncestorOfOne, IsAncestorOfAll}
 use Rattle.gix_merge_base.specs.Bases.{IsMaximal}
-use Rattle.gix_merge_base.specs.Keys.{choice}
-use Rattle.gix_merge_base.specs.Premises.{GenerationsNeverRiseFrom}
+use Rattle.gix_merge_base.specs.Keys.{choice, IsInOrder}
+use Rattle.gix_merge_base.specs.Premises.{IsAcyclicFrom, GenerationsNeverRiseFrom}
 
 -- If each of os is f, then r is the octopus base exactly if r is f. Otherwise r is the octopus base
 -- exactly if r is maximal among the common ancestors of f and all of os, and listed before every
@@ -30,3 +30,14 @@ pub record AreOctopusBases (h : History) (f : ObjectId) (os ids : List ObjectId)
   pub each : (c : ObjectId) → IsTrue (is_one_of ids c) → IsAncestorOfAll h (f ∷ os) c
   pub cover : (c : ObjectId) → IsAncestorOfAll h (f ∷ os) c → IsAncestorOfOne h ids c
   pub maximal : GenerationsNeverRiseFrom h (f ∷ os) → (c : ObjectId) → IsTrue (is_one_of ids c) ↔ IsMaximal h (IsAncestorOfAll h (f ∷ os)) c
+
+-- What `octopus_bases` promises of an answer.
+pub record AnswersOctopusBases (h : History) (f : ObjectId) (os ids : List ObjectId) : Type 0 where
+  pub bases : IsAcyclicFrom h (f ∷ os) → list_all (same_id f) os ≡ false → AreOctopusBases h f os ids
+  pub order : IsInOrder h ids
+  pub alone : IsTrue (list_all (same_id f) os) → ids ≡ f ∷ []
+
+-- The answer r is the first of a list that has what `octopus_bases` promises. There is none exactly
+-- if that list is empty.
+abbrev pub IsFirstOctopusBase : History → ObjectId → List ObjectId → Option ObjectId → Type 0
+IsFirstOctopusBase h f os r = (ids : List ObjectId) × AnswersOctopusBases h f os ids × (r ≡ slice_get ids 0)

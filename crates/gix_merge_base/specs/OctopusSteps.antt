@@ -1,11 +1,9 @@
 -- How an octopus goes from head to head: with each head it follows every base that it has.
-use Rattle.std.specs.Prelude.{◌≡◌, List, ◌∷◌, IsTrue, MatchOption, Option}
-use Rattle.std.specs.Ordering.{is_gt}
+use Rattle.std.specs.Prelude.{◌≡◌, List, ◌∷◌, IsTrue}
 use Rattle.gix_base.specs.declared.hash.ObjectId.{ObjectId}
-use Rattle.gix_revwalk.specs.History.{History, Has, is_one_of, IsAncestor, IsAncestorOfOne}
+use Rattle.gix_revwalk.specs.History.{History, is_one_of, IsAncestor, IsAncestorOfOne}
 use Rattle.gix_merge_base.specs.Premises.{GenerationsNeverRiseFrom}
 use Rattle.gix_merge_base.specs.Bases.{IsCommon}
-use Rattle.gix_merge_base.specs.Keys.{choice}
 
 -- No member of ids is an ancestor of another member.
 abbrev pub AreApart : History → List ObjectId → Type 0
@@ -17,13 +15,3 @@ pub record IsStep (h : History) (bs : List ObjectId) (o : ObjectId) (ys : List O
   pub common : (c : ObjectId) → IsTrue (is_one_of ys c) → IsCommon h o bs c
   pub below : (c : ObjectId) → IsCommon h o bs c → IsAncestorOfOne h ys c
   pub apart : GenerationsNeverRiseFrom h (o ∷ bs) → AreApart h ys
-
--- Commit x is one of ids, the history has it, and no other such commit is listed before it.
-pub record IsFirstChoice (h : History) (ids : List ObjectId) (x : ObjectId) : Type 0 where
-  pub member : IsTrue (is_one_of ids x)
-  pub has : Has h x
-  pub first : (y : ObjectId) → IsTrue (is_one_of ids y) → Has h y → IsTrue (is_gt (choice h x y)) → ⊥
-
--- The answer r is the first choice among ids. There is none only if the history has none of ids.
-abbrev pub IsBestOf : History → List ObjectId → Option ObjectId → Type 0
-IsBestOf h ids r = MatchOption r ((y : ObjectId) → IsTrue (is_one_of ids y) → ¬ Has h y) (IsFirstChoice h ids)

@@ -22,6 +22,14 @@ IsHandedIn f os x = (x ≡ f) ⊎ IsTrue (is_one_of os x)
 abbrev pub MayBeMet : History → ObjectId → List ObjectId → ObjectId → Type 0
 MayBeMet h f os q = IsHandedIn f os q ⊎ IsReached h f os q
 
+-- The id q is one of ids, or an ancestor of one of them.
+abbrev pub MayBeMetFrom : History → List ObjectId → ObjectId → Type 0
+MayBeMetFrom h ids q = IsTrue (is_one_of ids q) ⊎ IsAncestorOfOne h ids q
+
+-- Each of xs is one of ids, or an ancestor of one of them.
+abbrev pub AreFrom : History → List ObjectId → List ObjectId → Type 0
+AreFrom h ids xs = (x : ObjectId) → IsTrue (is_one_of xs x) → MayBeMetFrom h ids x
+
 -- The id x is f or one of os, or a parent of a reachable commit that is not a common ancestor.
 abbrev pub IsOutside : History → ObjectId → List ObjectId → ObjectId → Type 0
 IsOutside h f os x =

@@ -8,7 +8,7 @@ ghost use Rattle.gix_merge_base.specs.HistoryLaws.{AncestorsAreLeast, NoneAreMut
 ghost use Rattle.gix_merge_base.specs.HistoryLaws.{MaximalAboveEach, MaximalExists};
 ghost use Rattle.gix_merge_base.specs.HistoryLaws.{LackedChangesNoBases, BasesCover};
 ghost use Rattle.gix_merge_base.specs.HistoryLaws.{SameIdsSameOctopusBase, OctopusBaseInAnyOrder};
-ghost use Rattle.gix_merge_base.specs.HistoryLaws.{WholeHistoriesMeet, FallingKeysSuffice};
+ghost use Rattle.gix_merge_base.specs.HistoryLaws.{WholeHistoriesMeet, FewerIdsAskLess, FallingKeysSuffice};
 ghost use Rattle.gix_merge_base.specs.HistoryLaws.{OrderedIdsFall, OrderedBasesAreOne};
 ghost use Rattle.gix_base.specs.Laws.{OrderAgrees, OrderIs};
 ghost use Rattle.gix_merge_base.specs.GenThenTime.{key_order};
@@ -83,6 +83,14 @@ pub fn octopus_base_is_of_the_set()
 /// States that a premise which holds of every edge of a history holds of what any ids reach.
 pub fn whole_histories_meet()
     ensures { WholeHistoriesMeet }
+{}
+
+/// States that a premise which holds for some ids holds for fewer of them.
+///
+/// If each of some ids is also one of others, then a premise that holds for what the others reach
+/// holds for what these ids reach.
+pub fn fewer_ids_ask_less()
+    ensures { FewerIdsAskLess }
 {}
 
 /// States that falling keys imply acyclic and ordered generations, for what the same ids reach.

@@ -7,7 +7,7 @@ ghost use Rattle.gix_base.specs.declared.hash.ObjectId.{ObjectId};
 ghost use Rattle.gix_merge_base.specs.Bases.{IsBase, AreBases, CoverBases, ids_of, is_trivial};
 ghost use Rattle.gix_merge_base.specs.Keys.{IsInOrder};
 ghost use Rattle.gix_merge_base.specs.Premises.{IsAcyclicFrom, GenerationsNeverRiseFrom, KeysFallFrom};
-ghost use Rattle.gix_merge_base.specs.Painting.{MayBeTaken};
+ghost use Rattle.gix_merge_base.specs.Painting.{MayBeMet, MayBeTaken};
 ghost use Rattle.gix_merge_base.specs.PaintQueue.{IsHeld};
 ghost use Rattle.gix_merge_base.specs.Refusals.{HasInsertText, is_source_fault};
 ghost use Rattle.gix_revwalk.specs.Faults.{count_after};
@@ -75,6 +75,10 @@ pub fn merge_base<S: Find, A: Allocator + Copy>(
     ensures trivial { IsTrue (is_trivial first others.now) → IsOk result × (graph.new ≡ graph.old) }
     ensures trivial_answer { IsTrue (is_trivial first others.now)
         → IfOk result (λ found. ids_of found ≡ first ∷ []) }
+
+    // Also after an error.
+    ensures reached { (q : ObjectId) → IsHeld graph.new q
+        → IsHeld graph.old q ⊎ MayBeMet (S.history graph.old.source) first others.now q }
 
     // With falling keys and at most one merge base, the call loads little.
     ensures taken { KeysFallFrom (S.history graph.old.source) (first ∷ others.now)

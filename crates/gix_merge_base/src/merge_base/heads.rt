@@ -1,6 +1,6 @@
 //! The octopus bases of several heads.
 
-ghost use Rattle.std.specs.Prelude.{◌≡◌, ◌∷◌, [], Some, IfOk, Ok, IfErr, IsTrue, false};
+ghost use Rattle.std.specs.Prelude.{◌≡◌, ◌∷◌, [], ◌⊎◌, Some, IfOk, Ok, IfErr, IsTrue, false};
 ghost use Rattle.std.specs.List.{list_all};
 ghost use Rattle.gix_base.specs.declared.hash.ObjectId.{ObjectId};
 ghost use Rattle.gix_revwalk.specs.History.{same_id, is_one_of, Has};
@@ -8,21 +8,22 @@ ghost use Rattle.gix_merge_base.specs.Premises.{IsAcyclicFrom, GenerationsNeverR
 ghost use Rattle.gix_revwalk.specs.Faults.{count_after};
 ghost use Rattle.gix_revwalk.specs.Graph.{KeepsHeld};
 ghost use Rattle.gix_merge_base.specs.Keys.{IsInOrder};
-ghost use Rattle.gix_merge_base.specs.Octopus.{IsOctopusBase, IsCommonToAll, AreOctopusBases};
-ghost use Rattle.gix_merge_base.specs.OctopusSteps.{IsStep, IsBestOf};
+ghost use Rattle.gix_merge_base.specs.Octopus.{IsOctopusBase, IsFirstOctopusBase, IsCommonToAll, AreOctopusBases};
+ghost use Rattle.gix_merge_base.specs.OctopusSteps.{IsStep};
 ghost use Rattle.gix_merge_base.specs.Reducing.{firsts};
 ghost use Rattle.gix_merge_base.specs.Refusals.{HasInsertText, is_source_fault};
-ghost use Rattle.gix_merge_base.specs.AfterCall.{AfterCall};
+ghost use Rattle.gix_merge_base.specs.AfterCall.{AfterCall, LoadsFrom};
+ghost use Rattle.gix_merge_base.specs.Painting.{MayBeMet, AreFrom};
+ghost use Rattle.gix_merge_base.specs.PaintQueue.{IsHeld};
 
 use crate::merge_base::bases::{best, stands_in};
 use crate::merge_base::error::Error;
 use crate::merge_base::flags::Flags;
-use crate::merge_base::order::{Candidate, candidate_of, in_order};
+use crate::merge_base::order::in_order;
 use gix_base::hash::ObjectId;
 use gix_revwalk::graph::{Commit, Find, Graph};
 use gix_revwalk::seen::Seen;
 use std::alloc::{AllocError, Allocator};
-use std::cmp::Reverse;
 
 /// Tests whether each of `ids` is `id`.
 fn all_are(ids: &[ObjectId], id: ObjectId) -> bool
@@ -45,26 +46,6 @@ fn distinct<A: Allocator + Copy>(
     Ok(heads.into_vec())
 }
 
-/// Returns the one of `ids` that comes first in the order of answers; `None` if the source has none
-/// of them.
-fn best_of<S: Find, A: Allocator + Copy>(
-    alloc: A,
-    ids: &[ObjectId],
-    graph: &mut Graph<S, Commit<Flags, A>, A>,
-) -> Result<Option<ObjectId>, Error>
-    ensures best { IfOk result (IsBestOf (S.history graph.old.source) ids.now) }
-    ensures after { AfterCall S.history S.fault_count graph.old graph.new result }
-{
-    let mut best: Option<Candidate> = None;
-    for id in ids {
-        best = best.max(candidate_of(alloc, *id, graph)?);
-    }
-    match best {
-        Some((_, Reverse(id))) => Ok(Some(id)),
-        None => Ok(None),
-    }
-}
-
 /// Returns what remains of `bases` with one more head, which the source has: the best of the
 /// ancestors of `head` that one of `bases` reaches.
 fn step<S: Find, A: Allocator + Copy>(
@@ -77,6 +58,9 @@ fn step<S: Find, A: Allocator + Copy>(
         → Has (S.history graph.old.source) head
         → IfOk result (λ left. IsStep (S.history graph.old.source) bases.now head left.items) }
     ensures order { IfOk result (λ left. IsInOrder (S.history graph.old.source) left.items) }
+    ensures below { IfOk result (λ left.
+        AreFrom (S.history graph.old.source) (head ∷ []) left.items) }
+    ensures loads { LoadsFrom (S.history graph.old.source) (head ∷ bases.now) graph.old graph.new }
     ensures after { AfterCall S.history S.fault_count graph.old graph.new result }
 {
     if bases.is_empty() {
@@ -103,6 +87,7 @@ fn steps<S: Find, A: Allocator + Copy>(
         → IfOk result (λ left.
         AreOctopusBases (S.history graph.old.source) first others.now left.items) }
     ensures order { IfOk result (λ left. IsInOrder (S.history graph.old.source) left.items) }
+    ensures loads { LoadsFrom (S.history graph.old.source) (first ∷ others.now) graph.old graph.new }
     ensures after { AfterCall S.history S.fault_count graph.old graph.new result }
 {
     let mut left = [first].to_vec(alloc)?;
@@ -127,6 +112,7 @@ fn bases_of_heads<S: Find, A: Allocator + Copy>(
         → IfOk result (λ left.
         AreOctopusBases (S.history graph.old.source) first others.now left.items) }
     ensures order { IfOk result (λ left. IsInOrder (S.history graph.old.source) left.items) }
+    ensures loads { LoadsFrom (S.history graph.old.source) (first ∷ others.now) graph.old graph.new }
     ensures after { AfterCall S.history S.fault_count graph.old graph.new result }
 {
     let heads = distinct(alloc, first, others)?;
@@ -184,6 +170,10 @@ pub fn octopus_bases<S: Find, A: Allocator + Copy>(
     ensures trivial_answer { IsTrue (list_all (same_id first) others.now)
         → IfOk result (λ bases. bases.items ≡ first ∷ []) }
 
+    // Also after an error.
+    ensures reached { (q : ObjectId) → IsHeld graph.new q
+        → IsHeld graph.old q ⊎ MayBeMet (S.history graph.old.source) first others.now q }
+
     ensures history { S.history graph.new.source ≡ S.history graph.old.source }
     ensures cause { IfErr result HasInsertText }
     ensures count { S.fault_count graph.new.source
@@ -238,9 +228,17 @@ pub fn octopus<S: Find, A: Allocator + Copy>(
         → list_all (same_id first) others.now ≡ false
         → IfOk result (IsCommonToAll (S.history graph.old.source) first others.now) }
 
+    // Needs no premise: the first of a list that has what `octopus_bases` promises.
+    ensures first { IfOk result
+        (IsFirstOctopusBase (S.history graph.old.source) first others.now) }
+
     // All ids are equal.
     ensures trivial { IsTrue (list_all (same_id first) others.now)
         → (result ≡ Ok (Some first)) × (graph.new ≡ graph.old) }
+
+    // Also after an error.
+    ensures reached { (q : ObjectId) → IsHeld graph.new q
+        → IsHeld graph.old q ⊎ MayBeMet (S.history graph.old.source) first others.now q }
 
     ensures history { S.history graph.new.source ≡ S.history graph.old.source }
     ensures cause { IfErr result HasInsertText }
@@ -252,5 +250,5 @@ pub fn octopus<S: Find, A: Allocator + Copy>(
         return Ok(Some(first));
     }
     let bases = bases_of_heads(alloc, first, others, graph)?;
-    best_of(alloc, &bases, graph)
+    Ok(bases.first().copied())
 }

@@ -1,12 +1,13 @@
 //! The order of answers: by falling generation number, then falling time, then rising id.
 
-ghost use Rattle.std.specs.Prelude.{◌≡◌, ◌↔◌, IfOk, IsTrue, map};
+ghost use Rattle.std.specs.Prelude.{◌≡◌, ◌∷◌, [], ◌↔◌, IfOk, IsTrue, map};
 ghost use Rattle.std.specs.List.{IsDistinct, filter_map};
 ghost use Rattle.gix_base.specs.declared.hash.ObjectId.{ObjectId};
 ghost use Rattle.gix_revwalk.specs.History.{Has, is_one_of, same_id};
 ghost use Rattle.gix_merge_base.specs.Keys.{IsInOrder};
 ghost use Rattle.gix_merge_base.specs.Candidates.{candidate_at, turned_at, id_in};
-ghost use Rattle.gix_merge_base.specs.AfterCall.{AfterCall};
+ghost use Rattle.gix_revwalk.specs.Walks.{HoldsMore};
+ghost use Rattle.gix_merge_base.specs.AfterCall.{AfterCall, LoadsFrom};
 
 use crate::merge_base::error::{Error, commit_refused};
 use crate::merge_base::flags::Flags;
@@ -20,16 +21,17 @@ use std::cmp::Reverse;
 
 /// Decides which commit is listed first: the one with the greatest generation number, then the
 /// greatest time, then the smallest id.
-pub(crate) type Candidate = (GenThenTime, Reverse<ObjectId>);
+type Candidate = (GenThenTime, Reverse<ObjectId>);
 
 /// Returns the candidate for `id`, and loads the commit unless it is held; `None` if the source
 /// does not have it.
-pub(crate) fn candidate_of<S: Find, A: Allocator + Copy>(
+fn candidate_of<S: Find, A: Allocator + Copy>(
     alloc: A,
     id: ObjectId,
     graph: &mut Graph<S, Commit<Flags, A>, A>,
 ) -> Result<Option<Candidate>, Error>
     ensures candidate { IfOk result (λ c. c ≡ candidate_at (S.history graph.old.source) id) }
+    ensures holds { HoldsMore (S.history graph.old.source) (id ∷ []) graph.old graph.new }
     ensures after { AfterCall S.history S.fault_count graph.old graph.new result }
 {
     match numbers::take(graph, alloc, id, Flags::empty()) {
@@ -51,6 +53,7 @@ fn candidates_of<S: Find, A: Allocator + Copy>(
 ) -> Result<Vec<Reverse<Candidate>, A>, Error>
     ensures candidates { IfOk result (λ candidates.
         candidates.items ≡ filter_map (turned_at (S.history graph.old.source)) ids.now) }
+    ensures loads { LoadsFrom (S.history graph.old.source) ids.now graph.old graph.new }
     ensures after { AfterCall S.history S.fault_count graph.old graph.new result }
 {
     let mut candidates = Vec::new(alloc);
@@ -93,6 +96,7 @@ pub(crate) fn in_order<S: Find, A: Allocator + Copy>(
         → IsDistinct same_id found.items) }
     ensures same { IfOk result (λ found. (c : ObjectId) → IsTrue (is_one_of found.items c)
         ↔ (IsTrue (is_one_of ids.now c) × Has (S.history graph.old.source) c)) }
+    ensures loads { LoadsFrom (S.history graph.old.source) ids.now graph.old graph.new }
     ensures after { AfterCall S.history S.fault_count graph.old graph.new result }
 {
     let mut candidates = candidates_of(alloc, ids, graph)?;

@@ -1,18 +1,19 @@
 //! Reduces ids to those that no other one of them reaches.
 
-ghost use Rattle.std.specs.Prelude.{◌≡◌, ◌++◌, ◌∷◌, [], length, is_some, ◌↔◌, IsTrue, OnOk, IfOk, IfErr};
+ghost use Rattle.std.specs.Prelude.{◌≡◌, ◌++◌, ◌∷◌, [], length, is_some, ◌⊎◌, ◌↔◌, IsTrue, OnOk, IfOk, IfErr};
 ghost use Rattle.std.specs.List.Sorted.{IsPermutation};
 ghost use Rattle.std.specs.List.{filter};
 ghost use Rattle.gix_base.specs.declared.hash.ObjectId.{ObjectId};
 ghost use Rattle.gix_revwalk.specs.Graph.{KeepsHeld};
 ghost use Rattle.gix_revwalk.specs.History.{is_one_of, entry_at};
 ghost use Rattle.gix_merge_base.specs.Premises.{IsAcyclicFrom, GenerationsNeverRiseFrom};
-ghost use Rattle.gix_revwalk.specs.Walks.{parents_of_all};
+ghost use Rattle.gix_revwalk.specs.Walks.{parents_of_all, HoldsMore};
 ghost use Rattle.gix_revwalk.specs.Faults.{count_after};
-ghost use Rattle.gix_merge_base.specs.AfterCall.{AfterCall};
+ghost use Rattle.gix_merge_base.specs.AfterCall.{AfterCall, LoadsFrom};
+ghost use Rattle.gix_merge_base.specs.Painting.{MayBeMetFrom};
 ghost use Rattle.gix_merge_base.specs.Front.{IsQueued, CountsLeft};
 ghost use Rattle.gix_merge_base.specs.Marks.{met};
-ghost use Rattle.gix_merge_base.specs.PaintQueue.{marks_at, queued_at, queued_ids, ids_at, AreIn};
+ghost use Rattle.gix_merge_base.specs.PaintQueue.{marks_at, queued_at, queued_ids, ids_at, AreIn, IsHeld};
 ghost use Rattle.gix_merge_base.specs.Counting.{times, CountsUnmet};
 ghost use Rattle.gix_merge_base.specs.PaintSteps.{Hands};
 ghost use Rattle.gix_merge_base.specs.Reducing.{firsts, IsIndependent, SomeOf};
@@ -57,6 +58,7 @@ fn list_one<S: Find, A: Allocator + Copy>(
     ensures counted { OnOk result (AreIn graph.old numbers.old.items
         → ((c : ObjectId) → queued_at graph.old c ≡ times c (ids_at graph.old numbers.old.items))
         → (c : ObjectId) → queued_at graph.new c ≡ times c (ids_at graph.new numbers.new.items)) }
+    ensures holds { HoldsMore (S.history graph.old.source) (id ∷ []) graph.old graph.new }
     ensures after { AfterCall S.history S.fault_count graph.old graph.new result }
 {
     let number = match numbers::take(graph, alloc, id, Flags::empty()) {
@@ -90,6 +92,7 @@ fn list<S: Find, A: Allocator + Copy>(
     ensures unmarked { OnOk result (Unmarked (marks_at graph.new)) }
     ensures unmet { IfOk result (λ ns. CountsUnmet (marks_at graph.new) (queued_at graph.new)
         (ids_at graph.new ns.items) (length ns.items)) }
+    ensures loads { LoadsFrom (S.history graph.old.source) ids.now graph.old graph.new }
     ensures after { AfterCall S.history S.fault_count graph.old graph.new result }
 {
     numbers::begin_walk(graph);
@@ -117,6 +120,8 @@ fn meet_parents<S: Find, A: Allocator + Copy>(
         × (ids_at graph.new numbers.now ≡ ids_at graph.old numbers.now)) }
     ensures left { OnOk result (CountsLeft (ids_at graph.old numbers.now) graph.new walk.new.front) }
     ensures queued { OnOk result (IsQueued (S.history graph.old.source) graph.new walk.new.front) }
+    ensures loads { LoadsFrom (S.history graph.old.source) (ids_at graph.old numbers.now)
+        graph.old graph.new }
     ensures after { AfterCall S.history S.fault_count graph.old graph.new result }
 {
     for number in numbers {
@@ -199,6 +204,8 @@ fn meet<S: Find, A: Allocator + Copy>(
     requires queued { IsQueued (S.history graph.old.source) graph.old walk.old.front }
     ensures met { OnOk result (Reduced (S.history graph.old.source) (ids_at graph.old numbers.now)
         (marks_at graph.new)) }
+    ensures loads { LoadsFrom (S.history graph.old.source) (ids_at graph.old numbers.now)
+        graph.old graph.new }
     ensures after { AfterCall S.history S.fault_count graph.old graph.new result }
 {
     let order = by_generation(alloc, numbers, graph)?;
@@ -267,6 +274,10 @@ pub fn reduce<S: Find, A: Allocator + Copy>(
         → IfOk result (λ left. (c : ObjectId) → IsIndependent (S.history graph.old.source) ids.now c
         → IsTrue (is_one_of left.items c)) }
     ensures some { IfOk result (λ left. SomeOf ids.now left.items) }
+
+    // Also after an error.
+    ensures reached { (q : ObjectId) → IsHeld graph.new q
+        → IsHeld graph.old q ⊎ MayBeMetFrom (S.history graph.old.source) ids.now q }
 
     ensures history { S.history graph.new.source ≡ S.history graph.old.source }
     ensures cause { IfErr result HasInsertText }

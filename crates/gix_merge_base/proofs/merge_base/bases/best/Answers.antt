@@ -4,6 +4,7 @@ use Rattle.gix_merge_base.proofs.Best.{max_of_painted, painted_within, few_are_m
 use Rattle.gix_merge_base.proofs.Maximal.{common_has}
 use Rattle.gix_merge_base.proofs.Reached.{acyclic_within, never_within}
 use Rattle.gix_merge_base.proofs.Sorting.{few_in_order}
+use Rattle.gix_merge_base.proofs.Loads.{loads_of_met, loads_of_reached, loads_then, loads_within, from_common}
 use Rattle.gix_merge_base.proofs.merge_base.bases.best.Goals as goal
 
 pub returns-then-len-le1-clause-best : goal.returns-then-len-le1-clause-best
@@ -138,3 +139,50 @@ returns-in_err-ordered-clause-after g c = record {
   };
   cause = search rules;
 }
+
+pub returns-then-len-le1-clause-common : goal.returns-then-len-le1-clause-common
+returns-then-len-le1-clause-common g c = c.in_ok-painted.ensures.common
+
+pub returns-clause-common : goal.returns-clause-common
+returns-clause-common g c c' k =
+    let some = subst (λ z. SomeOf z c.in_ok-left.left.items) c.deref.ensures.value c.in_ok-left.ensures.some in
+    let same = rw (c.reduce.ensures.history, c.paint.ensures.history, c.deref-2.ensures.value) at c.in_ok-ordered.ensures.same in
+    c.in_ok-painted.ensures.common c' (some_within c.in_ok-painted.painted.items c.in_ok-left.left.items some c' ((same c').0 k).0)
+
+pub returns-in_err-painted-clause-loads : goal.returns-in_err-painted-clause-loads
+returns-in_err-painted-clause-loads g c = loads_of_met (g.S.Find.history c.args.graph.now.source) c.args.first c.args.others.now _ _ c.paint.ensures.reached
+
+pub returns-then-len-le1-clause-loads : goal.returns-then-len-le1-clause-loads
+returns-then-len-le1-clause-loads g c = loads_of_met (g.S.Find.history c.args.graph.now.source) c.args.first c.args.others.now _ _ c.paint.ensures.reached
+
+pub returns-in_err-left-clause-loads : goal.returns-in_err-left-clause-loads
+returns-in_err-left-clause-loads g c =
+    let h = g.S.Find.history c.args.graph.now.source in
+    let painted = c.in_ok-painted.painted.items in
+    let reduced = rw (c.paint.ensures.history, c.deref.ensures.value) at c.reduce.ensures.reached in
+    loads_then (loads_of_met (g.S.Find.history c.args.graph.now.source) c.args.first c.args.others.now _ _ c.paint.ensures.reached)
+    (loads_within painted (from_common h c.args.first c.args.others.now painted c.in_ok-painted.ensures.common) (loads_of_reached h painted c.paint.new.graph c.reduce.new.graph reduced))
+
+pub returns-clause-loads : goal.returns-clause-loads
+returns-clause-loads g c =
+    let h = g.S.Find.history c.args.graph.now.source in
+    let painted = c.in_ok-painted.painted.items in
+    let left = c.in_ok-left.left.items in
+    let reduced = rw (c.paint.ensures.history, c.deref.ensures.value) at c.reduce.ensures.reached in
+    let some = subst (λ z. SomeOf z left) c.deref.ensures.value c.in_ok-left.ensures.some in
+    let ordered = rw (c.reduce.ensures.history, c.paint.ensures.history, c.deref-2.ensures.value) at c.in_order.ensures.loads in
+    loads_then (loads_of_met (g.S.Find.history c.args.graph.now.source) c.args.first c.args.others.now _ _ c.paint.ensures.reached)
+    (loads_then (loads_within painted (from_common h c.args.first c.args.others.now painted c.in_ok-painted.ensures.common) (loads_of_reached h painted c.paint.new.graph c.reduce.new.graph reduced))
+    (loads_within left (from_common h c.args.first c.args.others.now left (λ x k. c.in_ok-painted.ensures.common x (some_within painted left some x k))) ordered))
+
+pub returns-in_err-ordered-clause-loads : goal.returns-in_err-ordered-clause-loads
+returns-in_err-ordered-clause-loads g c =
+    let h = g.S.Find.history c.args.graph.now.source in
+    let painted = c.in_ok-painted.painted.items in
+    let left = c.in_ok-left.left.items in
+    let reduced = rw (c.paint.ensures.history, c.deref.ensures.value) at c.reduce.ensures.reached in
+    let some = subst (λ z. SomeOf z left) c.deref.ensures.value c.in_ok-left.ensures.some in
+    let ordered = rw (c.reduce.ensures.history, c.paint.ensures.history, c.deref-2.ensures.value) at c.in_order.ensures.loads in
+    loads_then (loads_of_met (g.S.Find.history c.args.graph.now.source) c.args.first c.args.others.now _ _ c.paint.ensures.reached)
+    (loads_then (loads_within painted (from_common h c.args.first c.args.others.now painted c.in_ok-painted.ensures.common) (loads_of_reached h painted c.paint.new.graph c.reduce.new.graph reduced))
+    (loads_within left (from_common h c.args.first c.args.others.now left (λ x k. c.in_ok-painted.ensures.common x (some_within painted left some x k))) ordered))

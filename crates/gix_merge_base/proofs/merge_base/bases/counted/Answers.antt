@@ -6,6 +6,7 @@ use Rattle.gix_merge_base.specs.Keys.{IsInOrder}
 use Rattle.gix_merge_base.specs.Bases.{IsBase, CoverBases}
 use Rattle.gix_merge_base.proofs.Answered.{from-vec, not_plain, base-from_max, bases-found}
 use Rattle.gix_merge_base.proofs.Sorting.{few_in_order}
+use Rattle.gix_merge_base.proofs.Loads.{met_of_loads}
 use Rattle.gix_merge_base.proofs.merge_base.bases.counted.Goals as goal
 
 pub returns-then-is_empty-clause-once : goal.returns-then-is_empty-clause-once
@@ -62,3 +63,9 @@ returns-in_err-found-clause-history g c = c.best.ensures.after.graph.same_histor
 
 pub returns-in_err-found-clause-held : goal.returns-in_err-found-clause-held
 returns-in_err-found-clause-held g c = c.best.ensures.after.graph.held
+
+pub returns-in_err-found-clause-reached : goal.returns-in_err-found-clause-reached
+returns-in_err-found-clause-reached g c = met_of_loads c.best.ensures.loads
+
+pub returns-clause-reached : goal.returns-clause-reached
+returns-clause-reached g c = met_of_loads c.best.ensures.loads

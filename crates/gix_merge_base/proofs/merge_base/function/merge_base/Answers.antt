@@ -21,3 +21,9 @@ returns-clause-taken g c = c.counted.ensures.taken
 
 pub returns-in_err-bases-clause-taken : goal.returns-in_err-bases-clause-taken
 returns-in_err-bases-clause-taken g c = c.counted.ensures.taken
+
+pub returns-clause-reached : goal.returns-clause-reached
+returns-clause-reached g c = c.counted.ensures.reached
+
+pub returns-in_err-bases-clause-reached : goal.returns-in_err-bases-clause-reached
+returns-in_err-bases-clause-reached g c = c.counted.ensures.reached

@@ -8,6 +8,7 @@ use Rattle.gix_merge_base.proofs.OctopusLaws.{bases_same}
 use Rattle.gix_merge_base.proofs.Reached.{reach_among, acyclic_within}
 use Rattle.gix_merge_base.proofs.Reduction.{firsts_once}
 use Rattle.gix_merge_base.proofs.Sorting.{few_in_order}
+use Rattle.gix_merge_base.proofs.Loads.{from_firsts, from_among, loads_then, loads_within}
 use Rattle.gix_merge_base.proofs.merge_base.heads.bases_of_heads.Goals as goal
 
 pub returns-then-len-clause-bases : goal.returns-then-len-clause-bases
@@ -52,3 +53,25 @@ returns-then-len-clause-order g c = rw c.new.ensures.items (few_in_order (g.S.Fi
 
 pub returns-clause-order : goal.returns-clause-order
 returns-clause-order g c = rw c.in_ok-known.ensures.after.graph.same_history at c.steps.ensures.order
+
+pub returns-in_err-known-clause-loads : goal.returns-in_err-known-clause-loads
+returns-in_err-known-clause-loads g c = loads_within c.deref.result.now (from_firsts (g.S.Find.history c.args.graph.now.source) (c.args.first ∷ c.args.others.now) c.deref.result.now (c.deref.ensures.value ∙ c.in_ok-heads.ensures)) c.in_order.ensures.loads
+
+pub returns-then-len-clause-loads : goal.returns-then-len-clause-loads
+returns-then-len-clause-loads g c = loads_within c.deref.result.now (from_firsts (g.S.Find.history c.args.graph.now.source) (c.args.first ∷ c.args.others.now) c.deref.result.now (c.deref.ensures.value ∙ c.in_ok-heads.ensures)) c.in_order.ensures.loads
+
+pub returns-clause-loads : goal.returns-clause-loads
+returns-clause-loads g c =
+    let h = g.S.Find.history c.args.graph.now.source in
+    let ids = c.args.first ∷ c.args.others.now in
+    let known = rw (c.deref.ensures.value, c.in_ok-heads.ensures) at c.in_ok-known.ensures.same in
+    let once = rw (c.deref.ensures.value, c.in_ok-heads.ensures) at c.in_ok-known.ensures.once in
+    let heads = ap (λ (l : List ObjectId). length l) c.in_ok-heads.ensures in
+    let found = c.in_ok-known.known.items in
+    let newest = c.index-newest.result.now in
+    let enough : length (firsts ids) ≤ length found = omega (arith, heads, c.if-len.false, c.len.ensures, c.len-2.ensures, c.in_ok-known.known.ok.0, c.in_ok-heads.heads.ok.0) in
+    let all : newest ∷ c.deref-2.result.now ≡ get_or found 0 newest ∷ found = ap (λ z. z ∷ c.deref-2.result.now) c.index-newest.ensures ∙ ap (λ l. get_or found 0 newest ∷ l) c.deref-2.ensures.value in
+    let same = same_heads h c.args.first c.args.others.now found (once (firsts_once ids)) known enough newest in
+    let loads = rw c.in_ok-known.ensures.after.graph.same_history at c.steps.ensures.loads in
+    loads_then (loads_within c.deref.result.now (from_firsts h ids c.deref.result.now (c.deref.ensures.value ∙ c.in_ok-heads.ensures)) c.in_order.ensures.loads)
+    (loads_within (newest ∷ c.deref-2.result.now) (from_among h ids (newest ∷ c.deref-2.result.now) (λ x k. (same x).0 (subst (λ l. IsTrue (is_one_of l x)) all k))) loads)

@@ -1,21 +1,34 @@
-use Rattle.std.proofs.Common.{refl, sym, ◌∙◌}
-use Rattle.std.proofs.lemmas.Result.{IfOk-weaker}
-use Rattle.gix_merge_base.proofs.Heads.{best_is_octopus, best_is_common}
+use Rattle.std.proofs.Common.{◌∙◌, ◌∷◌, [], List, refl, sym, ap, arith}
+use Rattle.std.specs.Prelude.{slice_get}
+use Rattle.gix_base.specs.declared.hash.ObjectId.{ObjectId}
+use Rattle.gix_merge_base.proofs.Heads.{first_is_octopus, first_is_common}
+use Rattle.gix_merge_base.proofs.Loads.{met_of_loads}
+use Rattle.gix_merge_base.proofs.Sorting.{few_in_order}
 use Rattle.gix_merge_base.proofs.merge_base.heads.octopus.Goals as goal
 
-pub returns-clause-held : goal.returns-clause-held
-returns-clause-held g c q there = c.best_of.ensures.after.graph.held q (c.in_ok-bases.ensures.after.graph.held q there)
+pub returns-clause-first : goal.returns-clause-first
+returns-clause-first g c =
+    let differ = sym c.all_are.ensures ∙ c.if-all_are.false in
+    (c.in_ok-bases.bases.items, record { bases = λ acyclic _. c.in_ok-bases.ensures.bases acyclic; order = c.in_ok-bases.ensures.order; alone = λ all. cc }, (c.copied.ensures ∙ c.first.ensures.value ∙ ap (λ (l : List ObjectId). slice_get l 0) c.deref.ensures.value))
+
+pub returns-then-all_are-clause-first : goal.returns-then-all_are-clause-first
+returns-then-all_are-clause-first g c =
+    let all = sym c.all_are.ensures ∙ c.if-all_are.true in
+    (c.args.first ∷ [], record { bases = λ acyclic differ. cc; order = few_in_order (g.S.Find.history c.args.graph.now.source) (c.args.first ∷ []) (omega arith); alone = λ _. refl }, refl)
 
 pub returns-clause-base : goal.returns-clause-base
 returns-clause-base g c acyclic rises =
     let differ = sym c.all_are.ensures ∙ c.if-all_are.false in
-    let best = rw (c.deref.ensures.value, c.in_ok-bases.ensures.after.graph.same_history) at c.best_of.ensures.best in
-    IfOk-weaker c.best_of.result _ _ (λ r is. best_is_octopus _ _ _ _ r differ rises (c.in_ok-bases.ensures.bases acyclic) is) best
+    first_is_octopus _ _ _ c.in_ok-bases.bases.items _ differ rises (c.in_ok-bases.ensures.bases acyclic) c.in_ok-bases.ensures.order (c.copied.ensures ∙ c.first.ensures.value ∙ ap (λ (l : List ObjectId). slice_get l 0) c.deref.ensures.value)
 
 pub returns-clause-common : goal.returns-clause-common
-returns-clause-common g c acyclic differ =
-    let best = rw (c.deref.ensures.value, c.in_ok-bases.ensures.after.graph.same_history) at c.best_of.ensures.best in
-    IfOk-weaker c.best_of.result _ _ (λ r is. best_is_common _ _ _ _ r (c.in_ok-bases.ensures.bases acyclic) is) best
+returns-clause-common g c acyclic differ = first_is_common _ _ _ c.in_ok-bases.bases.items _ (c.in_ok-bases.ensures.bases acyclic) (c.copied.ensures ∙ c.first.ensures.value ∙ ap (λ (l : List ObjectId). slice_get l 0) c.deref.ensures.value)
+
+pub returns-clause-reached : goal.returns-clause-reached
+returns-clause-reached g c = met_of_loads c.bases_of_heads.ensures.loads
+
+pub returns-in_err-bases-clause-reached : goal.returns-in_err-bases-clause-reached
+returns-in_err-bases-clause-reached g c = met_of_loads c.bases_of_heads.ensures.loads
 
 pub returns-then-all_are-clause-base : goal.returns-then-all_are-clause-base
 returns-then-all_are-clause-base g c acyclic rises = let all = sym c.all_are.ensures ∙ c.if-all_are.true in rw all refl

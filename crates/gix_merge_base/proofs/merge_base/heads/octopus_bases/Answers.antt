@@ -1,5 +1,6 @@
 use Rattle.std.proofs.Common.{◌≡◌, [], ◌∷◌, arith}
 use Rattle.gix_merge_base.proofs.Sorting.{few_in_order}
+use Rattle.gix_merge_base.proofs.Loads.{met_of_loads}
 use Rattle.gix_merge_base.proofs.merge_base.heads.octopus_bases.Goals as goal
 
 pub returns-then-all_are-clause-order : goal.returns-then-all_are-clause-order
@@ -12,3 +13,6 @@ returns-clause-bases g c acyclic differ = c.bases_of_heads.ensures.bases acyclic
 
 pub returns-clause-order : goal.returns-clause-order
 returns-clause-order g c = c.bases_of_heads.ensures.order
+
+pub returns-clause-reached : goal.returns-clause-reached
+returns-clause-reached g c = met_of_loads c.bases_of_heads.ensures.loads

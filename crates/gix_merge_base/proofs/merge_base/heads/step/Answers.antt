@@ -1,6 +1,8 @@
 use Rattle.std.proofs.Common.{◌≡◌, ◌∙◌, ◌∷◌, [], length, sym, arith, tests}
 use Rattle.gix_merge_base.proofs.Heads.{step_none, step_alone, step_best}
 use Rattle.gix_merge_base.proofs.Sorting.{few_in_order}
+use Rattle.std.proofs.Common.{inl, inr}
+use Rattle.gix_revwalk.proofs.Members.{one_of-head}
 use Rattle.gix_merge_base.proofs.merge_base.heads.step.Goals as goal
 
 pub returns-then-is_empty-clause-step : goal.returns-then-is_empty-clause-step
@@ -24,3 +26,14 @@ pub returns-then-stands_in-clause-order : goal.returns-then-stands_in-clause-ord
 returns-then-stands_in-clause-order g c =
     let items : c.in_ok-alone.alone.items ≡ c.args.head ∷ [] = c.in_ok-alone.ensures.items_if_clones_equal (λ x y same. same) in
     rw items (few_in_order (g.S.Find.history c.args.graph.now.source) (c.args.head ∷ []) (omega arith))
+
+pub returns-then-is_empty-clause-below : goal.returns-then-is_empty-clause-below
+returns-then-is_empty-clause-below g c = rw c.new.ensures.items (λ x k. cc)
+
+pub returns-then-stands_in-clause-below : goal.returns-then-stands_in-clause-below
+returns-then-stands_in-clause-below g c =
+    let items : c.in_ok-alone.alone.items ≡ c.args.head ∷ [] = c.in_ok-alone.ensures.items_if_clones_equal (λ x y same. same) in
+    rw items (λ x k. inl k)
+
+pub returns-clause-below : goal.returns-clause-below
+returns-clause-below g c x k = inr (c.args.head, one_of-head c.args.head [], (c.in_ok-left.ensures.common x k).0)

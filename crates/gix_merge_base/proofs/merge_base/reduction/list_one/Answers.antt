@@ -13,6 +13,8 @@ use Rattle.gix_merge_base.specs.declared.merge_base.flags.Flags.{Flags}
 use Rattle.gix_merge_base.proofs.Listed.{listed-grown, listed-same, listed-push}
 use Rattle.gix_merge_base.proofs.Numbered.{given-marks, given-queued, same-marks}
 use Rattle.gix_merge_base.proofs.QueueKeys.{number-id, kept-grown, kept-same}
+use Rattle.gix_revwalk.proofs.Growth.{more-taken}
+use Rattle.gix_merge_base.proofs.QueueKeys.{holds-after}
 use Rattle.gix_merge_base.proofs.merge_base.reduction.list_one.Goals as goal
 
 pub returns-in-Ok-None-clause-listed : goal.returns-in-Ok-None-clause-listed
@@ -98,3 +100,18 @@ pub returns-in-Ok-None-clause-after : goal.returns-in-Ok-None-clause-after
 returns-in-Ok-None-clause-after g c =
     let taken = rw c.in-Ok-None.field-0-is at c.in-Ok-None.ensures in
     record { graph = record { same_history = taken.history; count = taken.count; held = kept-grown c.args.graph.now c.take.new.graph taken.grows }; cause = tt }
+
+pub returns-in-Ok-None-clause-holds : goal.returns-in-Ok-None-clause-holds
+returns-in-Ok-None-clause-holds g c = let taken = rw c.in-Ok-None.field-0-is at c.in-Ok-None.ensures in more-taken (g.S.Find.history c.args.graph.now.source) c.args.graph.now c.take.new.graph c.args.id _ taken.taken
+
+pub returns-clause-holds : goal.returns-clause-holds
+returns-clause-holds g c =
+    let taken = rw c.in-Ok-Some.field-0-is at c.in-Ok-Some.ensures in
+    holds-after (g.S.Find.history c.args.graph.now.source) (c.args.id ∷ []) c.args.graph.now c.take.new.graph c.set_mark.new.graph c.set_mark.ensures.ids
+    (more-taken (g.S.Find.history c.args.graph.now.source) c.args.graph.now c.take.new.graph c.args.id _ taken.taken)
+
+pub returns-in-Err-push-clause-holds : goal.returns-in-Err-push-clause-holds
+returns-in-Err-push-clause-holds g c = let taken = rw c.in-Ok-Some.field-0-is at c.in-Ok-Some.ensures in more-taken (g.S.Find.history c.args.graph.now.source) c.args.graph.now c.take.new.graph c.args.id _ taken.taken
+
+pub returns-in_default-clause-holds : goal.returns-in_default-clause-holds
+returns-in_default-clause-holds g c = let taken = rw c.in-Ok-Some.field-0-is at c.in-Ok-Some.ensures in more-taken (g.S.Find.history c.args.graph.now.source) c.args.graph.now c.take.new.graph c.args.id _ taken.taken

@@ -13,6 +13,8 @@ use Rattle.gix_merge_base.proofs.Numbered.{ids-popped, held-permutation}
 use Rattle.gix_merge_base.proofs.QueueKeys.{key-popped}
 use Rattle.gix_merge_base.proofs.Reduction.{reduce_goes, reduce_cuts, reduce_permuted, fewer_cut, fewer_left, left_to_meet}
 use Rattle.gix_merge_base.proofs.Unmet.{unstale_alike, met_since, numbers_held, numbers_ids, order_grown}
+use Rattle.gix_revwalk.proofs.Members.{one_of-head}
+use Rattle.gix_merge_base.proofs.Loads.{loads_same, loads_then, loads_parents, reducing_below}
 use Rattle.gix_merge_base.proofs.merge_base.reduction.meet.Goals as goal
 
 less : (a b d : ℕ) → a ≡ b → b + 1 ≤ d → a < d
@@ -41,6 +43,7 @@ loop-key-init g c =
       ids = λ q. list_any-IsPermutation (same_id q) _ _ order.ids;
       before = λ k d low high. absurd (omega arith);
       queued = c.requires.queued;
+      loads = loads_same _ _ refl;
       after = after_none _;
     }
 
@@ -80,6 +83,7 @@ loop-key-preserved-then-key-left g c =
       ids = c.loop-key.invariant.ids;
       before = left.before;
       queued = queued_popped h graph c.loop-key.walk.front _ c.in-Some.key c.in-Some.number c.in-Some.ensures.taken c.loop-key.invariant.queued;
+      loads = c.loop-key.invariant.loads;
       after = c.loop-key.invariant.after;
     }
 
@@ -108,6 +112,7 @@ loop-key-preserved g c =
       ids = λ q. c.loop-key.invariant.ids q ∙ ap (λ l. is_one_of l q) (sym grown);
       before = subst (λ l. AreMetBefore (marks_at new) l c.left_from-left.result.place) (sym grown) (met_since m (marks_at new) (queued_ids graph order) _ did.more left.before);
       queued = keeps.queued (queued_popped h graph c.loop-key.walk.front _ c.in-Some.key c.in-Some.number c.in-Some.ensures.taken c.loop-key.invariant.queued);
+      loads = loads_then c.loop-key.invariant.loads (loads_parents _ _ id (reducing_below h ids m (id ∷ queued_ids graph rs) at id (one_of-head id (queued_ids graph rs))) (rw same at c.hand_parents.ensures.meets.more));
       after = after_more _ _ _ _ c.loop-key.invariant.after (after_step _ _ c.in_default-hand_parents.ensures.meets.graph);
     }
 
@@ -132,3 +137,25 @@ loop-key-smaller g c =
 pub returns-in-Err-clause-after : goal.returns-in-Err-clause-after
 returns-in-Err-clause-after g c =
     after_more _ _ _ _ c.loop-key.invariant.after record { graph = graph_as _ _ _ _ (sym c.parent_refused.ensures.same) c.in-Err.ensures.meets.graph; cause = c.parent_refused.ensures.cause }
+
+pub returns-in-Err-clause-loads : goal.returns-in-Err-clause-loads
+returns-in-Err-clause-loads g c =
+    let h = g.S.Find.history c.args.graph.now.source in
+    let same = c.loop-key.invariant.after.graph.same_history in
+    let graph = c.loop-key.graph in
+    let ids = ids_at c.args.graph.now c.args.numbers.now in
+    let m = marks_at graph in
+    let id = id_at graph (place_in c.in-Some.number) in
+    let rs = c.pop.new.self in
+    let perm = ids-popped graph graph refl c.in-Some.key c.in-Some.number c.loop-key.walk.front.queue rs c.in-Some.ensures.taken in
+    let at = reduce_permuted h ids m (queued_ids graph c.loop-key.walk.front.queue) (id ∷ queued_ids graph rs) perm c.loop-key.invariant.at in
+    loads_then c.loop-key.invariant.loads (loads_parents _ _ id (reducing_below h ids m (id ∷ queued_ids graph rs) at id (one_of-head id (queued_ids graph rs))) (rw same at c.hand_parents.ensures.meets.more))
+
+pub returns-then-walk-le1-clause-loads : goal.returns-then-walk-le1-clause-loads
+returns-then-walk-le1-clause-loads g c = c.loop-key.invariant.loads
+
+pub returns-clause-loads : goal.returns-clause-loads
+returns-clause-loads g c = c.loop-key.invariant.loads
+
+pub returns-in_err-order-clause-loads : goal.returns-in_err-order-clause-loads
+returns-in_err-order-clause-loads g c = loads_same _ _ refl

@@ -6,6 +6,7 @@ use Rattle.gix_merge_base.specs.PaintQueue.{marks_at, queued_ids, ids_at}
 use Rattle.gix_merge_base.specs.ReduceSteps.{Reducing, IsOrder, AreMetBefore}
 use Rattle.gix_merge_base.proofs.AfterCalls.{AfterCalls}
 use Rattle.gix_merge_base.proofs.Reduction.{left_to_meet}
+use Rattle.gix_merge_base.specs.AfterCall.{LoadsFrom}
 use Rattle.gix_merge_base.proofs.merge_base.reduction.meet.Given as goal
 
 abbrev pub invariant-loop-key : goal.invariant-loop-key
@@ -16,6 +17,7 @@ invariant-loop-key g l = record {
   ids : (c : ObjectId) → is_one_of (ids_at l.fn.graph l.numbers) c ≡ is_one_of (queued_ids l.graph l.order.items) c;
   before : AreMetBefore (marks_at l.graph) (queued_ids l.graph l.order.items) l.place;
   queued : IsQueued (g.S.Find.history l.fn.graph.source) l.graph l.walk.front;
+  loads : LoadsFrom (g.S.Find.history l.fn.graph.source) (ids_at l.fn.graph l.numbers) l.fn.graph l.graph;
   after : AfterCalls g.S.Find.history g.S.Find.fault_count l.fn.graph l.graph;
 }
 

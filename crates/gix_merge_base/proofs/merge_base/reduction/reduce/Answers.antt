@@ -10,6 +10,7 @@ use Rattle.gix_merge_base.specs.ReduceSteps.{Reducing, Reduced}
 use Rattle.gix_merge_base.proofs.Alone.{reduced_exactly, reduced_keeps}
 use Rattle.gix_merge_base.proofs.Listed.{known-inside, known-every}
 use Rattle.gix_merge_base.proofs.Reduction.{reduce_begins}
+use Rattle.gix_merge_base.proofs.Loads.{loads_then, loads_within, from_firsts, from_known}
 use Rattle.gix_merge_base.proofs.merge_base.reduction.reduce.Goals as goal
 
 pub meet_parents-requires-clause-inside : goal.meet_parents-requires-clause-inside
@@ -78,3 +79,47 @@ returns-clause-independent g c acyclic never c' =
     let chain = c.in_ok-meet_parents.ensures.after.graph.same_history ∙ c.in_ok-numbers.ensures.after.graph.same_history in
     let reduced : Reduced h ns (marks_at new) = subst (λ z. Reduced z ns (marks_at new)) chain c.in_ok-meet.ensures.met in
     rw ((returns-clause-some g c).1) (reduced_exactly h ids ns (marks_at new) acyclic reduced (known-inside h ids ns known) (known-every h ids ns known) never c')
+
+pub returns-in_err-numbers-clause-reached : goal.returns-in_err-numbers-clause-reached
+returns-in_err-numbers-clause-reached g c = (loads_within c.deref.result.now (from_firsts _ _ _ (c.deref.ensures.value ∙ c.in_ok-left.ensures)) c.list.ensures.loads).held
+
+pub returns-in_err-meet_parents-clause-reached : goal.returns-in_err-meet_parents-clause-reached
+returns-in_err-meet_parents-clause-reached g c =
+    let h = g.S.Find.history c.args.graph.now.source in
+    let ids = c.args.ids.now in
+    let listed = c.list.new.graph in
+    let ns = ids_at listed c.deref-2.result.now in
+    let known : ns ≡ filter (λ p. is_some (entry_at h p)) (firsts ids) =
+    ap (ids_at listed) c.deref-2.ensures.value ∙ c.in_ok-numbers.ensures.ids ∙ ap (filter (λ p. is_some (entry_at h p))) (c.deref.ensures.value ∙ c.in_ok-left.ensures) in
+    let met = rw c.list.ensures.after.graph.same_history at c.meet_parents.ensures.loads in
+    (loads_then (loads_within c.deref.result.now (from_firsts h ids _ (c.deref.ensures.value ∙ c.in_ok-left.ensures)) c.list.ensures.loads) (loads_within ns (from_known h ids ns known) met)).held
+
+pub returns-in_err-meet-clause-reached : goal.returns-in_err-meet-clause-reached
+returns-in_err-meet-clause-reached g c =
+    let h = g.S.Find.history c.args.graph.now.source in
+    let ids = c.args.ids.now in
+    let listed = c.list.new.graph in
+    let mid = c.meet_parents.new.graph in
+    let ns = ids_at listed c.deref-2.result.now in
+    let known : ns ≡ filter (λ p. is_some (entry_at h p)) (firsts ids) =
+    ap (ids_at listed) c.deref-2.ensures.value ∙ c.in_ok-numbers.ensures.ids ∙ ap (filter (λ p. is_some (entry_at h p))) (c.deref.ensures.value ∙ c.in_ok-left.ensures) in
+    let three : ids_at mid c.deref-3.result.now ≡ ns = ap (ids_at mid) (c.deref-3.ensures.value ∙ sym c.deref-2.ensures.value) ∙ c.in_ok-meet_parents.ensures.same.1 in
+    let met = rw c.list.ensures.after.graph.same_history at c.meet_parents.ensures.loads in
+    let all = rw (c.in_ok-meet_parents.ensures.after.graph.same_history, c.in_ok-numbers.ensures.after.graph.same_history) at c.meet.ensures.loads in
+    (loads_then (loads_within c.deref.result.now (from_firsts h ids _ (c.deref.ensures.value ∙ c.in_ok-left.ensures)) c.list.ensures.loads)
+    (loads_then (loads_within ns (from_known h ids ns known) met) (loads_within (ids_at mid c.deref-3.result.now) (from_known h ids _ (three ∙ known)) all))).held
+
+pub returns-clause-reached : goal.returns-clause-reached
+returns-clause-reached g c =
+    let h = g.S.Find.history c.args.graph.now.source in
+    let ids = c.args.ids.now in
+    let listed = c.list.new.graph in
+    let mid = c.meet_parents.new.graph in
+    let ns = ids_at listed c.deref-2.result.now in
+    let known : ns ≡ filter (λ p. is_some (entry_at h p)) (firsts ids) =
+    ap (ids_at listed) c.deref-2.ensures.value ∙ c.in_ok-numbers.ensures.ids ∙ ap (filter (λ p. is_some (entry_at h p))) (c.deref.ensures.value ∙ c.in_ok-left.ensures) in
+    let three : ids_at mid c.deref-3.result.now ≡ ns = ap (ids_at mid) (c.deref-3.ensures.value ∙ sym c.deref-2.ensures.value) ∙ c.in_ok-meet_parents.ensures.same.1 in
+    let met = rw c.list.ensures.after.graph.same_history at c.meet_parents.ensures.loads in
+    let all = rw (c.in_ok-meet_parents.ensures.after.graph.same_history, c.in_ok-numbers.ensures.after.graph.same_history) at c.meet.ensures.loads in
+    (loads_then (loads_within c.deref.result.now (from_firsts h ids _ (c.deref.ensures.value ∙ c.in_ok-left.ensures)) c.list.ensures.loads)
+    (loads_then (loads_within ns (from_known h ids ns known) met) (loads_within (ids_at mid c.deref-3.result.now) (from_known h ids _ (three ∙ known)) all))).held
