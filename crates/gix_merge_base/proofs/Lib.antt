@@ -28,6 +28,7 @@ pub mod Fronts
 pub mod PaintPops
 pub mod Unheld
 pub mod Loads
+pub mod Residuals
 pub mod ParentsOf
 pub mod Reduction
 pub mod Heads

@@ -2,6 +2,7 @@ use Rattle.std.proofs.Common.{◌≤◌, ◌∷◌, length, arith, rules, subst,
 use Rattle.gix_merge_base.specs.Reducing.{SomeOf}
 use Rattle.gix_merge_base.proofs.Best.{max_of_painted, painted_within, few_are_max, few_alike, some_once, some_within}
 use Rattle.gix_merge_base.proofs.Maximal.{common_has}
+use Rattle.gix_merge_base.proofs.Residuals.{after_err}
 use Rattle.gix_merge_base.proofs.Reached.{acyclic_within, never_within}
 use Rattle.gix_merge_base.proofs.Sorting.{few_in_order}
 use Rattle.gix_merge_base.proofs.Loads.{loads_of_met, loads_of_reached, loads_then, loads_within, from_common}
@@ -115,30 +116,30 @@ returns-then-len-le1-clause-after g c = record {
 }
 
 pub returns-in_err-painted-clause-after : goal.returns-in_err-painted-clause-after
-returns-in_err-painted-clause-after g c = record {
-  graph = record { same_history = c.paint.ensures.history; count = search rules; held = c.paint.ensures.held };
-  cause = search rules;
-}
+returns-in_err-painted-clause-after g c = after_err {U = Unit {0}} _ _ _ c.in_err-painted.field-0.0 c.from_residual.ensures.1 (record {
+  graph = record { same_history = c.paint.ensures.history; count = c.in_err-painted.ensures.count; held = c.paint.ensures.held };
+  cause = c.in_err-painted.ensures.cause;
+})
 
 pub returns-in_err-left-clause-after : goal.returns-in_err-left-clause-after
-returns-in_err-left-clause-after g c = record {
+returns-in_err-left-clause-after g c = after_err {U = Unit {0}} _ _ _ c.in_err-left.field-0.0 c.from_residual-in_err-left.ensures.1 (record {
   graph = record {
     same_history = c.reduce.ensures.history ∙ c.paint.ensures.history;
-    count = search rules;
+    count = rw c.in_ok-painted.ensures.count at c.in_err-left.ensures.count;
     held = λ q k. c.reduce.ensures.held q (c.paint.ensures.held q k);
   };
-  cause = search rules;
-}
+  cause = c.in_err-left.ensures.cause;
+})
 
 pub returns-in_err-ordered-clause-after : goal.returns-in_err-ordered-clause-after
-returns-in_err-ordered-clause-after g c = record {
+returns-in_err-ordered-clause-after g c = after_err {U = Unit {0}} _ _ _ c.in_err-ordered.field-0.0 c.from_residual-in_err-ordered.ensures.1 (record {
   graph = record {
     same_history = c.in_order.ensures.after.graph.same_history ∙ c.reduce.ensures.history ∙ c.paint.ensures.history;
-    count = search rules;
+    count = rw (c.in_ok-left.ensures.count, c.in_ok-painted.ensures.count) at c.in_err-ordered.ensures.after.graph.count;
     held = λ q k. c.in_order.ensures.after.graph.held q (c.reduce.ensures.held q (c.paint.ensures.held q k));
   };
-  cause = search rules;
-}
+  cause = c.in_err-ordered.ensures.after.cause;
+})
 
 pub returns-then-len-le1-clause-common : goal.returns-then-len-le1-clause-common
 returns-then-len-le1-clause-common g c = c.in_ok-painted.ensures.common
