@@ -7,6 +7,7 @@ use Rattle.gix_merge_base.specs.Bases.{IsBase, CoverBases}
 use Rattle.gix_merge_base.proofs.Answered.{from-vec, not_plain, base-from_max, bases-found}
 use Rattle.gix_merge_base.proofs.Sorting.{few_in_order}
 use Rattle.gix_merge_base.proofs.Loads.{met_of_loads}
+use Rattle.gix_merge_base.proofs.Residuals.{count_err, cause_err}
 use Rattle.gix_merge_base.proofs.merge_base.bases.counted.Goals as goal
 
 pub returns-then-is_empty-clause-once : goal.returns-then-is_empty-clause-once
@@ -69,3 +70,9 @@ returns-in_err-found-clause-reached g c = met_of_loads c.best.ensures.loads
 
 pub returns-clause-reached : goal.returns-clause-reached
 returns-clause-reached g c = met_of_loads c.best.ensures.loads
+
+pub returns-in_err-found-clause-count : goal.returns-in_err-found-clause-count
+returns-in_err-found-clause-count g c = count_err _ c.in_err-found.field-0.0 _ _ c.from_residual.ensures.1 c.in_err-found.ensures.after.graph.count
+
+pub returns-in_err-found-clause-cause : goal.returns-in_err-found-clause-cause
+returns-in_err-found-clause-cause g c = cause_err _ c.in_err-found.field-0.0 c.from_residual.ensures.1 c.in_err-found.ensures.after.cause

@@ -9,6 +9,7 @@ use Rattle.gix_merge_base.proofs.Reached.{reach_among, acyclic_within}
 use Rattle.gix_merge_base.proofs.Reduction.{firsts_once}
 use Rattle.gix_merge_base.proofs.Sorting.{few_in_order}
 use Rattle.gix_merge_base.proofs.Loads.{from_firsts, from_among, loads_then, loads_within}
+use Rattle.gix_merge_base.proofs.Residuals.{after_err}
 use Rattle.gix_merge_base.proofs.merge_base.heads.bases_of_heads.Goals as goal
 
 pub returns-then-len-clause-bases : goal.returns-then-len-clause-bases
@@ -75,3 +76,6 @@ returns-clause-loads g c =
     let loads = rw c.in_ok-known.ensures.after.graph.same_history at c.steps.ensures.loads in
     loads_then (loads_within c.deref.result.now (from_firsts h ids c.deref.result.now (c.deref.ensures.value ∙ c.in_ok-heads.ensures)) c.in_order.ensures.loads)
     (loads_within (newest ∷ c.deref-2.result.now) (from_among h ids (newest ∷ c.deref-2.result.now) (λ x k. (same x).0 (subst (λ l. IsTrue (is_one_of l x)) all k))) loads)
+
+pub returns-in_err-known-clause-after : goal.returns-in_err-known-clause-after
+returns-in_err-known-clause-after g c = after_err _ _ _ c.in_err-known.field-0.0 c.from_residual-in_err-known.ensures.1 c.in_err-known.ensures.after

@@ -4,6 +4,7 @@ use Rattle.gix_base.specs.declared.hash.ObjectId.{ObjectId}
 use Rattle.gix_merge_base.proofs.Heads.{first_is_octopus, first_is_common}
 use Rattle.gix_merge_base.proofs.Loads.{met_of_loads}
 use Rattle.gix_merge_base.proofs.Sorting.{few_in_order}
+use Rattle.gix_merge_base.proofs.Residuals.{count_err, cause_err}
 use Rattle.gix_merge_base.proofs.merge_base.heads.octopus.Goals as goal
 
 pub returns-clause-first : goal.returns-clause-first
@@ -38,3 +39,24 @@ returns-then-all_are-clause-common g c acyclic differ = let all = sym c.all_are.
 
 pub returns-then-all_are-clause-trivial : goal.returns-then-all_are-clause-trivial
 returns-then-all_are-clause-trivial g c all = (refl, refl)
+
+pub returns-in_err-bases-clause-count : goal.returns-in_err-bases-clause-count
+returns-in_err-bases-clause-count g c = count_err _ c.in_err-bases.field-0.0 _ _ c.from_residual.ensures.1 c.in_err-bases.ensures.after.graph.count
+
+pub returns-in_err-bases-clause-cause : goal.returns-in_err-bases-clause-cause
+returns-in_err-bases-clause-cause g c = cause_err _ c.in_err-bases.field-0.0 c.from_residual.ensures.1 c.in_err-bases.ensures.after.cause
+
+pub returns-in_err-bases-clause-history : goal.returns-in_err-bases-clause-history
+returns-in_err-bases-clause-history g c = c.bases_of_heads.ensures.after.graph.same_history
+
+pub returns-in_err-bases-clause-held : goal.returns-in_err-bases-clause-held
+returns-in_err-bases-clause-held g c = c.bases_of_heads.ensures.after.graph.held
+
+pub returns-clause-history : goal.returns-clause-history
+returns-clause-history g c = c.bases_of_heads.ensures.after.graph.same_history
+
+pub returns-clause-count : goal.returns-clause-count
+returns-clause-count g c = c.in_ok-bases.ensures.after.graph.count
+
+pub returns-clause-held : goal.returns-clause-held
+returns-clause-held g c = c.bases_of_heads.ensures.after.graph.held

@@ -16,3 +16,15 @@ returns-clause-order g c = c.bases_of_heads.ensures.order
 
 pub returns-clause-reached : goal.returns-clause-reached
 returns-clause-reached g c = met_of_loads c.bases_of_heads.ensures.loads
+
+pub returns-clause-history : goal.returns-clause-history
+returns-clause-history g c = c.bases_of_heads.ensures.after.graph.same_history
+
+pub returns-clause-count : goal.returns-clause-count
+returns-clause-count g c = c.bases_of_heads.ensures.after.graph.count
+
+pub returns-clause-held : goal.returns-clause-held
+returns-clause-held g c = c.bases_of_heads.ensures.after.graph.held
+
+pub returns-clause-cause : goal.returns-clause-cause
+returns-clause-cause g c = c.bases_of_heads.ensures.after.cause

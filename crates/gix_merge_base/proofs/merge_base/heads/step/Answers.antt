@@ -3,6 +3,7 @@ use Rattle.gix_merge_base.proofs.Heads.{step_none, step_alone, step_best}
 use Rattle.gix_merge_base.proofs.Sorting.{few_in_order}
 use Rattle.std.proofs.Common.{inl, inr}
 use Rattle.gix_revwalk.proofs.Members.{one_of-head}
+use Rattle.gix_merge_base.proofs.Residuals.{after_err}
 use Rattle.gix_merge_base.proofs.merge_base.heads.step.Goals as goal
 
 pub returns-then-is_empty-clause-step : goal.returns-then-is_empty-clause-step
@@ -37,3 +38,15 @@ returns-then-stands_in-clause-below g c =
 
 pub returns-clause-below : goal.returns-clause-below
 returns-clause-below g c x k = inr (c.args.head, one_of-head c.args.head [], (c.in_ok-left.ensures.common x k).0)
+
+pub returns-in_err-left-clause-after : goal.returns-in_err-left-clause-after
+returns-in_err-left-clause-after g c = after_err _ _ _ c.in_err-left.field-0.0 c.from_residual-in_err-left.ensures.1 c.in_err-left.ensures.after
+
+pub returns-in_err-left-clause-loads : goal.returns-in_err-left-clause-loads
+returns-in_err-left-clause-loads g c = c.best.ensures.loads
+
+pub returns-clause-loads : goal.returns-clause-loads
+returns-clause-loads g c = c.best.ensures.loads
+
+pub returns-clause-order : goal.returns-clause-order
+returns-clause-order g c = c.in_ok-left.ensures.order

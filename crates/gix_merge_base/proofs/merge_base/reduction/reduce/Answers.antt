@@ -11,6 +11,7 @@ use Rattle.gix_merge_base.proofs.Alone.{reduced_exactly, reduced_keeps}
 use Rattle.gix_merge_base.proofs.Listed.{known-inside, known-every}
 use Rattle.gix_merge_base.proofs.Reduction.{reduce_begins}
 use Rattle.gix_merge_base.proofs.Loads.{loads_then, loads_within, from_firsts, from_known}
+use Rattle.gix_merge_base.proofs.Residuals.{count_err, cause_err}
 use Rattle.gix_merge_base.proofs.merge_base.reduction.reduce.Goals as goal
 
 pub meet_parents-requires-clause-inside : goal.meet_parents-requires-clause-inside
@@ -123,3 +124,48 @@ returns-clause-reached g c =
     let all = rw (c.in_ok-meet_parents.ensures.after.graph.same_history, c.in_ok-numbers.ensures.after.graph.same_history) at c.meet.ensures.loads in
     (loads_then (loads_within c.deref.result.now (from_firsts h ids _ (c.deref.ensures.value ∙ c.in_ok-left.ensures)) c.list.ensures.loads)
     (loads_then (loads_within ns (from_known h ids ns known) met) (loads_within (ids_at mid c.deref-3.result.now) (from_known h ids _ (three ∙ known)) all))).held
+
+pub returns-in_err-numbers-clause-count : goal.returns-in_err-numbers-clause-count
+returns-in_err-numbers-clause-count g c = count_err _ c.in_err-numbers.field-0.0 _ _ c.from_residual-in_err-numbers.ensures.1 c.in_err-numbers.ensures.after.graph.count
+
+pub returns-in_err-numbers-clause-cause : goal.returns-in_err-numbers-clause-cause
+returns-in_err-numbers-clause-cause g c = cause_err _ c.in_err-numbers.field-0.0 c.from_residual-in_err-numbers.ensures.1 c.in_err-numbers.ensures.after.cause
+
+pub returns-in_err-numbers-clause-history : goal.returns-in_err-numbers-clause-history
+returns-in_err-numbers-clause-history g c = c.list.ensures.after.graph.same_history
+
+pub returns-in_err-numbers-clause-held : goal.returns-in_err-numbers-clause-held
+returns-in_err-numbers-clause-held g c = c.list.ensures.after.graph.held
+
+pub returns-in_err-meet_parents-clause-count : goal.returns-in_err-meet_parents-clause-count
+returns-in_err-meet_parents-clause-count g c = count_err _ c.in_err-meet_parents.field-0.0 _ _ c.from_residual-in_err-meet_parents.ensures.1 (rw c.in_ok-numbers.ensures.after.graph.count at c.in_err-meet_parents.ensures.after.graph.count)
+
+pub returns-in_err-meet_parents-clause-cause : goal.returns-in_err-meet_parents-clause-cause
+returns-in_err-meet_parents-clause-cause g c = cause_err _ c.in_err-meet_parents.field-0.0 c.from_residual-in_err-meet_parents.ensures.1 c.in_err-meet_parents.ensures.after.cause
+
+pub returns-in_err-meet_parents-clause-history : goal.returns-in_err-meet_parents-clause-history
+returns-in_err-meet_parents-clause-history g c = c.meet_parents.ensures.after.graph.same_history ∙ c.list.ensures.after.graph.same_history
+
+pub returns-in_err-meet_parents-clause-held : goal.returns-in_err-meet_parents-clause-held
+returns-in_err-meet_parents-clause-held g c q k = c.meet_parents.ensures.after.graph.held q (c.list.ensures.after.graph.held q k)
+
+pub returns-in_err-meet-clause-count : goal.returns-in_err-meet-clause-count
+returns-in_err-meet-clause-count g c = count_err _ c.in_err-meet.field-0.0 _ _ c.from_residual-in_err-meet.ensures.1 (rw (c.in_ok-meet_parents.ensures.after.graph.count, c.in_ok-numbers.ensures.after.graph.count) at c.in_err-meet.ensures.after.graph.count)
+
+pub returns-in_err-meet-clause-cause : goal.returns-in_err-meet-clause-cause
+returns-in_err-meet-clause-cause g c = cause_err _ c.in_err-meet.field-0.0 c.from_residual-in_err-meet.ensures.1 c.in_err-meet.ensures.after.cause
+
+pub returns-in_err-meet-clause-history : goal.returns-in_err-meet-clause-history
+returns-in_err-meet-clause-history g c = c.meet.ensures.after.graph.same_history ∙ c.meet_parents.ensures.after.graph.same_history ∙ c.list.ensures.after.graph.same_history
+
+pub returns-in_err-meet-clause-held : goal.returns-in_err-meet-clause-held
+returns-in_err-meet-clause-held g c q k = c.meet.ensures.after.graph.held q (c.meet_parents.ensures.after.graph.held q (c.list.ensures.after.graph.held q k))
+
+pub returns-clause-history : goal.returns-clause-history
+returns-clause-history g c = c.meet.ensures.after.graph.same_history ∙ c.meet_parents.ensures.after.graph.same_history ∙ c.list.ensures.after.graph.same_history
+
+pub returns-clause-held : goal.returns-clause-held
+returns-clause-held g c q k = c.meet.ensures.after.graph.held q (c.meet_parents.ensures.after.graph.held q (c.list.ensures.after.graph.held q k))
+
+pub returns-clause-count : goal.returns-clause-count
+returns-clause-count g c = c.in_ok-meet.ensures.after.graph.count ∙ c.in_ok-meet_parents.ensures.after.graph.count ∙ c.in_ok-numbers.ensures.after.graph.count
