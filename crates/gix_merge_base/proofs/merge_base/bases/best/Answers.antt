@@ -1,4 +1,4 @@
-use Rattle.std.proofs.Common.{◌≤◌, ◌∷◌, length, arith, rules, subst, ◌∙◌}
+use Rattle.std.proofs.Common.{◌≤◌, ◌∷◌, length, arith, subst, ◌∙◌}
 use Rattle.gix_merge_base.specs.Reducing.{SomeOf}
 use Rattle.gix_merge_base.proofs.Best.{max_of_painted, painted_within, few_are_max, few_alike, some_once, some_within}
 use Rattle.gix_merge_base.proofs.Maximal.{common_has}
