@@ -1,4 +1,4 @@
--- What a call that looks commits up leaves of its source, and why it is refused.
+-- What a call that looks commits up does to its source, and why it fails.
 use Rattle.std.specs.Prelude.{◌≡◌, ℕ, ◌^◌, ◌⊎◌, Option, IfSome}
 use Rattle.gix_base.specs.declared.hash.ObjectId.{ObjectId}
 use Rattle.gix_base.specs.declared.error.message.Message.{Message}
@@ -8,21 +8,21 @@ use Rattle.gix_revwalk.specs.History.{History, Has, IsAncestor}
 use Rattle.gix_revwalk.specs.Sizes.{AtLeast}
 use Rattle.gix_describe.specs.DescribeRefusals.{is_for_source}
 
--- the history stays; the count of faults is one more where the source failed, and else as it was; and
--- a refusal has its cause
+-- The call keeps the history of the source. The count of faults grows by one if the source failed,
+-- and is unchanged otherwise. An error has its cause.
 pub record Asks {S : Type 0} (history : S → History) (faults : S → ℕ) (Cause : Message → Type 0) (before after : S) (refused : Option Message) : Type 0 where
   pub same_history : history after ≡ history before
   pub count : faults after ≡ count_after (is_for_source refused) (faults before)
   pub cause : IfSome refused Cause
 
--- why the parents of x are not had
+-- The reason why the parents of x could not be loaded.
 abbrev pub IsHandRefused : History → ObjectId → Message → Type 0
 IsHandRefused h x (ParentsOf id) = id ≡ x
 IsHandRefused h x (MissingStart id) = (id ≡ x) × (¬ Has h x)
 IsHandRefused h x CounterFull = ⊥
 IsHandRefused h x OutOfMemory = Unit {0}
 
--- why a walk from s is refused
+-- The reason why a walk from s fails.
 abbrev pub IsWalkRefused : History → ObjectId → Message → Type 0
 IsWalkRefused h s (ParentsOf id) = (id ≡ s) ⊎ IsAncestor h s id
 IsWalkRefused h s (MissingStart id) = (id ≡ s) × (¬ Has h s)

@@ -9,32 +9,34 @@ use Rattle.gix_revwalk.specs.History.{History, Has, IsAncestor}
 use Rattle.gix_revwalk.specs.Sizes.{HasSize}
 use Rattle.gix_describe.specs.Described.{Names, name_at, IsNamedBy}
 
--- a candidate's count, name and id
+-- The rank of a candidate is its count, its name and its id.
 abbrev pub Rank : Type 0
 Rank = ℕ × List ℕ × List ℕ
 
--- by count, then by name, then by id
+-- Ranks are compared by count, then by name, then by id.
 abbrev pub rank_order : Rank → Rank → Ordering
 rank_order = then_cmp (then_cmp (on (λ r. r.0) nat_cmp) (on (λ r. r.1) (slice_cmp nat_cmp))) (on (λ r. r.2) (slice_cmp nat_cmp))
 
--- the name of a commit; no bytes where it has none
+-- The name of commit c; no bytes if c has none.
 abbrev pub name_of : Names → ObjectId → List ℕ
 name_of names c = unwrap_or (name_at names c) []
 
+-- The rank of the commit id with a count.
 abbrev pub rank_of : Names → ℕ → ObjectId → Rank
 rank_of names count id = (count, name_of names id, id.0)
 
--- the rank of the candidate at a place
+-- The rank of the candidate at place j.
 abbrev pub rank_at : Names → List ObjectId → List ℕ → ObjectId → ℕ → Rank
 rank_at names candidates counts d j = rank_of names (slice_index counts j) (get_or candidates j d)
 
--- none of the candidates comes before the one at place j
+-- The candidate at place j is chosen if no candidate comes before it.
 abbrev pub IsChosen : Names → List ObjectId → List ℕ → ℕ → Type 0
 IsChosen names candidates counts j =
     (j < length candidates) × ((d : ObjectId) (k : ℕ) → k < length candidates
     → is_gt (rank_order (rank_at names candidates counts d j) (rank_at names candidates counts d k)) ≡ false)
 
--- the named ancestor with its depth, or none; and how many commits were seen
+-- A walk from s finds a named ancestor with its depth, or none if no ancestor has a name. It also
+-- finds how many commits were seen: all ancestors, if none has a name.
 abbrev pub IsFound : History → ObjectId → Names → ℕ → Option (ObjectId × ℕ) → ℕ → Type 0
 IsFound h s names cap best seen =
     Has h s × MatchOption best

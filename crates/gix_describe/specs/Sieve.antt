@@ -5,10 +5,11 @@ use Rattle.gix_base.specs.declared.hash.ObjectId.{ObjectId}
 use Rattle.gix_describe.specs.Described.{Names}
 use Rattle.gix_describe.specs.Trace.{is_named}
 
--- the bit of an id: its last two bytes say the word, and the place in it
+-- The bit of an id. The last byte of the id selects the word, the byte before it the place in the
+-- word.
 abbrev pub bit_in : List ℕ → ObjectId → ℕ
 bit_in words id = bit_at (slice_index words (slice_index id.0 19 % 64)) (slice_index id.0 18 % 64)
 
--- what has a name has its bit
+-- The bit of every id that has a name is set.
 abbrev pub LetsPass : List ℕ → Names → Type 0
 LetsPass words names = (c : ObjectId) → IsTrue (is_named names c) → bit_in words c ≡ 1

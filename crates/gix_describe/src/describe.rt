@@ -1,4 +1,4 @@
-//! The names of commits, by the nearest named ancestor: git-describe.
+//! Finds a name for a commit: its own, or that of a near ancestor (git-describe).
 
 mod format;
 mod function;
@@ -19,8 +19,9 @@ pub use options::{Names, Options};
 pub use outcome::Outcome;
 pub use queries::{Answer, Query, run};
 
-/// The marks that a graph keeps beside an id while a commit is described.
+/// The data that a graph has for each commit while [`describe()`] walks: one bit for each
+/// candidate.
 pub type Flags = u32;
 
-/// Why a commit is not described.
+/// The reason why a commit is not described.
 pub type Error = gix_base::error::Message;

@@ -1,4 +1,4 @@
-//! The nearest name of a commit.
+//! Finds the nearest name of a commit.
 
 ghost use Rattle.std.specs.Prelude.{◌≡◌, min, IfOk, IfErr, IfSome, IsOk, IsTrue, None, Some};
 ghost use Rattle.std.specs.Option.{option_map};
@@ -19,7 +19,7 @@ use gix_base::hash::ObjectId;
 use gix_revwalk::graph::{Find, Graph};
 use std::alloc::Allocator;
 
-/// The answer without a name, where it is asked for.
+/// Returns the answer without a name if it was asked for.
 fn without_name<'name, A: Allocator>(
     id: ObjectId,
     name_by_oid: Names<'name, A>,
@@ -42,7 +42,7 @@ fn without_name<'name, A: Allocator>(
     }
 }
 
-/// The answer with the name of a commit. Where the commit has none, there is no answer.
+/// Returns the answer with the name of a commit, or `None` if the commit has no name.
 fn with_name_of<'name, A: Allocator + Copy>(
     named_id: ObjectId,
     id: ObjectId,
@@ -68,36 +68,46 @@ fn with_name_of<'name, A: Allocator + Copy>(
     }))
 }
 
-/// Whether there is no name, or none may be taken.
+/// Tests whether there are no names, or none may be taken.
 fn is_idle<'name, A: Allocator>(names: &Names<'name, A>, max_candidates: usize) -> bool
     ensures { result ≡ nothing_to_find (names_of names.now.entries) (min max_candidates 32) }
 {
     max_candidates == 0 || names.is_empty()
 }
 
-/// How many names are weighed against each other: a mark is one of 32 bits.
+/// Returns how many names are weighed against each other. A mark is one of 32 bits.
 fn room(max_candidates: usize) -> usize
     ensures { result ≡ min max_candidates 32 }
 {
     max_candidates.min(32)
 }
 
-/// What [`describe`] answers, and how many commits left the queue for it: 0 where no walk is made.
+/// Finds a name as [`describe()`] does, and counts how many commits left the queue of the walk.
 ///
-/// Where the answer has a name the number is that of the commits seen, and one more where the walk was cut
-/// since there was no room for one more name: the commit that was given up leaves the queue again. Where
-/// no ancestor is named it is the number of ancestors, with `fallback_to_oid` and without.
+/// The count depends on the case of [`describe()`]:
+///
+/// - Without a walk (cases 1 and 2) it is 0.
+/// - If no ancestor has a name, it is the number of ancestors, with or without `fallback_to_oid`.
+/// - If the answer has the name of an ancestor, it is the number of commits seen. It is one more if
+///   the walk stops before one name more than it may weigh: the commit that has no room leaves the
+///   queue twice.
+///
+/// # Graph
+///
+/// [`describe()`] says what the graph holds.
 ///
 /// # Errors
 ///
-/// [`Message::ParentsOf`] only where the source failed: its count of faults is then one more, unless
-/// it is full, and after every other answer it is as it was. It names the commit whose parents were
-/// wanted: the graph holds `commit`, the parents of all commits that were visited before that one, and
-/// nothing else but parents of it. Where `commit` itself could not be had it names `commit`, and the
-/// graph is empty;
-/// [`Message::MissingStart`] where the source lacks `commit` and the history has to be walked;
-/// [`Message::CounterFull`] only where more commits than the greatest `u32` are reachable;
-/// [`Message::OutOfMemory`] where there was no memory. The graph can be used again after each.
+/// - [`Message::ParentsOf`]: the source failed. Its [fault count](crate#fault-count) has grown by
+///   one. The message names the commit whose parents were needed. The graph holds `commit`, the
+///   parents of every commit visited before that one, and nothing else except parents of that one.
+///   If `commit` itself could not be loaded, the message names `commit` and the graph is empty.
+/// - [`Message::MissingStart`]: the history has to be walked, and the source does not have
+///   `commit`.
+/// - [`Message::CounterFull`]: 2^32 or more commits are reachable.
+/// - [`Message::OutOfMemory`]: an allocation failed.
+///
+/// The graph can be used again after each.
 pub fn counted<'name, S: Find, A: Allocator + Copy>(
     alloc: A,
     commit: &ObjectId,
@@ -118,7 +128,7 @@ pub fn counted<'name, S: Find, A: Allocator + Copy>(
     ensures fault { IfErr result (λ e.
         HoldsAtFault (S.history graph.old.source) commit.now options.entry e (held_at graph.new)) }
     ensures untouched { (¬ Walks commit.now options.entry) → graph.new ≡ graph.old }
-    // Without a name to find no memory is taken.
+    // Takes no memory if there is no name to find.
     ensures no_walk { name_at (names_in options.entry) commit.now ≡ None
         → IsTrue (nothing_to_find (names_in options.entry) (cap_of options.entry)) → IsOk result }
     ensures history { S.history graph.new.source ≡ S.history graph.old.source }
@@ -154,36 +164,56 @@ pub fn counted<'name, S: Find, A: Allocator + Copy>(
     Ok((named, pops))
 }
 
-/// The nearest name of a commit, and how far it is: git-describe.
+/// Finds a name for `commit`: its own, or that of a near ancestor.
 ///
-/// A commit that has a name is answered with it, depth 0 and 0 commits seen. Where there are no names
-/// or `max_candidates` is 0, the answer is the id alone, with depth 0 and 0 commits seen, if
-/// `fallback_to_oid` is set, and `None` otherwise. In these cases the graph is not touched.
+/// This is `git describe`; `options` gives the names. The first case that applies decides:
 ///
-/// Otherwise the answer has the name of an ancestor along followed parents. Its depth is at least the
-/// number of commits ahead of that one, and least of all named ancestors where every parent is
-/// strictly older and at most `max_candidates` (and 32) of them are named. Where no ancestor is
-/// named, the answer is the id alone or `None` as above.
+/// 1. `commit` has a name: that name, depth 0, 0 commits seen.
+/// 2. There are no names, or `max_candidates` is 0: the id alone if `fallback_to_oid` is set, with
+///    depth 0 and 0 commits seen; otherwise `None`.
+/// 3. No ancestor has a name: as in case 2, but the number of commits seen is that of all
+///    ancestors.
+/// 4. The name of an ancestor, and its depth.
 ///
-/// There is one answer: of the commits that were met the newest is visited next, of one time (in
-/// seconds) the one with the smaller id; the walk ends where all that is left lies below each of the
-/// nearest names, or where one more name than may be weighed is met; and of the names that are nearest
-/// then the smaller one by its bytes is taken, then the one of the smaller id. Afterwards the graph
-/// holds `commit` and the parents of all commits seen but the last.
+/// In cases 1 and 2 the graph is not touched. Case 2 takes no memory, so it does not fail. If
+/// `first_parent` is set, only first parents count as parents.
 ///
-/// What the source told of the commits that were met stays in memory until the graph is dropped, and is not
-/// asked for again by a further call on it. Nothing is remembered of an id that the source lacked.
+/// # Depth
+///
+/// A commit is ahead of a name if `commit` reaches it and the named commit does not. The depth is
+/// at least the number of commits ahead of the chosen name. It is exactly the least such number of
+/// all named ancestors if each parent is strictly older than its child ([older
+/// parents](crate#premises)) and at most `max_candidates`, and at most 32, ancestors have names.
+///
+/// # Which name
+///
+/// The answer is fixed, whatever the source:
+///
+/// - Of the commits that it has met, the walk visits the newest next; on equal times (in seconds),
+///   the one with the smaller id.
+/// - It stops once everything that is left lies below each of the nearest names, or before it
+///   visits one name more than it may weigh.
+/// - Of the names that are nearest then, the smaller one by bytes wins, then the one with the
+///   smaller id.
+///
+/// # Graph
+///
+/// After a walk that returns an outcome, the graph holds `commit` and the parents of every commit
+/// seen but the last, and nothing else. What the source returned stays in memory until the graph is
+/// dropped, and is not asked for again. An id that the source did not have is not remembered.
 ///
 /// # Errors
 ///
-/// [`Message::ParentsOf`] only where the source failed: its count of faults is then one more, unless
-/// it is full, and after every other answer it is as it was. It names the commit whose parents were
-/// wanted: the graph holds `commit`, the parents of all commits that were visited before that one, and
-/// nothing else but parents of it. Where `commit` itself could not be had it names `commit`, and the
-/// graph is empty;
-/// [`Message::MissingStart`] where the source lacks `commit` and the history has to be walked;
-/// [`Message::CounterFull`] only where more commits than the greatest `u32` are reachable;
-/// [`Message::OutOfMemory`] where there was no memory. The graph can be used again after each.
+/// - [`Message::ParentsOf`]: the source failed. Its [fault count](crate#fault-count) has grown by
+///   one. The message names the commit whose parents were needed. The graph holds `commit`, the
+///   parents of every commit visited before that one, and nothing else except parents of that one.
+///   If `commit` itself could not be loaded, the message names `commit` and the graph is empty.
+/// - [`Message::MissingStart`]: the history has to be walked, and the source does not have
+///   `commit`.
+/// - [`Message::CounterFull`]: 2^32 or more commits are reachable.
+/// - [`Message::OutOfMemory`]: an allocation failed.
+///
+/// The graph can be used again after each.
 pub fn describe<'name, S: Find, A: Allocator + Copy>(
     alloc: A,
     commit: &ObjectId,
@@ -202,7 +232,7 @@ pub fn describe<'name, S: Find, A: Allocator + Copy>(
     ensures fault { IfErr result (λ e.
         HoldsAtFault (S.history graph.old.source) commit.now options.entry e (held_at graph.new)) }
     ensures untouched { (¬ Walks commit.now options.entry) → graph.new ≡ graph.old }
-    // Without a name to find no memory is taken.
+    // Takes no memory if there is no name to find.
     ensures no_walk { name_at (names_in options.entry) commit.now ≡ None
         → IsTrue (nothing_to_find (names_in options.entry) (cap_of options.entry)) → IsOk result }
     ensures history { S.history graph.new.source ≡ S.history graph.old.source }

@@ -1,4 +1,4 @@
-//! Commits that a walk meets, as the source has them.
+//! Loads the commits that a walk meets.
 
 ghost use Rattle.std.specs.Prelude.{◌≡◌, ◌&&◌, IfOk, IfSome, OnErr, OnOk, Some, None, is_some, cond, false, map, min};
 ghost use Rattle.gix_revwalk.specs.Followed.{followed};
@@ -21,7 +21,7 @@ use gix_revwalk::graph::{self, Find, Graph};
 use gix_revwalk::numbers::{self, Link, Number};
 use std::alloc::Allocator;
 
-/// A commit that is met: its id, its number in the graph, and a guess at its spot there.
+/// A commit that the walk has met: its id, its number in the graph, and a guess at its spot there.
 #[derive(Clone, Copy)]
 pub(crate) struct Met {
     pub(crate) id: ObjectId,
@@ -29,7 +29,7 @@ pub(crate) struct Met {
     pub(crate) spot: u32,
 }
 
-/// A guess at a spot, in 32 bits.
+/// Returns a guess at a spot, in 32 bits.
 #[inline(always)]
 fn guess_at(spot: usize) -> u32
     ensures { result ≡ min spot 4294967295 }
@@ -37,7 +37,7 @@ fn guess_at(spot: usize) -> u32
     spot.min(u32::MAX as usize) as u32
 }
 
-/// Why a look-up for a child is refused.
+/// Returns the error of a look-up that was made for a child.
 fn refused_for(error: graph::Error, child: ObjectId) -> Message
     ensures { result ≡ hand_refusal child error }
 {
@@ -47,7 +47,7 @@ fn refused_for(error: graph::Error, child: ObjectId) -> Message
     }
 }
 
-/// The time of what the source has under an id, which is asked for a child, and the spot of the id.
+/// Asks the source for the time and the spot of an id, on behalf of a child.
 fn asked_for<S: Find, A: Allocator + Copy>(
     alloc: A,
     id: ObjectId,
@@ -67,7 +67,7 @@ fn asked_for<S: Find, A: Allocator + Copy>(
     }
 }
 
-/// Puts all parents of a commit into `row`, in place of what was there.
+/// Replaces the content of `row` by all parents of a commit.
 #[inline(always)]
 fn parents_for<S: Find, A: Allocator + Copy>(
     alloc: A,
@@ -88,13 +88,13 @@ fn parents_for<S: Find, A: Allocator + Copy>(
     }
 }
 
-/// Puts the followed parents of a commit into `row`, also those that the source lacks, in place of what was
-/// there.
+/// Replaces the content of `row` by the followed parents of a commit, also those that the source
+/// does not have.
 ///
 /// # Errors
 ///
-/// [`Message::ParentsOf`] the commit only where the source failed; [`Message::OutOfMemory`] where there
-/// was no memory.
+/// - [`Message::ParentsOf`] of the commit: the source failed.
+/// - [`Message::OutOfMemory`]: an allocation failed.
 #[inline(always)]
 pub(crate) fn follow<S: Find, A: Allocator + Copy>(
     alloc: A,
@@ -117,7 +117,7 @@ pub(crate) fn follow<S: Find, A: Allocator + Copy>(
     Ok(())
 }
 
-/// [`take_in`] of a commit that the source has not told of before.
+/// Loads a commit that the source has not returned before, as [`take_in`] does.
 fn ask_in<S: Find, A: Allocator + Copy>(
     alloc: A,
     id: ObjectId,
@@ -153,14 +153,16 @@ fn ask_in<S: Find, A: Allocator + Copy>(
     Ok(Some((time, Met { id, number, spot })))
 }
 
-/// A commit that is not held, and its time, as the source has it: it is held from then on, with these
-/// marks. `None` where the source lacks it. Where the source has not told of it before, it is asked for a
-/// child, or for itself as the start.
+/// Loads a commit that is not held, with these marks, and returns it with its time; `None` if the
+/// source does not have it.
+///
+/// If the source has not returned it before, it is asked for on behalf of a child, or of the start
+/// itself.
 ///
 /// # Errors
 ///
-/// [`Message::ParentsOf`] the child only where the source failed; [`Message::OutOfMemory`] where there
-/// was no memory.
+/// - [`Message::ParentsOf`] of the child: the source failed.
+/// - [`Message::OutOfMemory`]: an allocation failed.
 #[inline(always)]
 pub(crate) fn take_in<S: Find, A: Allocator + Copy>(
     alloc: A,

@@ -1,5 +1,7 @@
-//! The queue of a walk. The id of a commit stands in its key alone, so that an entry has 40 bytes; and a commit that
-//! is queued alone, as on a line, goes past the heap.
+//! The queue of a walk.
+//!
+//! Only the key has the id of a commit, so an entry takes 40 bytes. A commit that is queued alone,
+//! as on a line, bypasses the heap.
 
 ghost use Rattle.std.specs.Prelude.{◌≡◌, ◌==◌, [], ◌∷◌, length, IfSome, IsNone, OnOk};
 ghost use Rattle.std.specs.List.Sorted.{IsPermutation};
@@ -21,10 +23,10 @@ pub(crate) struct Place {
     pub(crate) spot: u32,
 }
 
-/// The commits that are met and not yet popped, by their keys.
+/// The commits that were met and not yet popped, ordered by their keys.
 #[derive(Drop)]
 pub(crate) struct Queue<A: Allocator> {
-    /// The one that is queued, where no other is.
+    /// The queued commit, if it is the only one.
     alone: Option<(Key, Place)>,
     places: PriorityQueue<Key, Place, A>,
 }
@@ -43,7 +45,7 @@ impl<A: Allocator> Model for Queue<A> {
     ghost invariant = { λ q. IfSome q.alone (λ _. q.places ≡ []) };
 }
 
-/// Puts an entry in.
+/// Adds an entry.
 #[inline(always)]
 fn put<A: Allocator>(
     places: &mut PriorityQueue<Key, Place, A>,
@@ -58,7 +60,7 @@ fn put<A: Allocator>(
     Ok(())
 }
 
-/// Puts two entries in.
+/// Adds two entries.
 fn put_both<A: Allocator>(
     places: &mut PriorityQueue<Key, Place, A>,
     first: (Key, Place),
@@ -71,7 +73,7 @@ fn put_both<A: Allocator>(
     Ok(())
 }
 
-/// The commit under a key.
+/// Returns the commit under a key.
 #[inline(always)]
 fn commit_at(key: Key, place: Place) -> (Key, Met)
     ensures { result ≡ entry_of (key, place) }
@@ -85,7 +87,7 @@ fn commit_at(key: Key, place: Place) -> (Key, Met)
 }
 
 impl<A: Allocator> Queue<A> {
-    /// An empty queue. It takes no memory.
+    /// Returns an empty queue. Takes no memory.
     pub(crate) fn new(alloc: A) -> Queue<A>
         ensures { result ≡ [] }
     {
@@ -95,11 +97,11 @@ impl<A: Allocator> Queue<A> {
         }
     }
 
-    /// Puts a commit in, by its key.
+    /// Adds a commit under its key.
     ///
     /// # Errors
     ///
-    /// Where there is no memory. What is queued then is open.
+    /// An allocation failed. The content of the queue is then unspecified.
     #[inline(always)]
     pub(crate) fn insert(&mut self, key: Key, met: Met) -> Result<(), AllocError>
         requires { key.id ≡ met.id }
@@ -122,7 +124,7 @@ impl<A: Allocator> Queue<A> {
         Ok(())
     }
 
-    /// Takes out a commit with a greatest key; `None` where the queue is empty.
+    /// Removes and returns a commit with a greatest key; `None` if the queue is empty.
     #[inline(always)]
     pub(crate) fn pop(&mut self) -> Option<(Key, Met)>
         ensures none { IsNone result → self.old ≡ [] }
@@ -137,7 +139,7 @@ impl<A: Allocator> Queue<A> {
         Some(commit_at(key, place))
     }
 
-    /// Whether there is no commit.
+    /// Tests whether the queue is empty.
     #[inline(always)]
     pub(crate) fn is_empty(&self) -> bool
         ensures { result ≡ (length self.now == 0) }

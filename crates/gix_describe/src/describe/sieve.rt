@@ -1,4 +1,5 @@
-//! A sieve of names: a bit tells of most commits without a name that they have none, and asks no hash.
+//! A sieve of names: one bit shows for most unnamed commits, without hashing, that they have no
+//! name.
 
 ghost use Rattle.std.specs.Prelude.{◌≡◌, ◌==◌, ◌<◌, ◌%◌, ℕ, slice_index};
 ghost use Rattle.std.specs.Int.{bit_at};
@@ -11,16 +12,17 @@ use crate::describe::options::Names;
 use gix_base::hash::ObjectId;
 use std::alloc::Allocator;
 
-/// With more names than these each id passes: to go over them once a call would cost more than it saves.
+/// The greatest number of names that the sieve is built for. With more, building it would cost more
+/// than it saves, and every id passes.
 const MOST_NAMES: usize = 256;
 
-/// An id passes where its bit is set.
+/// A table of bits. An id passes if its bit is set.
 #[derive(Clone, Copy)]
 pub(crate) struct Sieve {
     words: [u64; 64],
 }
 
-/// The word that has the bit of an id.
+/// Returns the index of the word that has the bit of an id.
 #[inline(always)]
 fn word_of(id: &ObjectId) -> usize
     ensures value { result ≡ slice_index id.now.0 19 % 64 }
@@ -29,7 +31,7 @@ fn word_of(id: &ObjectId) -> usize
     (id.0[19] % 64) as usize
 }
 
-/// The place of the bit of an id in its word.
+/// Returns the place of the bit of an id in its word.
 #[inline(always)]
 fn place_of(id: &ObjectId) -> usize
     ensures value { result ≡ slice_index id.now.0 18 % 64 }
@@ -38,7 +40,7 @@ fn place_of(id: &ObjectId) -> usize
     (id.0[18] % 64) as usize
 }
 
-/// A word with the bit at a place.
+/// Returns a word with the bit at a place set.
 #[inline(always)]
 fn with_bit(word: u64, place: usize) -> u64
     requires { place < 64 }
@@ -49,7 +51,7 @@ fn with_bit(word: u64, place: usize) -> u64
 }
 
 impl Sieve {
-    /// Whether an id passes.
+    /// Tests whether an id passes.
     #[inline(always)]
     fn passes(&self, id: &ObjectId) -> bool
         ensures { result ≡ (bit_in self.now.words id.now == 1) }
@@ -57,7 +59,7 @@ impl Sieve {
         (self.words[word_of(id)] >> place_of(id)) & 1 == 1
     }
 
-    /// Lets an id pass from then on.
+    /// Lets an id pass from now on.
     fn let_pass(&mut self, id: &ObjectId)
         ensures own { bit_in self.new.words id.now ≡ 1 }
         ensures others { (c : ObjectId) → bit_in self.old.words c ≡ 1 → bit_in self.new.words c ≡ 1 }
@@ -67,7 +69,7 @@ impl Sieve {
         self.words[at] = word;
     }
 
-    /// Each of the names passes, and of the other ids a few.
+    /// Returns a sieve that the named ids pass, and few others.
     fn of_few<'name, A: Allocator>(names: &Names<'name, A>) -> Sieve
         ensures { LetsPass result.words (names_of names.now.entries) }
     {
@@ -79,7 +81,8 @@ impl Sieve {
         sieve
     }
 
-    /// Each of the names passes. Of the other ids a few pass; where there are many names, each does.
+    /// Returns a sieve that the named ids pass. Few others pass, unless there are many names: then
+    /// all do.
     pub(crate) fn of<'name, A: Allocator>(names: &Names<'name, A>) -> Sieve
         ensures { LetsPass result.words (names_of names.now.entries) }
     {
@@ -92,7 +95,7 @@ impl Sieve {
     }
 }
 
-/// Whether a commit has a name. One that does not pass has none, and is not looked up.
+/// Tests whether a commit has a name. Looks up only an id that passes the sieve.
 #[inline(always)]
 pub(crate) fn has_name<'name, A: Allocator>(
     names: &Names<'name, A>,

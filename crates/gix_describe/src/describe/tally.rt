@@ -1,4 +1,4 @@
-//! How many of the queued commits lack a mark, as marks are handed on.
+//! Counts how many of the queued commits do not have a mark, while marks are handed on.
 
 ghost use Rattle.std.specs.Prelude.{◌≡◌, ◌<◌, ◌+◌, ◌-◌, ℕ, IfSome, None, OnOk, Option, Some, cond};
 ghost use Rattle.std.specs.Int.{bit_at};
@@ -6,7 +6,7 @@ ghost use Rattle.gix_describe.specs.Lacking.{lacks};
 
 use std::alloc::AllocError;
 
-/// The bit of a place.
+/// Returns the bit at a place.
 #[inline(always)]
 pub(crate) fn bit_of(marks: u32, place: usize) -> u32
     requires few { place < 32 }
@@ -15,7 +15,7 @@ pub(crate) fn bit_of(marks: u32, place: usize) -> u32
     (marks >> place) & 1
 }
 
-/// 1 where the mark of a place is lacked.
+/// Returns 1 if the mark of a place is missing, and otherwise 0.
 #[inline(always)]
 fn lack_of(marks: u32, place: usize) -> usize
     requires few { place < 32 }
@@ -24,14 +24,16 @@ fn lack_of(marks: u32, place: usize) -> usize
     1 - bit_of(marks, place) as usize
 }
 
-/// What is told of each commit that gets marks. An implementor names the place of the mark that it looks for, if
-/// any, and its count of the queued commits that lack that mark.
+/// A counter that is notified of each commit that gets marks.
+///
+/// An implementor names the place of the mark that it looks for, if any, and its count of the
+/// queued commits without that mark.
 pub(crate) trait Tally {
     ghost looked_for: { Self → Option ℕ };
 
     ghost lacking: { Self → ℕ };
 
-    /// A held commit that had the marks `old` gets these too.
+    /// Records that a held commit with the marks `old` gets `marks` as well.
     fn marked(&mut self, old: u32, marks: u32, queued: bool)
         requires few { IfSome (looked_for self.old) (λ j. j < 32) }
         ensures place { looked_for self.new ≡ looked_for self.old }
@@ -39,11 +41,11 @@ pub(crate) trait Tally {
             (lacking self.old - (lacks (looked_for self.old) old - lacks (looked_for self.old) marks))
             (lacking self.old) };
 
-    /// A commit is queued with these marks.
+    /// Records that a commit is queued with these marks.
     ///
     /// # Errors
     ///
-    /// Where the count is full.
+    /// The count is full.
     fn entered(&mut self, marks: u32) -> Result<(), AllocError>
         requires few { IfSome (looked_for self.old) (λ j. j < 32) }
         ensures place { looked_for self.new ≡ looked_for self.old }
@@ -51,7 +53,7 @@ pub(crate) trait Tally {
             (lacking self.new ≡ lacking self.old + lacks (looked_for self.old) marks) };
 }
 
-/// No mark is looked for, and nothing is counted.
+/// A counter that looks for no mark and counts nothing.
 #[derive(Drop)]
 pub(crate) struct Uncounted;
 
@@ -69,7 +71,7 @@ impl Tally for Uncounted {
     }
 }
 
-/// How many of the queued commits lack the mark of a place.
+/// A count of the queued commits that do not have the mark of a place.
 #[derive(Drop)]
 pub(crate) struct Lacking {
     pub(crate) place: usize,

@@ -1,4 +1,5 @@
-//! The walk that stops early: the newest of the queued commits is popped, and its parents are queued.
+//! The walk, which may stop early: it pops the newest of the queued commits, and queues its
+//! parents.
 
 ghost use Rattle.std.specs.Prelude.{◌≡◌, ◌≤◌, ◌<◌, ◌+◌, ◌^◌, ◌++◌, ◌∷◌, [], ℕ, IfOk, IfErr, IfSome, IsNone, OnOk, Some, None, List, cond, bit_or, length, get_or, MatchBool, MatchOption, false};
 ghost use Rattle.std.specs.Option.{option_map};
@@ -35,7 +36,7 @@ use gix_revwalk::numbers::{self, Link};
 use std::alloc::Allocator;
 use std::cmp::Ordering;
 
-/// What is searched: from where, how many names are weighed, and along which edges.
+/// What is searched: the start, how many names are weighed, and which parents are followed.
 #[derive(Clone, Copy)]
 pub(crate) struct Search {
     pub(crate) start: ObjectId,
@@ -43,19 +44,20 @@ pub(crate) struct Search {
     pub(crate) first_parent: bool,
 }
 
-/// What is queued, and the named commits that were popped, each with its count. The bit of a
-/// candidate's place is its mark.
+/// The queue, and the named commits that were popped (the candidates), each with its count.
+///
+/// The mark of a candidate is the bit of its place.
 #[derive(Drop)]
 pub(crate) struct Walk<A: Allocator> {
     queue: Queue<A>,
     candidates: Vec<ObjectId, A>,
     counts: Vec<u32, A>,
     seen: u32,
-    /// The parents of the commit whose marks are handed on.
+    /// The parents of the commit whose marks are being handed on.
     row: Vec<Link, A>,
 }
 
-/// The name of a commit; no bytes where it has none.
+/// Returns the name of a commit; no bytes if it has none.
 fn name_bytes<'a, 'name, A: Allocator + Copy>(names: &'a Names<'name, A>, id: &ObjectId) -> &'a [u8]
     ensures { result.now ≡ name_of (names_of names.now.entries) id.now }
 {
@@ -70,7 +72,7 @@ impl<A: Allocator + Copy> Walk<A> {
     ghost use Rattle.gix_describe.specs.Trace.{is_open, IsNext, IsWalk};
     ghost use Rattle.gix_describe.specs.WalkState.{others, IsQueue};
 
-    /// The start alone is queued, under the greatest of times, and held without marks.
+    /// Queues the start alone, under the greatest of times, and holds it without marks.
     fn begin<S: Find>(
         alloc: A,
         search: Search,
@@ -114,7 +116,7 @@ impl<A: Allocator + Copy> Walk<A> {
         })
     }
 
-    /// The next commit, with its key; `None` where the queue is empty.
+    /// Pops the next commit, with its key; `None` if the queue is empty.
     fn next(&mut self) -> Option<(Key, Met)>
         ensures none { IsNone result → self.old.queue ≡ [] }
         ensures next { IfSome result (λ p. (h : History) (s : ObjectId) (popped : List ObjectId) → IsWalk h s popped
@@ -128,8 +130,8 @@ impl<A: Allocator + Copy> Walk<A> {
         self.queue.pop()
     }
 
-    /// A popped commit becomes a candidate: it gets the next mark, and all that were popped before
-    /// it are late.
+    /// Makes a popped commit a candidate: it gets the next mark, and all commits popped before it
+    /// are late.
     fn take_up<S: Find>(&mut self, met: &Met, graph: &mut Graph<S, u32, A>) -> Result<(), Message>
         requires room { length self.old.candidates.items < 32 }
         requires numbered { IsNumbered graph.old met.now }
@@ -151,8 +153,8 @@ impl<A: Allocator + Copy> Walk<A> {
         Ok(())
     }
 
-    /// A popped commit becomes a candidate where it is named: `true`. Where there is no room for it, it goes
-    /// back to the queue: `false`.
+    /// Makes a popped commit a candidate if it is named, and returns `true`. If there is no room
+    /// for it, puts it back into the queue and returns `false`.
     fn admit<'name, S: Find>(
         &mut self,
         key: Key,
@@ -186,8 +188,8 @@ impl<A: Allocator + Copy> Walk<A> {
         Ok(false)
     }
 
-    /// A popped commit is counted, and its parents are met. Where all that is left lies below each
-    /// candidate of the least count the walk ends: `true`.
+    /// Counts a popped commit and queues its parents. Returns `true` if the walk ends, because
+    /// everything that is left lies below each candidate with the least count.
     fn pass<S: Find>(
         &mut self,
         alloc: A,
@@ -232,8 +234,10 @@ impl<A: Allocator + Copy> Walk<A> {
         Ok(false)
     }
 
-    /// Pops commits until the walk ends: where all that is left lies below each candidate of the least
-    /// count, or where there is no room for the next candidate: `true`.
+    /// Pops commits until the walk ends.
+    ///
+    /// It ends once everything that is left lies below each candidate with the least count, or if
+    /// there is no room for the next candidate: then it returns `true`.
     fn run<'name, S: Find>(
         &mut self,
         alloc: A,
@@ -267,8 +271,8 @@ impl<A: Allocator + Copy> Walk<A> {
         Ok(false)
     }
 
-    /// Whether the candidate at one place comes before the one at another: by the lesser count, then by
-    /// the smaller name, then by the smaller id.
+    /// Tests whether one candidate comes before another: by the lesser count, then by the smaller
+    /// name, then by the smaller id.
     fn precedes<'name>(&self, i: usize, j: usize, names: &Names<'name, A>) -> bool
         requires each { length self.now.counts.items ≡ length self.now.candidates.items }
         requires i { i < length self.now.candidates.items }
@@ -284,8 +288,8 @@ impl<A: Allocator + Copy> Walk<A> {
         by_name.then(a.cmp(&b)) == Ordering::Less
     }
 
-    /// The place of the candidate that comes first: the one at `best`, which no earlier one precedes, or
-    /// the one at `i`.
+    /// Returns the place of the first candidate among those up to `i`, if `best` is the first of
+    /// those before `i`.
     fn first_of<'name>(&self, best: usize, i: usize, names: &Names<'name, A>) -> usize
         requires each { length self.now.counts.items ≡ length self.now.candidates.items }
         requires best { best < length self.now.candidates.items }
@@ -306,7 +310,7 @@ impl<A: Allocator + Copy> Walk<A> {
         }
     }
 
-    /// The place of the candidate that is chosen; `None` where there is none.
+    /// Returns the place of the chosen candidate; `None` if there is no candidate.
     fn chosen<'name>(&self, names: &Names<'name, A>) -> Option<usize>
         requires each { length self.now.counts.items ≡ length self.now.candidates.items }
         ensures none { IsNone result → self.now.candidates.items ≡ [] }
@@ -322,8 +326,9 @@ impl<A: Allocator + Copy> Walk<A> {
         Some(best)
     }
 
-    /// A popped commit is counted for one candidate, and its parents are met. Where it and all that is
-    /// queued have the candidate's mark, which `lacking` counts, the count is complete: `true`.
+    /// Counts a popped commit for one candidate and queues its parents. Returns `true` if the count
+    /// is complete, because the commit and everything that is queued have the mark of the
+    /// candidate. `lacking` counts those that do not.
     fn pass_for<S: Find>(
         &mut self,
         alloc: A,
@@ -380,7 +385,7 @@ impl<A: Allocator + Copy> Walk<A> {
         Ok((count + late, false))
     }
 
-    /// Goes on for one candidate until its count is complete.
+    /// Continues the walk for one candidate until its count is complete.
     fn complete<S: Find>(
         &mut self,
         alloc: A,
@@ -397,7 +402,7 @@ impl<A: Allocator + Copy> Walk<A> {
         ensures asked { AsksBy S.history S.fault_count search graph.old.source graph.new.source (refusal result) }
     {
         let mut depth = count;
-        // What was met and is not noted is queued.
+        // A commit that was met and is not noted is queued.
         let mut lacking = numbers::unnoted_lacking(graph, place);
         while let Some((_, met)) = self.next() {
             let (counted, complete) = self.pass_for(
@@ -418,17 +423,17 @@ impl<A: Allocator + Copy> Walk<A> {
     }
 }
 
-/// One more than a count.
+/// Returns one more than a count.
 fn one_more(count: u32) -> u128
     ensures { result ≡ count + 1 }
 {
     u128::from(count) + 1
 }
 
-/// What a walk finds.
+/// The result of a walk.
 #[derive(Drop)]
 pub(crate) struct Found {
-    /// The named ancestor that is chosen, with its depth.
+    /// The chosen named ancestor, with its depth.
     pub(crate) best: Option<(ObjectId, u32)>,
     /// How many commits were seen.
     pub(crate) seen: u32,
@@ -436,7 +441,7 @@ pub(crate) struct Found {
     pub(crate) pops: u128,
 }
 
-/// Goes on with a walk until a named ancestor is chosen and its depth is complete.
+/// Continues a walk until a named ancestor is chosen and its depth is complete.
 fn found_by<'name, S: Find, A: Allocator + Copy>(
     walk: &mut Walk<A>,
     alloc: A,
@@ -479,7 +484,7 @@ fn found_by<'name, S: Find, A: Allocator + Copy>(
             pops: u128::from(walk.seen),
         });
     }
-    // The commit that was given up is popped once more.
+    // The commit that had no room is popped a second time.
     let depth = walk.complete(alloc, place, count, search, graph)?;
     Ok(Found {
         best: Some((id, depth)),
