@@ -5,10 +5,10 @@ use Rattle.std.proofs.lemmas.List.{length-map}
 use Rattle.std.proofs.lemmas.List.Filters.{length-filter_more}
 use Rattle.std.proofs.lemmas.Map.Made.{length-le_from_is_member}
 use Rattle.gix_base.specs.declared.hash.ObjectId.{ObjectId}
-use Rattle.gix_revwalk.specs.History.{History}
+use Rattle.gix_revwalk.specs.History.{History, IsAncestor, IsAncestorOfOne}
 use Rattle.gix_revwalk.specs.Graph.{Graphed}
 use Rattle.gix_revwalk.specs.Number.{place_in}
-use Rattle.gix_revwalk.specs.Sizes.{HasSize, AtMost}
+use Rattle.gix_revwalk.specs.Sizes.{HasSize, AtLeast, AtMost}
 use Rattle.gix_revwalk.specs.declared.graph.commit.Commit.{Commit}
 use Rattle.gix_revwalk.specs.declared.numbers.Number.{Number}
 use Rattle.gix_revwalk.proofs.Ids.{same_id-laws}
@@ -59,7 +59,8 @@ module _ {S A : Type 0} (g : Graphed S (Commit Flags A)) (ns : List Number) (h :
           ),
           sym is_n,
         );
-        first_most = λ zs once each. let le = length-le_from_is_member same_id-laws zs (filter (λ c. is_first_alone (marks_at g c)) (ids_at g ns)) once (λ c m. first.2 c (sees.first c (each c m))) in omega arith;
+        first_no_less = λ zs once each. let le = length-le_from_is_member same_id-laws zs (filter (λ c. is_first_alone (marks_at g c)) (ids_at g ns)) once (λ c m. first.2 c (sees.first c (each c m))) in omega arith;
+        first_no_more = (filter (λ c. is_first_alone (marks_at g c)) (ids_at g ns), first.0, λ c m. sees.one c (left (marks_at g c).one (not (marks_at g c).two) (first.1 c m)), omega arith);
         second = λ exact t. (
           filter (λ c. is_second_alone (marks_at g c)) (ids_at g ns),
           (
@@ -71,7 +72,8 @@ module _ {S A : Type 0} (g : Graphed S (Commit Flags A)) (ns : List Number) (h :
           ),
           sym is_k,
         );
-        second_most = λ t zs once each. let le = length-le_from_is_member same_id-laws zs (filter (λ c. is_second_alone (marks_at g c)) (ids_at g ns)) once (λ c m. (second t).2 c (sees.second t c (each c m))) in omega arith;
+        second_no_less = λ t zs once each. let le = length-le_from_is_member same_id-laws zs (filter (λ c. is_second_alone (marks_at g c)) (ids_at g ns)) once (λ c m. (second t).2 c (sees.second t c (each c m))) in omega arith;
+        second_no_more = λ t. (filter (λ c. is_second_alone (marks_at g c)) (ids_at g ns), (second t).0, λ c m. sees.two c (left (marks_at g c).two (not (marks_at g c).one) ((second t).1 c m)), omega arith);
       }
 
 -- between two commits
@@ -84,16 +86,21 @@ from-range h a b c k = (as-one h b c k.0, λ q. k.1 (of-one h a c q))
 pub size-range : (h : History) (a b : ObjectId) (n : ℕ) → HasSize (IsBeyond h (a ∷ []) (b ∷ [])) n → HasSize (IsMeant h (Range a b)) n
 size-range h a b n k = (k.0, (k.1.0, λ c. ((λ m. to-range h a b c ((k.1.1 c).0 m)), (λ q. (k.1.1 c).1 (from-range h a b c q)))), k.2)
 
-pub most-range : (h : History) (a b : ObjectId) (n : ℕ) → AtMost n (IsBeyond h (a ∷ []) (b ∷ [])) → AtMost n (IsMeant h (Range a b))
-most-range h a b n k zs once each = k zs once (λ c m. from-range h a b c (each c m))
+pub no_less-range : (h : History) (a b : ObjectId) (n : ℕ) → AtMost n (IsBeyond h (a ∷ []) (b ∷ [])) → AtMost n (IsMeant h (Range a b))
+no_less-range h a b n k zs once each = k zs once (λ c m. from-range h a b c (each c m))
+
+pub no_more-one : (h : History) (a : ObjectId) (n : ℕ) → AtLeast n (IsAncestorOfOne h (a ∷ [])) → AtLeast n (IsAncestor h a)
+no_more-one h a n k = (k.0, k.1, λ c m. of-one h a c (k.2 c m), k.3)
 
 -- the sides the other way round
 pub counts-turned : (h : History) (a b : ObjectId) (n k : ℕ) → CountsSides h (b ∷ []) (a ∷ []) true n k → CountsSides h (a ∷ []) (b ∷ []) true k n
 counts-turned h a b n k c = record {
   first = λ never. c.second (turned never) refl;
-  first_most = c.second_most refl;
+  first_no_less = c.second_no_less refl;
+  first_no_more = c.second_no_more refl;
   second = λ never t. c.first (turned never);
-  second_most = λ t. c.first_most;
+  second_no_less = λ t. c.first_no_less;
+  second_no_more = λ t. c.first_no_more;
 }
   where
     turned : GenerationsNeverRiseFrom h (a ∷ b ∷ []) → GenerationsNeverRiseFrom h (b ∷ a ∷ [])

@@ -5,7 +5,7 @@ use Rattle.std.specs.List.{IsDistinct}
 use Rattle.std.specs.List.Sorted.{IsPermutation}
 use Rattle.gix_base.specs.declared.hash.ObjectId.{ObjectId}
 use Rattle.gix_revwalk.specs.History.{History, Has, IsEdge, IsAncestorOfOne, generation_of, is_one_of, same_id}
-use Rattle.gix_revwalk.specs.Sizes.{HasSize, AtMost}
+use Rattle.gix_revwalk.specs.Sizes.{HasSize, AtLeast, AtMost}
 use Rattle.gix_resolve.specs.Reachable.{IsBeyond}
 use Rattle.gix_merge_base.specs.Marks.{MarkSet, HasMarksOf}
 use Rattle.gix_merge_base.specs.PaintSteps.{Covers, total}
@@ -91,6 +91,8 @@ pub record ListsEither (h : History) (xs ys : List ObjectId) (ids : List ObjectI
 -- generation rises, perhaps more
 pub record CountsSides (h : History) (xs ys : List ObjectId) (both : Bool) (n k : ℕ) : Type 0 where
   pub first : GenerationsNeverRiseFrom h (xs ++ ys) → HasSize (IsBeyond h ys xs) n
-  pub first_most : AtMost n (IsBeyond h ys xs)
+  pub first_no_less : AtMost n (IsBeyond h ys xs)
+  pub first_no_more : AtLeast n (IsAncestorOfOne h xs)
   pub second : GenerationsNeverRiseFrom h (xs ++ ys) → IsTrue both → HasSize (IsBeyond h xs ys) k
-  pub second_most : IsTrue both → AtMost k (IsBeyond h xs ys)
+  pub second_no_less : IsTrue both → AtMost k (IsBeyond h xs ys)
+  pub second_no_more : IsTrue both → AtLeast k (IsAncestorOfOne h ys)

@@ -6,8 +6,8 @@ ghost use Rattle.gix_base.specs.declared.hash.ObjectId.{ObjectId};
 ghost use Rattle.gix_revwalk.specs.Faults.{count_after, is_source_fault};
 ghost use Rattle.gix_revwalk.specs.Graph.{KeepsHeld};
 ghost use Rattle.gix_revwalk.specs.GraphAfter.{GraphAfter};
-ghost use Rattle.gix_revwalk.specs.History.{IsAncestorOfOne, is_one_of};
-ghost use Rattle.gix_revwalk.specs.Sizes.{HasSize, AtMost, Lists};
+ghost use Rattle.gix_revwalk.specs.History.{IsAncestor, IsAncestorOfOne, is_one_of};
+ghost use Rattle.gix_revwalk.specs.Sizes.{HasSize, AtLeast, AtMost, Lists};
 ghost use Rattle.gix_revwalk.specs.Walks.{HoldsMore};
 ghost use Rattle.gix_merge_base.specs.Keys.{IsInOrder};
 ghost use Rattle.gix_merge_base.specs.Premises.{GenerationsNeverRiseFrom};
@@ -120,7 +120,8 @@ pub fn reachable_newest_first<S: Find, A: Allocator + Copy>(
 
 /// How many commits [`reachable`] lists: git-rev-list, "--count". None is listed or sorted.
 ///
-/// The premise is that of [`reachable`]; without it there may be more, and no fewer.
+/// The premise is that of [`reachable`]; without it there may be more, and no fewer, but no more than
+/// `include` reaches.
 ///
 /// # Errors
 ///
@@ -136,8 +137,10 @@ pub fn count_reachable<S: Find, A: Allocator + Copy>(
         (λ n. HasSize (IsBeyond (S.history graph.old.source) exclude.now include.now) n) }
 
     // Whatever generations are.
-    ensures most { IfOk result
+    ensures no_less { IfOk result
         (λ n. AtMost n (IsBeyond (S.history graph.old.source) exclude.now include.now)) }
+    ensures no_more { IfOk result
+        (λ n. AtLeast n (IsAncestorOfOne (S.history graph.old.source) include.now)) }
 
     ensures history { S.history graph.new.source ≡ S.history graph.old.source }
     ensures count { S.fault_count graph.new.source
@@ -243,7 +246,8 @@ fn counted_both<S: Find, A: Allocator + Copy>(
 /// reaches nothing.
 ///
 /// One walk counts both, and none is listed or sorted. It looks no further than generations ask for; the
-/// premise is that of [`reachable`], and without it either count may be greater, and not less.
+/// premise is that of [`reachable`], and without it either count may be greater, and not less, but no
+/// greater than the number of commits that its side reaches.
 ///
 /// What the graph held it still holds, refused or not; the data beside it may have changed. What it
 /// newly holds is reached from one of the two.
@@ -265,10 +269,14 @@ pub fn ahead_behind<S: Find, A: Allocator + Copy>(
         (λ r. HasSize (IsMeant (S.history graph.old.source) (Range ours theirs)) r.1) }
 
     // Whatever generations are.
-    ensures most_ahead { IfOk result
+    ensures no_less_ahead { IfOk result
         (λ r. AtMost r.0 (IsMeant (S.history graph.old.source) (Range theirs ours))) }
-    ensures most_behind { IfOk result
+    ensures no_less_behind { IfOk result
         (λ r. AtMost r.1 (IsMeant (S.history graph.old.source) (Range ours theirs))) }
+    ensures no_more_ahead { IfOk result
+        (λ r. AtLeast r.0 (IsAncestor (S.history graph.old.source) ours)) }
+    ensures no_more_behind { IfOk result
+        (λ r. AtLeast r.1 (IsAncestor (S.history graph.old.source) theirs)) }
 
     ensures history { S.history graph.new.source ≡ S.history graph.old.source }
     ensures count { S.fault_count graph.new.source
