@@ -1,4 +1,4 @@
--- A walk that lists commits by their numbers, and marks just those that it has listed.
+-- A walk that lists commits by their numbers, and marks exactly those that it has listed.
 use Rattle.std.specs.Prelude.{◌≡◌, ◌↔◌, List, ◌++◌, IsTrue, is_some}
 use Rattle.std.specs.List.{IsDistinct}
 use Rattle.gix_base.specs.declared.hash.ObjectId.{ObjectId}
@@ -10,23 +10,23 @@ use Rattle.gix_revwalk.specs.declared.numbers.Number.{Number}
 use Rattle.gix_revwalk.specs.Sizes.{Lists}
 use Rattle.gix_merge_base.specs.PaintQueue.{ids_at, AreIn}
 
--- the walk has marked just the commits with the numbers ns
+-- The walk has marked exactly the commits with the numbers ns.
 pub record AreMarked {S D A : Type 0} (g : Graphed S (Commit D A)) (ns : List Number) : Type 0 where
   pub inside : AreIn g ns
   pub marks : (q : ObjectId) → is_some (mark_at g q) ≡ is_one_of (ids_at g ns) q
 
--- ids are commits, each once, and what they lead to is among them
+-- Each of the ids is in history h and occurs once, and their parents in h are among them.
 pub record AreClosed (h : History) (ids : List ObjectId) : Type 0 where
   pub once : IsDistinct same_id ids
   pub has : (q : ObjectId) → IsTrue (is_one_of ids q) → Has h q
   pub closed : (a b : ObjectId) → IsTrue (is_one_of ids a) → IsEdge h a b → IsTrue (is_one_of ids b)
 
--- ys is xs and, at its end, the ancestors of starts that are not in xs
+-- The list ys is xs, followed by the ancestors of starts that are not in xs.
 abbrev pub Adds : History → (starts xs ys : List ObjectId) → Type 0
 Adds h starts xs ys =
     (more : List ObjectId) × (ys ≡ xs ++ more)
     × ((c : ObjectId) → IsTrue (is_one_of more c) ↔ (IsAncestorOfOne h starts c × (¬ IsTrue (is_one_of xs c))))
 
--- ns are numbers of the graph, and those of just the members of a set, each once
+-- The list ns has the numbers in graph g of exactly the members of set P, each once.
 abbrev pub AreJust : {S T : Type 0} → Graphed S T → List Number → (ObjectId → Type 0) → Type 0
 AreJust g ns P = AreIn g ns × Lists (ids_at g ns) P

@@ -1,5 +1,5 @@
--- A walk from two sides: what the first side alone reaches is wanted and, where `both` is set, also what the second one
--- alone reaches.
+-- A walk from two sides. Wanted is what only the first side reaches and, if `both` is set, also
+-- what only the second side reaches.
 use Rattle.std.specs.Prelude.{◌≡◌, ◌<◌, ◌≤◌, ◌+◌, ℕ, min, length, Bool, true, false, List, ◌∷◌, ◌++◌, IsTrue, ◌&&◌, not, cond, ◌⊎◌}
 use Rattle.std.specs.List.{IsDistinct}
 use Rattle.std.specs.List.Sorted.{IsPermutation}
@@ -11,25 +11,25 @@ use Rattle.gix_merge_base.specs.Marks.{MarkSet, HasMarksOf}
 use Rattle.gix_merge_base.specs.PaintSteps.{Covers, total}
 use Rattle.gix_merge_base.specs.Premises.{GenerationsNeverRiseFrom}
 
--- a commit with these marks is not wanted, whatever further marks it gains
+-- A commit with the marks m is not wanted, whatever further marks it gets.
 abbrev pub hides : Bool → MarkSet → Bool
 hides true m = m.one && m.two
 hides false m = m.two
 
--- a commit with these marks, and no further ones, is wanted
+-- A commit with the marks m, and no further ones, is wanted.
 abbrev pub shows : Bool → MarkSet → Bool
 shows both m = cond m.one (not m.two) (both && m.two)
 
--- the first side alone reaches a commit with these marks
+-- Only the first side reaches a commit with the marks m.
 abbrev pub is_first_alone : MarkSet → Bool
 is_first_alone m = m.one && not m.two
 
--- the second side alone does
+-- Only the second side reaches a commit with the marks m.
 abbrev pub is_second_alone : MarkSet → Bool
 is_second_alone m = m.two && not m.one
 
--- the marks w were handed to those of ps that the history has, but for hidden ones, and those that
--- lacked one were opened
+-- The marks w were handed to those ps that the history has, except hidden ones. A commit that
+-- lacked one of the marks was opened.
 pub record Gives (h : History) (both : Bool) (w : MarkSet) (ps : List ObjectId) (m : ObjectId → MarkSet) (q : List ObjectId) (m' : ObjectId → MarkSet) (q' : List ObjectId) : Type 0 where
   pub more : (c : ObjectId) → HasMarksOf (m c) (m' c)
   pub changed : (c : ObjectId) → (m' c ≡ m c) ⊎ IsTrue (is_one_of q' c)
@@ -41,8 +41,9 @@ pub record Gives (h : History) (both : Bool) (w : MarkSet) (ps : List ObjectId) 
   pub gets : (p : ObjectId) → IsTrue (is_one_of ps p) → Has h p → HasMarksOf w (m' p) ⊎ IsTrue (hides both (m' p))
   pub spends : (ids : List ObjectId) → Covers ids m' → length q' + total ids m ≤ length q + total ids m'
 
--- between two steps of a walk from the sides xs and ys: m are the marks, q the open commits, and
--- bound the least generation of those that were taken while they were not hidden
+-- The state between two steps of a walk from the sides xs and ys. The marks are m, the open commits
+-- are q, and bound is the least generation number of those that were taken while they were not
+-- hidden.
 pub record Walked (h : History) (xs ys : List ObjectId) (both : Bool) (m : ObjectId → MarkSet) (q : List ObjectId) (bound : ℕ) : Type 0 where
   pub one : (c : ObjectId) → IsTrue (m c).one → IsAncestorOfOne h xs c
   pub two : (c : ObjectId) → IsTrue (m c).two → IsAncestorOfOne h ys c
@@ -50,21 +51,21 @@ pub record Walked (h : History) (xs ys : List ObjectId) (both : Bool) (m : Objec
   pub from : (c : ObjectId) → IsTrue (is_one_of q c) → IsAncestorOfOne h (xs ++ ys) c
   pub begun_one : (c : ObjectId) → IsTrue (is_one_of xs c) → Has h c → IsTrue (m c).one ⊎ IsTrue (hides both (m c))
   pub begun_two : (c : ObjectId) → IsTrue (is_one_of ys c) → Has h c → IsTrue (m c).two
-  -- what is not open has handed its marks on, but for parents that are hidden
+  -- A commit that is not open has handed its marks on, except to parents that are hidden.
   pub on_one : (c p : ObjectId) → is_one_of q c ≡ false → IsEdge h c p → IsTrue (m c).one → IsTrue (m p).one ⊎ IsTrue (hides both (m p))
   pub on_two : (c p : ObjectId) → is_one_of q c ≡ false → IsEdge h c p → IsTrue (m c).two → IsTrue (m p).two
   pub least : (c : ObjectId) → is_one_of q c ≡ false → IsTrue (shows both (m c)) → bound ≤ generation_of h c
 
--- each open commit is hidden, and has a smaller generation than what was taken and not hidden
+-- Each open commit of q is hidden, and its generation number is less than `least`.
 abbrev pub IsOver : History → Bool → (ObjectId → MarkSet) → List ObjectId → ℕ → Type 0
 IsOver h both m q least = (c : ObjectId) → IsTrue (is_one_of q c) → IsTrue (hides both (m c)) × (generation_of h c < least)
 
--- id leaves the open commits
+-- The commit id leaves the open commits q, of which r remain.
 pub record Takes (h : History) (both : Bool) (id : ObjectId) (m : ObjectId → MarkSet) (q : List ObjectId) (bound : ℕ) (r : List ObjectId) (next : ℕ) : Type 0 where
   pub queue : IsPermutation q (id ∷ r)
   pub least : next ≡ cond (hides both (m id)) bound (min bound (generation_of h id))
 
--- what marks say at the end of a walk from the sides xs and ys
+-- What the marks m say at the end of a walk from the sides xs and ys.
 pub record Sees (h : History) (xs ys : List ObjectId) (both : Bool) (m : ObjectId → MarkSet) : Type 0 where
   pub one : (c : ObjectId) → IsTrue (m c).one → IsAncestorOfOne h xs c
   pub two : (c : ObjectId) → IsTrue (m c).two → IsAncestorOfOne h ys c
@@ -73,22 +74,24 @@ pub record Sees (h : History) (xs ys : List ObjectId) (both : Bool) (m : ObjectI
   pub no_second : GenerationsNeverRiseFrom h (xs ++ ys) → (c : ObjectId) → IsTrue (is_first_alone (m c)) → ¬ IsAncestorOfOne h ys c
   pub no_first : GenerationsNeverRiseFrom h (xs ++ ys) → IsTrue both → (c : ObjectId) → IsTrue (is_second_alone (m c)) → ¬ IsAncestorOfOne h xs c
 
--- ids has what the first side alone reaches, each once; where a generation rises, perhaps more of what that side reaches
+-- The list ids has each commit that only the first side xs reaches, once. If a generation number
+-- rises it may have more of what xs reaches.
 pub record ListsFirst (h : History) (xs ys : List ObjectId) (ids : List ObjectId) : Type 0 where
   pub once : IsDistinct same_id ids
   pub every : (c : ObjectId) → IsBeyond h ys xs c → IsTrue (is_one_of ids c)
   pub may : (c : ObjectId) → IsTrue (is_one_of ids c) → IsAncestorOfOne h xs c
   pub exact : GenerationsNeverRiseFrom h (xs ++ ys) → (c : ObjectId) → IsTrue (is_one_of ids c) → IsBeyond h ys xs c
 
--- ids has what one of the sides reaches and the other does not, each once; where a generation rises, perhaps more of what
--- either reaches
+-- The list ids has each commit that exactly one of the sides xs and ys reaches, once. If a
+-- generation number rises it may have more.
 pub record ListsEither (h : History) (xs ys : List ObjectId) (ids : List ObjectId) : Type 0 where
   pub once : IsDistinct same_id ids
   pub every : (c : ObjectId) → IsBeyond h ys xs c ⊎ IsBeyond h xs ys c → IsTrue (is_one_of ids c)
   pub exact : GenerationsNeverRiseFrom h (xs ++ ys) → (c : ObjectId) → IsTrue (is_one_of ids c) → IsBeyond h ys xs c ⊎ IsBeyond h xs ys c
 
--- n is how many commits the first side alone reaches, and k how many the second side alone where both are wanted; where a
--- generation rises, perhaps more
+-- The number n counts the commits that only the first side xs reaches. If both sides are wanted, k
+-- counts the commits that only the second side ys reaches. If a generation number rises, n and k
+-- may be greater, but no greater than the numbers of commits that xs and ys reach.
 pub record CountsSides (h : History) (xs ys : List ObjectId) (both : Bool) (n k : ℕ) : Type 0 where
   pub first : GenerationsNeverRiseFrom h (xs ++ ys) → HasSize (IsBeyond h ys xs) n
   pub first_no_less : AtMost n (IsBeyond h ys xs)

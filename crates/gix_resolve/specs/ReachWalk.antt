@@ -16,52 +16,53 @@ use Rattle.gix_merge_base.specs.declared.merge_base.flags.Flags.{Flags}
 use Rattle.gix_resolve.specs.ReachSides.{hides}
 use Rattle.gix_resolve.specs.declared.reach.walk.Walk.{Walk}
 
--- the walk has met the commits with the numbers ns, each of which stands once: each has a mark, and
--- what has one and is not hidden stands there
+-- The walk has met the commits with the numbers ns, each once. Each of them has a mark, and every
+-- commit that has a mark and is not hidden is among them.
 pub record AreMet {S A : Type 0} (both : Bool) (g : Graphed S (Commit Flags A)) (ns : List Number) : Type 0 where
   pub inside : AreIn g ns
   pub marked : (q : ObjectId) → IsTrue (is_one_of (ids_at g ns) q) → is_some (mark_at g q) ≡ true
   pub every : (q : ObjectId) → is_some (mark_at g q) ≡ true → hides both (marks_at g q) ≡ false → IsTrue (is_one_of (ids_at g ns) q)
   pub once : IsDistinct same_id (ids_at g ns)
 
--- each number stands under the generation of its commit
+-- The key of each number in ps is the generation number of its commit.
 abbrev pub AreKeyed : {S T : Type 0} → History → Graphed S T → List (ℕ × Number) → Type 0
 AreKeyed h g ps = AllByRecursion (λ p. p.0 ≡ generation_of h (id_at g (place_in p.1))) ps
 
--- how many of q are of a commit that is not hidden
+-- The number of entries of q whose commit is not hidden.
 abbrev pub count_unhidden : Bool → (ObjectId → MarkSet) → List ObjectId → ℕ
 count_unhidden both m q = sum_by (λ x. level (not (hides both (m x)))) q
 
--- n is how often each commit that is not hidden stands in q, and k how many are of such a one
+-- The function n says how often each commit that is not hidden occurs in q, and k is the number of
+-- all these entries.
 pub record Tells (both : Bool) (m : ObjectId → MarkSet) (n : ObjectId → ℕ) (q : List ObjectId) (k : ℕ) : Type 0 where
   pub unhidden : k ≡ count_unhidden both m q
   pub times : (c : ObjectId) → hides both (m c) ≡ false → n c ≡ times c q
 
--- the number was put among ps under its key, unless it stood there n times
+-- If n is 0, the list rs is ps with the number under its key, in any order. Otherwise rs is ps.
 abbrev pub Opens : ℕ → ℕ → Number → (ps rs : List (ℕ × Number)) → Type 0
 Opens n key number ps rs =
     ((n ≡ 0) × IsPermutation ((key, number) ∷ ps) rs) ⊎ ((1 ≤ n) × (rs ≡ ps))
 
--- the number was put among ps under its key, or stood there, n times
+-- The list rs is ps with the number under its key, in any order, or rs is ps and n is at least 1.
 abbrev pub Reopens : ℕ → ℕ → Number → (ps rs : List (ℕ × Number)) → Type 0
 Reopens n key number ps rs = IsPermutation ((key, number) ∷ ps) rs ⊎ ((1 ≤ n) × (rs ≡ ps))
 
--- what a walk keeps beside the marks of its graph is right
+-- What the walk w keeps agrees with the marks of its graph g.
 pub record IsRight {S A B : Type 0} (h : History) (g : Graphed S (Commit Flags A)) (w : Walk B) : Type 0 where
   pub met : AreMet w.both g w.met.items
   pub held : AreHeld g w.front
   pub keyed : AreKeyed h g w.front
   pub tells : Tells w.both (marks_at g) (queued_at g) (queued_ids g w.front) w.unhidden
 
--- the walk before the number left its open ones
+-- The walk w with one more open commit: the number under its key.
 abbrev pub with_open : {A : Type 0} → ℕ → Number → Walk A → Walk A
 with_open key number w = record { both = w.both; met = w.met; front = (key, number) ∷ w.front; unhidden = w.unhidden; least = w.least }
 
--- a step that hands marks on changes neither of these
+-- The walks v and w have the same `both` and the same `least`.
 abbrev pub SameSides : {A : Type 0} → Walk A → Walk A → Type 0
 SameSides v w = (w.both ≡ v.both) × (w.least ≡ v.least)
 
--- the marks went to id, which is open now
+-- The marks w were added to those of id, which is open now.
 pub record Enters (w : MarkSet) (id : ObjectId) (m : ObjectId → MarkSet) (q : List ObjectId) (m' : ObjectId → MarkSet) (q' : List ObjectId) : Type 0 where
   pub marks : (c : ObjectId) → m' c ≡ cond (same_id id c) (joined w (m c)) (m c)
   pub inside : (c : ObjectId) → is_one_of q' c ≡ is_one_of (id ∷ q) c

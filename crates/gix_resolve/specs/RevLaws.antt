@@ -1,4 +1,4 @@
--- Where both orders of names and digits mean the same.
+-- When both orders of names and abbreviated object names mean the same.
 use Rattle.std.specs.Prelude.{◌≡◌, ◌↔◌, ℕ, List, None}
 use Rattle.std.specs.List.{AllByRecursion}
 use Rattle.gix_revision.specs.Call.{Target, object, path}
@@ -15,19 +15,20 @@ use Rattle.gix_resolve.specs.Resolved.{IsStep, IsStepBy, EndsAs}
 use Rattle.gix_resolve.specs.RevParse.{digits_in, names_first}
 use Rattle.gix_resolve.specs.declared.state.State.{State}
 
--- `^{commit}`, or a path
+-- The target of a peel is a commit or a path.
 abbrev pub IsSameDemand : Target → Type 0
 IsSameDemand (object Commit) = Unit {0}
 IsSameDemand (path p) = Unit {0}
 IsSameDemand _ = ⊥
 
--- a name that could be no digits of an id, in either order; and no other object is asked for than a commit
+-- A piece is plain if it is a name that in neither order can be an abbreviated object name, or a
+-- peel to a commit or a path, or any other piece.
 abbrev pub IsPlain : Piece → Type 0
 IsPlain (pieces.name text whole attempt) = (attempt ≡ None) × (prefix_with text None ≡ None) × (prefix_with (digits_in text) None ≡ None)
 IsPlain (pieces.peel target after) = IsSameDemand target
 IsPlain _ = Unit {0}
 
--- a text of such pieces alone means the same in both orders
+-- A text with only plain pieces means the same in both orders.
 abbrev pub OrdersAgree : Known → History → Type 0
 OrdersAgree known h =
     (text : List ℕ) (now : Time) (u : State) (l : Leaf) → AllByRecursion IsPlain (pieces_of text)

@@ -1,5 +1,5 @@
--- How git itself takes a name: an id, then a reference, then first digits of an id. git-rev-parse, "Specifying Revisions";
--- gitrevisions, "<sha1>", "<describeOutput>" and "<refname>".
+-- How git reads a name: as an id, then as a ref, then as an abbreviated object name (git-rev-parse,
+-- "Specifying Revisions"; gitrevisions, "<sha1>", "<describeOutput>" and "<refname>").
 use Rattle.std.specs.Prelude.{ℕ, ◌+◌, ◌==◌, ◌&&◌, List, codes, length, drop, nat_lt, Bool, if◌then◌else◌, Option, Some, None, Result, Ok, Err}
 use Rattle.std.specs.List.{list_all}
 use Rattle.hex.specs.Hex.{is_hex_digit}
@@ -24,24 +24,26 @@ use Rattle.gix_resolve.specs.declared.refusal.Refusal.{Refusal}
 use Rattle.gix_resolve.specs.declared.refusal.Refusal.TheVariants.{NoName, NameFirst, CommitsAlone}
 use Rattle.gix_resolve.specs.declared.state.State.{State}
 
--- whether `-g` stands at place k of a name, and something before it
+-- Whether the name has `-g` at place k, and something before it.
 abbrev pub is_id_mark : (name : List ℕ) → (k : ℕ) → Bool
 is_id_mark name k = nat_lt 0 k && begins (codes "-g") (drop k name)
 
--- what stands behind it; without one the whole name
+-- The text of the name after the `-g` at place k. Without a place, the whole name.
 abbrev pub behind_mark : (name : List ℕ) → Option ℕ → List ℕ
 behind_mark name (Some k) = drop (k + 2) name
 behind_mark name None = name
 
--- what may be the first digits of an id: the text behind the last `-g` of a name, or the whole name
+-- The part of a name that may be an abbreviated object name: the text after its last `-g`, or the
+-- whole name.
 unfoldable pub digits_in : (name : List ℕ) → List ℕ
 digits_in name = behind_mark name (greatest_below (is_id_mark name) (length name))
 
--- the attempt that a prefix is, with nothing known of the object
+-- The attempt that prefix p makes, with no hint about the object.
 abbrev pub attempt_by : Prefix → List ℕ × Option Hint
 attempt_by p = (prefix_text p, None)
 
--- the one known id that begins with the digits, where these are 4 to 40 hex digits
+-- The state after an attempt: it is at the one known id that begins with the digits. Without an
+-- attempt there is no such name.
 abbrev pub by_attempt : Known → State → Option (List ℕ × Option Hint) → Result State Refusal
 by_attempt known s None = Err NoName
 by_attempt known s (Some p) = by_prefix known s p.0
@@ -49,59 +51,66 @@ by_attempt known s (Some p) = by_prefix known s p.0
 abbrev pub by_digits : Known → State → List ℕ → Result State Refusal
 by_digits known s digits = by_attempt known s (prefix_with digits None)
 
--- the first of two that is found
+-- The first of two results if it is a state, otherwise the second.
 abbrev pub or_else : Result State Refusal → Result State Refusal → Result State Refusal
 or_else (Ok u) otherwise = Ok u
 or_else (Err why) otherwise = otherwise
 
--- the known id of exactly these bytes; or the one id that begins with the digits in them
+-- The state after a name that is not a whole id: it is at the ref with exactly these bytes,
+-- otherwise at the one id that begins with the digits in the name.
 abbrev pub by_reference : Known → State → List ℕ → Result State Refusal
 by_reference known s name = or_else (by_name known s name) (by_digits known s (digits_in name))
 
--- whether a name is 40 hex digits
+-- Whether the name is 40 hex digits.
 abbrev pub is_whole_id : (name : List ℕ) → Bool
 is_whole_id name = (length name == 40) && list_all is_hex_digit name
 
--- A name: 40 hex digits are that id alone; another one is a reference, or else the digits in it.
+-- The state after a name: 40 hex digits are that id alone, any other name is a ref or else the
+-- digits in it.
 abbrev pub by_rev_name : Known → State → List ℕ → Result State Refusal
 by_rev_name known s name = if is_whole_id name then by_digits known s name else by_reference known s name
 
--- `<rev>^{object}` and `<rev>^{}` of a commit are `<rev>^{commit}`
+-- The target of a peel, with `<rev>^{object}` and `<rev>^{}` read as `<rev>^{commit}`.
 abbrev pub commit_for : Target → Target
 commit_for valid_object = object Commit
 commit_for recursive_tag = object Commit
 commit_for target = target
 
--- a commit is no tag, and no tree or blob is known here; else a commit that the history has stays
+-- The state after a peel: a tree, a blob or a tag is refused, and a commit that the history has
+-- stays.
 abbrev pub by_rev_target : History → State → Target → Result State Refusal
 by_rev_target h s (object Tree) = Err CommitsAlone
 by_rev_target h s (object Blob) = Err CommitsAlone
 by_rev_target h s (object Tag) = Err CommitsAlone
 by_rev_target h s target = by_target h s (commit_for target)
 
--- What a call does. No prefix is taken by itself: then the parse asks for the name, as it is written.
+-- The state after a call of `rev_parse`, or why there is none. Every prefix is refused, and the
+-- parser then asks for the name.
 abbrev pub after_names : Known → History → State → Call → Result State Refusal
 after_names known h s (find_ref name) = by_rev_name known s name
 after_names known h s (prefix digits hint) = Err NameFirst
 after_names known h s (peel target) = by_rev_target h s target
 after_names known h s c = after known h s c
 
--- the way of `rev_parse`: names come before the first digits of an id
+-- The way of `rev_parse`: names come before abbreviated object names.
 abbrev pub names_first : Known → History → Way
 names_first known h = record { after = after_names known h; demand = commit_for }
 
--- the answer is what the text means in git's own order
+-- The answer r is what the text means by the steps of `rev_parse`.
 abbrev pub RevParsed : (text : List ℕ) → Time → Known → History → Result Spec Error → Type 0
 RevParsed text now known h r = Ends (IsStepBy (names_first known h)) text now r
 
--- the same over a source that may fail: then the answer is the fault of the call that asked it
+-- The answer r is what the text means by the steps of `rev_parse` over a source that may fail. If
+-- it failed, r is the fault of the call that asked it.
 abbrev pub RevParsedOrFault : (text : List ℕ) → Time → Known → History → Result Spec Error → Type 0
 RevParsedOrFault text now known h r = Ends (IsStepOrFaultBy (names_first known h)) text now r
 
--- and with the graph before the text and after it
+-- The answer r comes of a run of `rev_parse` that leads from the graph m before the text to the
+-- graph n after it.
 abbrev pub RevWalkedTo : {S T : Type 0} → (text : List ℕ) → Time → Known → History → Graphed S T → Result Spec Error → Graphed S T → Type 0
 RevWalkedTo text now known h m r n = WalkedBy (names_first known h) h text now m r n
 
--- whether memory may be wanting for pieces: for a step, for `^{commit}`, `^{object}` and `^{}`, or for an escape
+-- Whether an allocation may fail for pieces of a text in `rev_parse`: for a step, for `^{commit}`,
+-- `^{object}` and `^{}`, or for an escape.
 abbrev pub rev_may_want_memory : List Piece → Bool
 rev_may_want_memory = may_want_memory_by commit_for

@@ -1,4 +1,4 @@
--- What calls take into a graph, and what they ask its source for.
+-- What calls load into a graph, and what they ask its source for.
 use Rattle.std.specs.Prelude.{◌≡◌, ◌⊎◌, ◌<◌, ◌≤◌, ◌-◌, ℕ, [], ◌∷◌, Bool, true, false, IsTrue, Option, Some, None, is_some}
 use Rattle.std.specs.List.{slice_get}
 use Rattle.gix_revision.specs.Call.{Call, traverse, peel, object}
@@ -12,12 +12,12 @@ use Rattle.gix_revision.specs.Types.Traversal.{Traversal}
 use Rattle.gix_revision.specs.Types.Traversal.TheVariants.{NthParent, NthAncestor}
 use Rattle.gix_resolve.specs.Steps.{parent_at, ancestor_at, step_from}
 
--- what n holds m held, or it is one of these
+-- Every commit that graph n holds is held by graph m or is wanted.
 abbrev pub TakesOnly : {S T : Type 0} → (ObjectId → Type 0) → Graphed S T → Graphed S T → Type 0
 TakesOnly wanted m n = (q : ObjectId) → IsTrue (is_some (held_at n q)) → IsTrue (is_some (held_at m q)) ⊎ wanted q
 
--- q is one of the commits that are looked at to list what a spec means: what its ids reach; of `a^!` the commit itself;
--- of `^a`, which means no commit, none
+-- Commit q may be loaded to list what a spec means. It is reachable from the ids of the spec; for
+-- `a^!` it is a; for `^a`, which means no commit, there is none.
 abbrev pub IsLookedAt : History → Spec → ObjectId → Type 0
 IsLookedAt h (Include a) q = IsAncestor h a q
 IsLookedAt h (Exclude a) q = ⊥
@@ -26,47 +26,50 @@ IsLookedAt h (Merge a b) q = IsAncestorOfOne h (a ∷ b ∷ []) q
 IsLookedAt h (IncludeOnlyParents a) q = IsAncestor h a q
 IsLookedAt h (ExcludeParents a) q = Has h a × (q ≡ a)
 
--- whether a spec is `^a`
+-- Whether the spec is `^a`.
 abbrev pub is_exclude : Spec → Bool
 is_exclude (Exclude a) = true
 is_exclude _ = false
 
--- q is the commit, or its parent at a place
+-- Commit q is id, or the parent of id at the place.
 abbrev pub IsNear : History → (place : ℕ) → (id q : ObjectId) → Type 0
 IsNear h place id q = (q ≡ id) ⊎ (parent_at h place id ≡ Some q)
 
--- q lies on a step: on the way of `~n` from the commit to where it leads; of `^n` the commit, and where it leads
+-- Commit q is on a step from id. For `~n` it is on the way from id to where the step leads, for
+-- `^n` it is id or where the step leads.
 abbrev pub IsOnStep : History → Traversal → (id q : ObjectId) → Type 0
 IsOnStep h (NthAncestor n) id q = (k : ℕ) × (k ≤ n) × (ancestor_at h k id ≡ Some q)
 IsOnStep h (NthParent n) id q = (q ≡ id) ⊎ (step_from h (NthParent n) id ≡ Some q)
 
--- q lies on a call, where that revision is read: on a step; or it is the commit that `^{commit}` asks for. No other call
--- asks for one.
+-- Commit q is on a call at the revision that was read: it is on a step, or it is the commit that
+-- `^{commit}` asks for. No other call asks for a commit.
 abbrev pub IsOnCall : History → Option ObjectId → Call → ObjectId → Type 0
 IsOnCall h (Some id) (traverse step) q = IsOnStep h step id q
 IsOnCall h (Some id) (peel (object Commit)) q = q ≡ id
 IsOnCall h _ _ q = ⊥
 
--- n does not hold one of these
+-- Some wanted commit is not held by graph n.
 abbrev pub LacksOne : {S T : Type 0} → (ObjectId → Type 0) → Graphed S T → Type 0
 LacksOne wanted n = (q : ObjectId) × wanted q × (held_at n q ≡ None)
 
--- n holds the revision that was read before a call, and the one that is read after it
+-- Graph n holds the revision that was read before a call, and the one that was read after it.
 abbrev pub HoldsBoth : {S T : Type 0} → (before after : Option ObjectId) → Graphed S T → Type 0
 HoldsBoth before after n = (q : ObjectId) → (before ≡ Some q) ⊎ (after ≡ Some q) → IsTrue (is_some (held_at n q))
 
--- q is the commit, or what it has at a place of its parents, also where the history lacks that
+-- Commit q is id or the parent of id at the place, also if history h does not have that parent.
 abbrev pub IsAskedNear : History → (place : ℕ) → (id q : ObjectId) → Type 0
 IsAskedNear h place id q = (q ≡ id) ⊎ (slice_get (parents_in (entry_at h id)) place ≡ Some q)
 
--- q is asked for on a step: the commit from which it goes; of `~n` each commit on its way but the last, and the first
--- parent of each; of `^n` the parent of that number; also a parent that the history lacks
+-- Commit q is asked for on a step from id. It is id; for `~n` it may be a commit on the way before
+-- the last one, or the first parent of such a commit; for `^n` it may be the parent of that number.
+-- The history need not have the parent.
 abbrev pub IsAskedOnStep : History → Traversal → (id q : ObjectId) → Type 0
 IsAskedOnStep h (NthAncestor n) id q =
     (q ≡ id) ⊎ ((k : ℕ) × (p : ObjectId) × (k < n) × (ancestor_at h k id ≡ Some p) × IsAskedNear h 0 p q)
 IsAskedOnStep h (NthParent n) id q = (q ≡ id) ⊎ ((0 < n) × IsAskedNear h (n - 1) id q)
 
--- q is asked for at a call, where that revision is read: on a step; or it is the commit that `^{commit}` asks for
+-- Commit q is asked for at a call at the revision that was read: it is asked for on a step, or it
+-- is the commit that `^{commit}` asks for.
 abbrev pub IsAskedAt : History → Option ObjectId → Call → ObjectId → Type 0
 IsAskedAt h (Some id) (traverse step) q = IsAskedOnStep h step id q
 IsAskedAt h (Some id) (peel (object Commit)) q = q ≡ id

@@ -1,4 +1,5 @@
--- What a revision text takes into a graph, the commits on its steps, and at which of them its source did not answer.
+-- What a revision loads into a graph: the commits on its steps. And at which commit its source did
+-- not answer.
 use Rattle.std.specs.Prelude.{◌≡◌, ℕ, List, Some, Result, Ok, Err, IsTrue}
 use Rattle.gix_revision.specs.Answer.{Answer, accepted}
 use Rattle.gix_revision.specs.Call.{Call}
@@ -16,9 +17,10 @@ use Rattle.gix_resolve.specs.Steps.{start}
 use Rattle.gix_resolve.specs.Taken.{TakesOnly, IsOnCall, HoldsBoth, LacksOne, IsAskedAt}
 use Rattle.gix_resolve.specs.declared.state.State.{State}
 
--- A step over a source that may fail, with the graph before and after it: what was held is held, and what is newly held
--- lies on the call. Where a call that asks the source is accepted, the revision from which it goes and the one to which
--- it comes are held. Where the source did not answer, some commit that the call asks for is not held.
+-- A step over a source that may fail, with the graph before and after it. Held commits stay held,
+-- and newly held ones are on the call. If a call that asks the source is accepted, the revisions
+-- from which and to which it goes are held. If the source did not answer, some commit that the call
+-- asks for is not held.
 pub record WalksBy {S T : Type 0} (w : Way) (h : History) (s : State × Graphed S T) (c : Call) (a : Answer) (u : State × Graphed S T) : Type 0 where
   pub step : IsStepOrFaultBy w s.0 c a u.0
   pub held : KeepsHeld s.1 u.1
@@ -26,12 +28,13 @@ pub record WalksBy {S T : Type 0} (w : Way) (h : History) (s : State × Graphed 
   pub there : a ≡ accepted → IsTrue (asks_source (asked_as w.demand c)) → HoldsBoth s.0.current u.0.current u.1
   pub lacks : IsTrue (goes_unanswered a) → LacksOne (IsAskedAt h s.0.current (asked_as w.demand c)) u.1
 
--- the answer is the outcome of a run of such steps, from the graph before the text to the one after it, and its spec
+-- The answer is the spec or the error with which a run of steps of way w ends that leads from graph
+-- m to graph n.
 abbrev pub WalkedBy : {S T : Type 0} → Way → History → (text : List ℕ) → Time → Graphed S T → Result Spec Error → Graphed S T → Type 0
 WalkedBy w h text now m (Ok spec) n =
     (u : State) × IsRun (WalksBy w h) (start, m) (meaning_of text now) (u, n) (ended fine) × (u.spec ≡ Some spec)
 WalkedBy w h text now m (Err e) n = (u : State) × Fails (WalksBy w h) (start, m) (meaning_of text now) (u, n) e
 
--- the same by the steps of `resolve`
+-- The answer r comes of a run of `resolve` that leads from graph m to graph n.
 abbrev pub WalkedTo : {S T : Type 0} → (text : List ℕ) → Time → Known → History → Graphed S T → Result Spec Error → Graphed S T → Type 0
 WalkedTo text now known h m r n = WalkedBy (digits_first known h) h text now m r n

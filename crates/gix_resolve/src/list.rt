@@ -1,4 +1,4 @@
-//! The commits that a spec means, as a list in rising order of their ids: git-rev-list.
+//! Lists and counts the commits in a spec (git-rev-list).
 
 ghost use Rattle.std.specs.Prelude.{◌≡◌, IfOk, IsOkAnd, IsTrue, Some, Ok, []};
 ghost use Rattle.gix_revwalk.specs.Faults.{count_after};
@@ -25,12 +25,12 @@ use std::alloc::Allocator;
 use std::fmt;
 use thiserror::Error as StdError;
 
-/// Why no commits are listed. The next call on the graph meets its contract.
+/// Says why a list or a count of commits failed. The graph can be used again.
 #[derive(Clone, Copy, Debug, PartialEq, Eq, Drop, StdError)]
 pub enum ListError {
-    /// The source failed: its count of faults is one more than before, or still the greatest `u64`.
+    /// The source failed. Its [fault count](gix_revision#fault-count) has grown by one.
     Source,
-    /// There was no memory, for the list or for the source's answer.
+    /// An allocation failed, for the list or in the source.
     OutOfMemory,
 }
 
@@ -60,19 +60,28 @@ impl From<graph::Error> for ListError {
     }
 }
 
-/// The commits that a spec means, each once, in rising order of their ids: gitrevisions,
-/// "Specifying Ranges". An id that the source lacks has no ancestors: it adds and hides nothing.
+/// Lists the commits in `spec`, each once, in rising order of their ids.
 ///
-/// It goes over all that the ids reach, whatever the source knows; [`commits_early`] need not.
+/// See gitrevisions, "Specifying Ranges". An id that the source does not have has no ancestors, so
+/// it adds and hides no commit. `^a` alone means no commit: the call then succeeds with an empty
+/// list, and the graph is unchanged.
 ///
-/// What the graph held it still holds, refused or not; the data beside it may have changed. What it
-/// newly holds is reached from the ids of the spec. `^a` means no commit: it is always answered, by
-/// the empty list, and the graph is as it was.
+/// # Graph
+///
+/// Held commits stay held, also on an error; their data may change. A newly held commit is
+/// reachable from the ids of `spec`.
 ///
 /// # Errors
 ///
-/// [`ListError::Source`] where the source failed, [`ListError::OutOfMemory`] where there was no
-/// memory. The graph can be used again after either.
+/// - [`ListError::Source`]: the source failed.
+/// - [`ListError::OutOfMemory`]: an allocation failed.
+///
+/// The graph can be used again after either.
+///
+/// # Cost
+///
+/// The walk visits everything that the ids reach, whatever the source reports about generation
+/// numbers. [`commits_early`] may stop earlier.
 pub fn commits<S: Find, A: Allocator + Copy>(
     alloc: A,
     spec: &Spec,
@@ -94,18 +103,30 @@ pub fn commits<S: Find, A: Allocator + Copy>(
     Ok(ids)
 }
 
-/// What [`commits`] lists, in the same order, by a walk that ends early where it may: of `a..b` and `a...b` it looks no
-/// further than generations ask for, as [`reachable`](crate::reachable) does, where the source knows that none rises
-/// ([`Find::generations`]). So near commits cost what lies between them. Where it has to go far it costs several
-/// times what [`commits`] does. All else, and each spec over another source, is listed as there.
+/// Lists the commits in `spec` in rising order of their ids, with a walk that may stop early.
 ///
-/// What the graph held it still holds, refused or not; the data beside it may have changed. What it
-/// newly holds is reached from the ids of the spec. `^a` means no commit: it is always answered, by
-/// the empty list, and the graph is as it was.
+/// The list is that of [`commits`]. `^a` alone means no commit: the call then succeeds with an
+/// empty list, and the graph is unchanged.
+///
+/// # Graph
+///
+/// Held commits stay held, also on an error; their data may change. A newly held commit is
+/// reachable from the ids of `spec`.
 ///
 /// # Errors
 ///
-/// As [`commits`].
+/// - [`ListError::Source`]: the source failed.
+/// - [`ListError::OutOfMemory`]: an allocation failed.
+///
+/// The graph can be used again after either.
+///
+/// # Cost
+///
+/// For `a..b` and `a...b` the walk goes no further than generation numbers ask for, like
+/// [`reachable`](crate::reachable), if the source reports that they never rise
+/// ([`Find::generations`]). Two nearby commits then cost what lies between them. A walk that has to
+/// go far costs several times what [`commits`] costs. For any other spec or source the walk is that
+/// of [`commits`].
 pub fn commits_early<S: Find, A: Allocator + Copy>(
     alloc: A,
     spec: &Spec,
@@ -127,16 +148,26 @@ pub fn commits_early<S: Find, A: Allocator + Copy>(
     Ok(ids)
 }
 
-/// How many commits a spec means, as many as [`commits`] lists: git-rev-list, "--count". None of their ids is
-/// listed, and none is sorted. The walk is that of [`commits_early`].
+/// Counts the commits in `spec` (git-rev-list, "--count").
 ///
-/// What the graph held it still holds, refused or not; the data beside it may have changed. What it
-/// newly holds is reached from the ids of the spec. `^a` means no commit: it is always answered, by 0,
-/// and the graph is as it was.
+/// The count is the length of the list of [`commits`]. `^a` alone means no commit: the call then
+/// succeeds with 0, and the graph is unchanged.
+///
+/// # Graph
+///
+/// Held commits stay held, also on an error; their data may change. A newly held commit is
+/// reachable from the ids of `spec`.
 ///
 /// # Errors
 ///
-/// As [`commits`].
+/// - [`ListError::Source`]: the source failed.
+/// - [`ListError::OutOfMemory`]: out of memory.
+///
+/// The graph can be used again after either.
+///
+/// # Cost
+///
+/// The walk is that of [`commits_early`]. No id is listed or sorted.
 pub fn count_commits<S: Find, A: Allocator + Copy>(
     alloc: A,
     spec: &Spec,
@@ -156,7 +187,7 @@ pub fn count_commits<S: Find, A: Allocator + Copy>(
     Ok(count)
 }
 
-/// The ids that are greater than the bound; all of them where there is none.
+/// Keeps the ids that are greater than `bound`. Without a bound it keeps all ids.
 fn keep_past<A: Allocator + Copy>(ids: &mut Vec<ObjectId, A>, bound: Option<ObjectId>)
     ensures { ids.new.items ≡ past bound ids.old.items }
 {
@@ -165,13 +196,27 @@ fn keep_past<A: Allocator + Copy>(ids: &mut Vec<ObjectId, A>, bound: Option<Obje
     }
 }
 
-/// The first `limit` ids of [`commits`] that are greater than `after`; of all of them where there
-/// is no `after`. So each page begins after the last id of the one before. A page makes the whole
-/// list each time: however small it is, it costs what [`commits`] does.
+/// Lists one page of [`commits`]: its first `limit` ids that are greater than `after`.
+///
+/// Without `after` the page begins with the first id. Pass the last id of a page as `after` to get
+/// the next page. `^a` alone means no commit: the call then succeeds with an empty page, and the
+/// graph is unchanged.
+///
+/// # Graph
+///
+/// Held commits stay held, also on an error; their data may change. A newly held commit is
+/// reachable from the ids of `spec`.
 ///
 /// # Errors
 ///
-/// As [`commits`].
+/// - [`ListError::Source`]: the source failed.
+/// - [`ListError::OutOfMemory`]: an allocation failed.
+///
+/// The graph can be used again after either.
+///
+/// # Cost
+///
+/// Each call makes the whole list, so a page of any size costs what [`commits`] costs.
 pub fn page<S: Find, A: Allocator + Copy>(
     alloc: A,
     spec: &Spec,

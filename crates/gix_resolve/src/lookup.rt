@@ -1,4 +1,4 @@
-//! Look-ups of ids by their first digits.
+//! Looks up ids by their first digits.
 
 ghost use Rattle.std.specs.Prelude.{◌≡◌, List};
 ghost use Rattle.std.specs.List.{filter};
@@ -16,32 +16,32 @@ use gix_revision::hash::{ObjectId, Prefix};
 pub use joined::JoinedIds;
 use std::cmp::Ordering;
 
-/// Which of some ids begin with some digits.
+/// Says which of some ids begin with a prefix.
 #[derive(Clone, Copy)]
 pub enum Found {
-    /// None begins with them.
+    /// No id begins with it.
     Nothing,
-    /// This one alone does.
+    /// Exactly this id begins with it.
     One(ObjectId),
-    /// More than one do.
+    /// More than one id begins with it.
     Many,
 }
 
-/// Which ids there are, none of them twice: what a table completes the first digits of an id to.
+/// The ids that an abbreviated object name can stand for, none of them twice.
 ///
-/// An implementor names them as a ghost member, so that each table over it can speak of them. So are a set of
-/// ids, a commit-graph file, a borrowed one of each, one that there may be, and two together.
+/// An implementor names its ids as a ghost member. These types implement it: a set of ids, a
+/// commit-graph file, a borrowed one of each, an optional one, and two together.
 pub trait Ids: Drop {
     ghost ids: { Self → List ObjectId };
 
-    /// Which of the ids begin with a prefix.
+    /// Looks up the ids that begin with a prefix.
     fn lookup_prefix(&self, prefix: Prefix) -> Found
         ensures found { result
             ≡ found_in (filter (begins_with (prefix_text prefix)) (ids self.now)) }
         ensures once { StandOnce (ids self.now) };
 }
 
-/// Ids that are lent.
+/// Looks ids up in what is borrowed.
 impl<I: Ids> Ids for &I {
     ghost ids = { λ s. I.ids s.now };
 
@@ -50,7 +50,7 @@ impl<I: Ids> Ids for &I {
     }
 }
 
-/// Ids that there may be.
+/// Looks ids up in what is there. `None` has no ids.
 impl<I: Ids> Ids for Option<I> {
     ghost use Rattle.gix_resolve.specs.Found.{ids_if_some};
 
@@ -65,7 +65,7 @@ impl<I: Ids> Ids for Option<I> {
 }
 
 impl Found {
-    // With one id more, where it begins with the digits.
+    // Adds one id, if it begins with the prefix.
     fn with(self, prefix: Prefix, id: ObjectId) -> Found
         ensures { result ≡ found_with (prefix_text prefix) self id }
     {
@@ -78,7 +78,7 @@ impl Found {
         }
     }
 
-    // With the next id, where there is one.
+    // Adds the next id, if there is one and it begins with the prefix.
     pub(crate) fn with_next(self, prefix: Prefix, next: Option<ObjectId>) -> Found
         ensures { result ≡ found_next (prefix_text prefix) self next }
     {
@@ -88,7 +88,7 @@ impl Found {
         }
     }
 
-    // With what other ids are, among which the same one may be.
+    // Joins this answer with that for other ids. An id may be in both.
     pub(crate) fn and(self, other: Found) -> Found
         ensures { result ≡ found_both self other }
     {
@@ -99,7 +99,7 @@ impl Found {
         }
     }
 
-    // With an id that may be among them.
+    // Joins this answer with one id, which may be in it already.
     fn beside(self, id: ObjectId) -> Found
         ensures { result ≡ found_both (Found.One id) self }
     {

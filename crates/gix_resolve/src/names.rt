@@ -1,4 +1,4 @@
-//! Names as git itself takes them: an id, then a reference, then the first digits of an id.
+//! Resolves names in git's own order: an id, then a ref, then an abbreviated object name.
 
 ghost use Rattle.std.specs.Prelude.{◌≡◌, ◌+◌, ◌≤◌, IfSome, None, option_map, length, drop};
 ghost use Rattle.std.specs.List.{list_all};
@@ -17,7 +17,7 @@ use crate::table::Table;
 use gix_revision::hash::Prefix;
 use std::alloc::Allocator;
 
-// Whether `-g` stands at a place of a name, and something before it.
+// Tests whether a name has `-g` at a place, and something before it.
 fn is_id_mark(name: &[u8], place: usize) -> bool
     requires { place ≤ length name.now }
     ensures { result ≡ is_id_mark name.now place }
@@ -25,7 +25,7 @@ fn is_id_mark(name: &[u8], place: usize) -> bool
     place > 0 && name[place..].starts_with(b"-g")
 }
 
-// The last place of such a mark.
+// Finds the last place of a name that has `-g`, and something before it.
 fn last_id_mark(name: &[u8]) -> Option<usize>
     ensures place { result ≡ greatest_below (is_id_mark name.now) (length name.now) }
     ensures within { IfSome result (λ k. k + 2 ≤ length name.now) }
@@ -38,8 +38,9 @@ fn last_id_mark(name: &[u8]) -> Option<usize>
     None
 }
 
-/// What may be the first digits of an id: the text behind the last `-g` of a name, as in what
-/// `git describe` prints, or the whole name.
+/// Returns what may be an abbreviated object name in a name.
+///
+/// It is the text after the last `-g`, as in what `git describe` prints, or the whole name.
 #[tactic(auto, unfolding(crate::specs::RevParse::digits_in))]
 fn digits_in(name: &[u8]) -> &[u8]
     ensures { result.now ≡ digits_in name.now }
@@ -62,7 +63,7 @@ fn is_whole_id(name: &[u8]) -> bool
     name.len() == 40 && are_hex_digits(name)
 }
 
-// The prefix of 4 to 40 hex digits.
+// Reads a prefix of 4 to 40 hex digits.
 fn prefix_of(digits: &[u8]) -> Option<Prefix>
     ensures { option_map attempt_by result ≡ prefix_with digits.now None }
 {
@@ -76,7 +77,7 @@ fn prefix_of(digits: &[u8]) -> Option<Prefix>
 }
 
 impl State {
-    // After what may be the first digits of an id.
+    // Returns the state after a text that may be an abbreviated object name.
     fn abbreviated<A: Allocator, I: Ids>(
         self,
         table: &Table<A, I>,
@@ -90,7 +91,7 @@ impl State {
         }
     }
 
-    // After a reference, or else the first digits of an id.
+    // Returns the state after a ref name or, if there is no such ref, an abbreviated object name.
     fn referred<A: Allocator, I: Ids>(
         self,
         table: &Table<A, I>,
@@ -104,7 +105,7 @@ impl State {
         }
     }
 
-    /// After a name: 40 hex digits are that id, whatever references there are.
+    /// Returns the state after a name. 40 hex digits are that id, whatever refs exist.
     pub(crate) fn called<A: Allocator, I: Ids>(
         self,
         table: &Table<A, I>,

@@ -1,5 +1,6 @@
-//! What some commits reach and some others do not, listed or counted by a walk that ends early where
-//! generations are known: git-rev-list, "Description".
+//! Lists and counts what some commits reach and others do not (git-rev-list, "Description").
+//!
+//! One walk from both sides stops early if generation numbers are known.
 
 ghost use Rattle.std.specs.Prelude.{◌≡◌, ◌∷◌, ◌++◌, [], IfOk, IsTrue, true};
 ghost use Rattle.gix_base.specs.declared.hash.ObjectId.{ObjectId};
@@ -37,20 +38,32 @@ use gix_revision::merge_base::Flags;
 use gix_revwalk::numbers;
 use std::alloc::Allocator;
 
-/// The commits that one of `include` reaches and none of `exclude` does, each once, in rising order
-/// of their ids: git-rev-list, "Description". A commit reaches itself; an id that the source lacks
-/// reaches nothing.
+/// Lists the commits that `include` reaches and `exclude` does not, in rising order of their ids.
 ///
-/// It looks no further than generations ask for. No parent that the ids reach may have a greater
-/// generation than its child, an absent one counting as the greatest; where one has, the answer has
-/// all that is asked for, and beside it nothing but what `include` reaches.
+/// See git-rev-list, "Description". A commit is listed if at least one id of `include` reaches it
+/// and no id of `exclude` does. Each is listed once. A commit reaches itself. An id that the source
+/// does not have reaches nothing.
 ///
-/// What the graph held it still holds, refused or not; the data beside it may have changed. What it
-/// newly holds is reached from one of the ids.
+/// # Premises
+///
+/// [Ordered generations](gix_revision#premises), for what `include` and `exclude` reach. Without
+/// the premise the list still has every such commit, and only commits that `include` reaches.
+///
+/// # Graph
+///
+/// Held commits stay held, also on an error; their data may change. A newly held commit is
+/// reachable from one of the ids.
 ///
 /// # Errors
 ///
-/// As [`commits`](crate::commits).
+/// - [`ListError::Source`]: the source failed.
+/// - [`ListError::OutOfMemory`]: an allocation failed.
+///
+/// The graph can be used again after either.
+///
+/// # Cost
+///
+/// The walk goes no further than generation numbers ask for.
 pub fn reachable<S: Find, A: Allocator + Copy>(
     alloc: A,
     include: &[ObjectId],
@@ -61,7 +74,7 @@ pub fn reachable<S: Find, A: Allocator + Copy>(
         → IfOk result
         (λ ids. ListsBeyond (S.history graph.old.source) exclude.now include.now ids.items) }
 
-    // Whatever generations are.
+    // For any generation numbers.
     ensures covers { IfOk result
         (λ ids. CoversBeyond (S.history graph.old.source) exclude.now include.now ids.items) }
 
@@ -77,18 +90,30 @@ pub fn reachable<S: Find, A: Allocator + Copy>(
     Ok(ids)
 }
 
-/// What [`reachable`] lists, each once, in the order of [`newest_first`](crate::newest_first): git-rev-list,
-/// "Commit Ordering". No id is sorted or looked up: the numbers of the walk tell where each stands.
+/// Lists the commits that `include` reaches and `exclude` does not, newest first, each once.
 ///
-/// The premise is that of [`reachable`]; where a generation rises, the answer has all that is asked for, and
-/// beside it nothing but what `include` reaches.
+/// The set is that of [`reachable`]. The order is that of [`newest_first`](crate::newest_first).
 ///
-/// What the graph held it still holds, refused or not; the data beside it may have changed. What it
-/// newly holds is reached from one of the ids.
+/// # Premises
+///
+/// [Ordered generations](gix_revision#premises), for what `include` and `exclude` reach. Without
+/// the premise the list still has every such commit, and only commits that `include` reaches.
+///
+/// # Graph
+///
+/// Held commits stay held, also on an error; their data may change. A newly held commit is
+/// reachable from one of the ids.
 ///
 /// # Errors
 ///
-/// As [`commits`](crate::commits).
+/// - [`ListError::Source`]: the source failed.
+/// - [`ListError::OutOfMemory`]: an allocation failed.
+///
+/// The graph can be used again after either.
+///
+/// # Cost
+///
+/// The walk is that of [`reachable`]. The sort uses the numbers of the walk, and looks up no id.
 pub fn reachable_newest_first<S: Find, A: Allocator + Copy>(
     alloc: A,
     include: &[ObjectId],
@@ -99,7 +124,7 @@ pub fn reachable_newest_first<S: Find, A: Allocator + Copy>(
         → IfOk result (λ ids. Lists ids.items
         (IsBeyond (S.history graph.old.source) exclude.now include.now)) }
 
-    // Whatever generations are.
+    // For any generation numbers.
     ensures every { IfOk result (λ ids. (c : ObjectId)
         → IsBeyond (S.history graph.old.source) exclude.now include.now c
         → IsTrue (is_one_of ids.items c)) }
@@ -118,14 +143,31 @@ pub fn reachable_newest_first<S: Find, A: Allocator + Copy>(
     Ok(ids)
 }
 
-/// How many commits [`reachable`] lists: git-rev-list, "--count". None is listed or sorted.
+/// Counts the commits that `include` reaches and `exclude` does not (git-rev-list, "--count").
 ///
-/// The premise is that of [`reachable`]; without it there may be more, and no fewer, but no more than
-/// `include` reaches.
+/// A commit reaches itself. An id that the source does not have reaches nothing.
+///
+/// # Premises
+///
+/// [Ordered generations](gix_revision#premises), for what `include` and `exclude` reach. Without
+/// the premise the count is still no less than this number, and no more than the number of commits
+/// that `include` reaches.
+///
+/// # Graph
+///
+/// Held commits stay held, also on an error; their data may change. A newly held commit is
+/// reachable from one of the ids.
 ///
 /// # Errors
 ///
-/// As [`commits`](crate::commits).
+/// - [`ListError::Source`]: the source failed.
+/// - [`ListError::OutOfMemory`]: an allocation failed.
+///
+/// The graph can be used again after either.
+///
+/// # Cost
+///
+/// The walk is that of [`reachable`]. No id is listed or sorted.
 pub fn count_reachable<S: Find, A: Allocator + Copy>(
     alloc: A,
     include: &[ObjectId],
@@ -136,7 +178,7 @@ pub fn count_reachable<S: Find, A: Allocator + Copy>(
         → IfOk result
         (λ n. HasSize (IsBeyond (S.history graph.old.source) exclude.now include.now) n) }
 
-    // Whatever generations are.
+    // For any generation numbers.
     ensures no_less { IfOk result
         (λ n. AtMost n (IsBeyond (S.history graph.old.source) exclude.now include.now)) }
     ensures no_more { IfOk result
@@ -153,8 +195,9 @@ pub fn count_reachable<S: Find, A: Allocator + Copy>(
     Ok(counts.0)
 }
 
-/// The time of a commit, which is taken in from the source unless it is held; the least of all where
-/// the source lacks it.
+/// Returns the time of a commit, and loads the commit if the graph does not hold it.
+///
+/// The answer is `i64::MIN` if the source does not have the commit.
 fn time_of<S: Find, A: Allocator + Copy>(
     alloc: A,
     id: ObjectId,
@@ -169,7 +212,7 @@ fn time_of<S: Find, A: Allocator + Copy>(
     Ok(numbers::value(graph, number).commit_time())
 }
 
-/// Whether the first of two commits is the newer one.
+/// Tests whether the first of two commits is newer than the second.
 fn is_newer<S: Find, A: Allocator + Copy>(
     alloc: A,
     first: ObjectId,
@@ -184,8 +227,9 @@ fn is_newer<S: Find, A: Allocator + Copy>(
     Ok(time > time_of(alloc, second, graph)?)
 }
 
-/// How many commits `first` alone reaches of the two, and how many `second` alone; where a generation rises,
-/// perhaps more. The second one is followed first.
+/// Counts what only `first` reaches and what only `second` reaches, and follows `second` first.
+///
+/// If a generation number rises the counts may be greater.
 fn counted_two<S: Find, A: Allocator + Copy>(
     alloc: A,
     first: ObjectId,
@@ -201,7 +245,7 @@ fn counted_two<S: Find, A: Allocator + Copy>(
     counted(alloc, &[first], &[second], true, graph)
 }
 
-/// The same, and the first one is followed first.
+/// Counts what only `first` reaches and what only `second` reaches, and follows `first` first.
 fn counted_turned<S: Find, A: Allocator + Copy>(
     alloc: A,
     first: ObjectId,
@@ -218,8 +262,9 @@ fn counted_turned<S: Find, A: Allocator + Copy>(
     Ok((firsts, seconds))
 }
 
-/// How many commits `ours` alone reaches of the two, and how many `theirs` alone; where a generation rises,
-/// perhaps more.
+/// Counts what only `ours` reaches and what only `theirs` reaches.
+///
+/// If a generation number rises the counts may be greater.
 fn counted_both<S: Find, A: Allocator + Copy>(
     alloc: A,
     ours: ObjectId,
@@ -232,8 +277,8 @@ fn counted_both<S: Find, A: Allocator + Copy>(
         (ours ∷ theirs ∷ [])) graph.old graph.new }
     ensures after { GraphAfter S.history S.fault_count is_source_fault graph.old graph.new result }
 {
-    // Without generations the side that is followed first, the second one, should reach the other one, and so
-    // be the newer one: else what both reach is gone over twice.
+    // Without generation numbers, the side that is followed first (the second one) should reach the
+    // other side, and so be the newer one. Otherwise the walk visits twice what both sides reach.
     if is_newer(alloc, ours, theirs, graph)? {
         counted_turned(alloc, ours, theirs, graph)
     } else {
@@ -241,20 +286,34 @@ fn counted_both<S: Find, A: Allocator + Copy>(
     }
 }
 
-/// How many commits `ours` reaches and `theirs` does not, and how many the other way round:
-/// git-rev-list, "--left-right" with "--count". A commit reaches itself; an id that the source lacks
+/// Counts the commits that only `ours` reaches and those that only `theirs` reaches.
+///
+/// This is `git rev-list --left-right --count` of `ours...theirs`: how many commits `ours` is
+/// ahead, and how many it is behind. A commit reaches itself. An id that the source does not have
 /// reaches nothing.
 ///
-/// One walk counts both, and none is listed or sorted. It looks no further than generations ask for; the
-/// premise is that of [`reachable`], and without it either count may be greater, and not less, but no
-/// greater than the number of commits that its side reaches.
+/// # Premises
 ///
-/// What the graph held it still holds, refused or not; the data beside it may have changed. What it
-/// newly holds is reached from one of the two.
+/// [Ordered generations](gix_revision#premises), for what `ours` and `theirs` reach. Without the
+/// premise each count is still no less than this number, and no more than the number of commits
+/// that its side reaches.
+///
+/// # Graph
+///
+/// Held commits stay held, also on an error; their data may change. A newly held commit is
+/// reachable from one of the two.
 ///
 /// # Errors
 ///
-/// As [`commits`](crate::commits).
+/// - [`ListError::Source`]: the source failed.
+/// - [`ListError::OutOfMemory`]: an allocation failed.
+///
+/// The graph can be used again after either.
+///
+/// # Cost
+///
+/// One walk counts both sides, and goes no further than generation numbers ask for. No id is listed
+/// or sorted.
 pub fn ahead_behind<S: Find, A: Allocator + Copy>(
     alloc: A,
     ours: ObjectId,
@@ -268,7 +327,7 @@ pub fn ahead_behind<S: Find, A: Allocator + Copy>(
         → IfOk result
         (λ r. HasSize (IsMeant (S.history graph.old.source) (Range ours theirs)) r.1) }
 
-    // Whatever generations are.
+    // For any generation numbers.
     ensures no_less_ahead { IfOk result
         (λ r. AtMost r.0 (IsMeant (S.history graph.old.source) (Range theirs ours))) }
     ensures no_less_behind { IfOk result

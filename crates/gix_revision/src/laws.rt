@@ -1,5 +1,5 @@
-//! Laws of the definitions, by the module that they speak of: what follows from them for every id,
-//! date, text, history and count.
+//! States laws of the definitions, by module: what follows for every id, date, text, history and
+//! count.
 //!
 //! No function here does anything. Its contract is the law.
 

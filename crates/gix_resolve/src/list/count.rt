@@ -1,4 +1,4 @@
-//! How many commits a spec means. The numbers that a walk lists tell: no id is listed, and none is sorted.
+//! Counts the commits in a spec by the numbers that a walk lists. No id is listed or sorted.
 
 ghost use Rattle.std.specs.Prelude.{◌≡◌, ◌+◌, IfOk, IsTrue, Ok, false};
 ghost use Rattle.gix_revwalk.specs.Faults.{is_source_fault};
@@ -18,9 +18,9 @@ use gix_revision::spec::Spec;
 use gix_revwalk::numbers;
 use std::alloc::Allocator;
 
-/// The sum of two counts.
+/// Adds two counts. A sum that does not fit a `usize` counts as out of memory.
 ///
-/// No memory holds as many commits as a `usize` can't count, so more than that is want of memory.
+/// No memory holds as many commits as a `usize` cannot count.
 pub(crate) fn sum(first: usize, second: usize) -> Result<usize, graph::Error>
     ensures sum { IfOk result (λ n. n ≡ first + second) }
     ensures fault { is_source_fault result ≡ false }
@@ -31,7 +31,7 @@ pub(crate) fn sum(first: usize, second: usize) -> Result<usize, graph::Error>
     }
 }
 
-/// How many are ancestors of just one of the two.
+/// Counts the ancestors of exactly one of the two commits.
 fn count_of_just_one<S: Find, A: Allocator + Copy>(
     alloc: A,
     theirs: ObjectId,
@@ -50,7 +50,7 @@ fn count_of_just_one<S: Find, A: Allocator + Copy>(
     sum(of_theirs, of_ours)
 }
 
-/// How many the parents of a commit reach.
+/// Counts the commits that the parents of `id` reach.
 fn count_of_parents<S: Find, A: Allocator + Copy>(
     alloc: A,
     id: ObjectId,
@@ -66,7 +66,7 @@ fn count_of_parents<S: Find, A: Allocator + Copy>(
     count_beyond(alloc, &[], &parents, Flags::default(), graph)
 }
 
-/// One, where the source has the commit, and none otherwise.
+/// Counts the commit `id` itself: 1 if the source has it, otherwise 0.
 fn count_of_one<S: Find, A: Allocator + Copy>(
     alloc: A,
     id: ObjectId,
@@ -84,7 +84,7 @@ fn count_of_one<S: Find, A: Allocator + Copy>(
     }
 }
 
-/// How many commits a spec means.
+/// Counts the commits in `spec` with a walk that visits all their ancestors.
 pub(crate) fn count_members<S: Find, A: Allocator + Copy>(
     alloc: A,
     spec: Spec,

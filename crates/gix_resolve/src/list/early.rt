@@ -1,5 +1,8 @@
-//! The members of the set that a spec means, by a walk that ends early where it may: of `a..b` and `a...b`, where the
-//! source knows that no generation rises, the walk from two sides, which goes no further than generations ask for.
+//! Finds the commits in a spec, with a walk that may stop early.
+//!
+//! If the source reports that generation numbers never rise, `a..b` and `a...b` are walked from
+//! both sides ([`crate::reach`]), no further than generation numbers ask for. Every other spec or
+//! source gets the plain walk ([`crate::list::members`]).
 
 ghost use Rattle.std.specs.Prelude.{◌≡◌, IfOk, IsOkAnd, IsTrue, Ok, []};
 ghost use Rattle.gix_revwalk.specs.Faults.{is_source_fault};
@@ -22,14 +25,14 @@ use gix_revision::spec::Spec;
 use gix_revwalk::numbers::Number;
 use std::alloc::Allocator;
 
-/// Whether the source knows that no generation rises.
+/// Tests whether the source reports that generation numbers never rise.
 fn never_rise<S: Find, A: Allocator>(graph: &Graph<S, Commit<Flags, A>, A>) -> bool
     ensures { IsTrue result → GenerationsNeverRise (S.history graph.now.source) }
 {
     matches!(graph.source().generations(), Generations::NeverRise)
 }
 
-/// The numbers of the commits that a spec means, each once, in no order.
+/// Returns the numbers of the commits in `spec`, each once, in no particular order.
 fn known_members<S: Find, A: Allocator + Copy>(
     alloc: A,
     spec: Spec,
@@ -51,7 +54,9 @@ fn known_members<S: Find, A: Allocator + Copy>(
     }
 }
 
-/// The same, whatever the source knows; by the walk that ends early only where `early` is set.
+/// Returns the numbers of the commits in `spec`, each once, in no particular order, for any source.
+///
+/// The early-ending walk is used only if `early` is set.
 pub(crate) fn members_by<S: Find, A: Allocator + Copy>(
     alloc: A,
     spec: Spec,
@@ -72,7 +77,7 @@ pub(crate) fn members_by<S: Find, A: Allocator + Copy>(
     members(alloc, spec, graph)
 }
 
-/// Their ids, in no order.
+/// Returns the ids of the commits in `spec`, each once, in no particular order, for any source.
 pub(crate) fn ids_by<S: Find, A: Allocator + Copy>(
     alloc: A,
     spec: Spec,
@@ -88,14 +93,14 @@ pub(crate) fn ids_by<S: Find, A: Allocator + Copy>(
     ensures after { GraphAfter S.history S.fault_count is_source_fault graph.old graph.new result }
 {
     let numbers = members_by(alloc, spec, early, graph)?;
-    // Without one no memory is wanted: `^a` is always answered.
+    // An empty list needs no memory: `^a` always succeeds.
     if numbers.is_empty() {
         return Ok(Vec::new(alloc));
     }
     Ok(ids_of(alloc, &numbers, graph)?)
 }
 
-/// How many commits `to` reaches and `from` does not.
+/// Counts the commits that `to` reaches and `from` does not.
 fn known_between<S: Find, A: Allocator + Copy>(
     alloc: A,
     from: ObjectId,
@@ -113,7 +118,7 @@ fn known_between<S: Find, A: Allocator + Copy>(
     Ok(counts.0)
 }
 
-/// How many are ancestors of just one of the two.
+/// Counts the ancestors of exactly one of the two commits.
 fn known_of_just_one<S: Find, A: Allocator + Copy>(
     alloc: A,
     theirs: ObjectId,
@@ -131,7 +136,7 @@ fn known_of_just_one<S: Find, A: Allocator + Copy>(
     sum(of_theirs, of_ours)
 }
 
-/// How many commits a spec means.
+/// Counts the commits in `spec`, for a source with ordered generations.
 fn known_count<S: Find, A: Allocator + Copy>(
     alloc: A,
     spec: Spec,
@@ -151,7 +156,7 @@ fn known_count<S: Find, A: Allocator + Copy>(
     }
 }
 
-/// The same, whatever the source knows; by the walk that ends early where it may.
+/// Counts the commits in `spec` for any source, with the early-ending walk if the source allows it.
 pub(crate) fn early_count<S: Find, A: Allocator + Copy>(
     alloc: A,
     spec: Spec,

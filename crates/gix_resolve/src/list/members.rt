@@ -1,5 +1,7 @@
-//! The members of the set that a spec means, by their numbers, in no order. The walk goes over all that the hidden side
-//! reaches, and then over what the shown one reaches beyond that, whatever generations say.
+//! Finds the numbers of the commits in a spec, in no particular order, with a plain walk.
+//!
+//! The walk visits all that the hidden side reaches, and then what the shown side reaches beyond
+//! that, whatever the generation numbers are.
 
 ghost use Rattle.std.specs.Prelude.{◌≡◌, IfOk, IsOkAnd, IsTrue, [], ◌∷◌};
 ghost use Rattle.gix_revwalk.specs.Faults.{is_source_fault};
@@ -20,7 +22,7 @@ use gix_revision::spec::Spec;
 use gix_revwalk::numbers::{self, Number};
 use std::alloc::Allocator;
 
-/// The numbers of the ancestors of just one of the two, each once.
+/// Returns the numbers of the ancestors of exactly one of the two commits, each once.
 fn ancestors_of_just_one<S: Find, A: Allocator + Copy>(
     alloc: A,
     theirs: ObjectId,
@@ -40,7 +42,9 @@ fn ancestors_of_just_one<S: Find, A: Allocator + Copy>(
     Ok(numbers)
 }
 
-/// The parents of a commit, also those that the source lacks; none where it lacks the commit.
+/// Returns the parents of a commit, also those that the source does not have.
+///
+/// The list is empty if the source does not have the commit.
 pub(crate) fn parents_of<S: Find, A: Allocator + Copy>(
     alloc: A,
     id: ObjectId,
@@ -57,7 +61,7 @@ pub(crate) fn parents_of<S: Find, A: Allocator + Copy>(
     Ok(numbers::value(graph, number).parents().to_vec(alloc)?)
 }
 
-/// The numbers of the ancestors of the parents of a commit, each once.
+/// Returns the numbers of the ancestors of the parents of a commit, each once.
 fn ancestors_of_parents<S: Find, A: Allocator + Copy>(
     alloc: A,
     id: ObjectId,
@@ -73,7 +77,7 @@ fn ancestors_of_parents<S: Find, A: Allocator + Copy>(
     ancestors_beyond(alloc, &[], &parents, Flags::default(), graph)
 }
 
-/// The number of the commit alone, where the source has it.
+/// Returns the number of the commit itself if the source has it, otherwise an empty list.
 fn alone<S: Find, A: Allocator + Copy>(
     alloc: A,
     id: ObjectId,
@@ -93,7 +97,7 @@ fn alone<S: Find, A: Allocator + Copy>(
     Ok(numbers)
 }
 
-/// The numbers of the commits that a spec means, each once.
+/// Returns the numbers of the commits in `spec`, each once.
 pub(crate) fn members<S: Find, A: Allocator + Copy>(
     alloc: A,
     spec: Spec,

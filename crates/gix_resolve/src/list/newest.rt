@@ -1,4 +1,4 @@
-//! Commits in the order in which git shows a history: what is new comes first.
+//! Lists commits by falling generation number, then falling time, then rising id.
 
 ghost use Rattle.std.specs.Prelude.{◌≡◌, ◌<◌, ◌↔◌, [], ◌∷◌, IfOk, IsOkAnd, OnOk, IsTrue, map};
 ghost use Rattle.std.specs.List.{filter_map};
@@ -30,11 +30,12 @@ use gix_revwalk::numbers::{self, Number};
 use std::alloc::{AllocError, Allocator};
 use std::cmp::Reverse;
 
-/// What decides which commit comes before another, the greatest first: generation, time, and the
-/// smaller id. It is turned round, so that the least comes first.
+/// The sort key of a commit: generation number, time and id.
+///
+/// The key is reversed, so that the least key comes first in the list.
 type Turned = Reverse<(GenThenTime, Reverse<ObjectId>)>;
 
-/// What decides where a commit stands.
+/// Returns the sort key of a commit.
 #[inline(always)]
 fn turned_by<A: Allocator>(commit: &Commit<Flags, A>, id: ObjectId) -> Turned
     ensures { result ≡ record { 0 = (key_of commit.now, record { 0 = id }) } }
@@ -42,9 +43,9 @@ fn turned_by<A: Allocator>(commit: &Commit<Flags, A>, id: ObjectId) -> Turned
     Reverse((GenThenTime::from(commit), Reverse(id)))
 }
 
-/// What decides where a commit stands, which is taken in unless it is held; `None` where the source lacks it.
+/// Returns the sort key of a commit, and loads the commit if the graph does not hold it.
 ///
-/// A held one is found by one look-up.
+/// The answer is `None` if the source does not have the commit. A held commit takes one look-up.
 fn turned<S: Find, A: Allocator + Copy>(
     alloc: A,
     id: ObjectId,
@@ -63,7 +64,8 @@ fn turned<S: Find, A: Allocator + Copy>(
     Ok(Some(turned_by(numbers::value(graph, number), id)))
 }
 
-/// What decides where each of those of `ids` stands that the source has; they are taken in unless they are held.
+/// Returns the sort keys of those `ids` that the source has, and loads what the graph does not
+/// hold.
 fn turned_all<S: Find, A: Allocator + Copy>(
     alloc: A,
     ids: &[ObjectId],
@@ -84,7 +86,7 @@ fn turned_all<S: Find, A: Allocator + Copy>(
     Ok(all)
 }
 
-/// The ids of what was put in order.
+/// Returns the ids in the sort keys, in the same order.
 fn ids_of<A: Allocator + Copy>(alloc: A, all: &[Turned]) -> Result<Vec<ObjectId, A>, AllocError>
     ensures { IfOk result (λ ids. ids.items ≡ map id_in all.now) }
 {
@@ -95,7 +97,7 @@ fn ids_of<A: Allocator + Copy>(alloc: A, all: &[Turned]) -> Result<Vec<ObjectId,
     Ok(ids)
 }
 
-/// What decides where the commit with a number stands.
+/// Returns the sort key of the commit with the given number.
 #[inline(always)]
 fn turned_with<S: Find, A: Allocator + Copy>(
     graph: &Graph<S, Commit<Flags, A>, A>,
@@ -107,7 +109,7 @@ fn turned_with<S: Find, A: Allocator + Copy>(
     turned_by(numbers::value(graph, number), numbers::id_of(graph, number))
 }
 
-/// What decides where each of the commits with these numbers stands.
+/// Returns the sort keys of the commits with the given numbers.
 fn turned_of<S: Find, A: Allocator + Copy>(
     alloc: A,
     numbers: &[Number],
@@ -124,9 +126,9 @@ fn turned_of<S: Find, A: Allocator + Copy>(
     Ok(all)
 }
 
-/// The ids of the commits with these numbers, the newest first. No id is looked up.
+/// Returns the ids of the commits with the given numbers, newest first. No id is looked up.
 ///
-/// A walk meets commits nearly in this order, and a stable sort goes by the runs that are in order.
+/// A walk meets commits nearly in this order, and a stable sort uses the runs that are in order.
 pub(crate) fn newest_of<S: Find, A: Allocator + Copy>(
     alloc: A,
     numbers: &[Number],
@@ -141,7 +143,7 @@ pub(crate) fn newest_of<S: Find, A: Allocator + Copy>(
     ids_of(alloc, &all)
 }
 
-/// As [`commits_newest_first`].
+/// Lists the commits in `spec`, newest first.
 fn newest_members<S: Find, A: Allocator + Copy>(
     alloc: A,
     spec: Spec,
@@ -157,24 +159,34 @@ fn newest_members<S: Find, A: Allocator + Copy>(
     ensures after { GraphAfter S.history S.fault_count is_source_fault graph.old graph.new result }
 {
     let numbers = members_by(alloc, spec, true, graph)?;
-    // Without one no memory is wanted: `^a` is always answered.
+    // An empty list needs no memory: `^a` always succeeds.
     if numbers.is_empty() {
         return Ok(Vec::new(alloc));
     }
     Ok(newest_of(alloc, &numbers, graph)?)
 }
 
-/// What [`commits`](crate::commits) lists, each once, in the order of [`newest_first`]: git-rev-list,
-/// "Commit Ordering". No id is sorted or looked up: the numbers of the walk tell where each stands. The walk is
-/// that of [`commits_early`](crate::commits_early).
+/// Lists the commits in `spec`, each once, in the order of [`newest_first`].
 ///
-/// What the graph held it still holds, refused or not; the data beside it may have changed. What it
-/// newly holds is reached from the ids of the spec. `^a` means no commit: it is always answered, by
-/// the empty list, and the graph is as it was.
+/// The set is that of [`commits`](crate::commits). `^a` alone means no commit: the call then
+/// succeeds with an empty list, and the graph is unchanged.
+///
+/// # Graph
+///
+/// Held commits stay held, also on an error; their data may change. A newly held commit is
+/// reachable from the ids of `spec`.
 ///
 /// # Errors
 ///
-/// As [`commits`](crate::commits).
+/// - [`ListError::Source`]: the source failed.
+/// - [`ListError::OutOfMemory`]: an allocation failed.
+///
+/// The graph can be used again after either.
+///
+/// # Cost
+///
+/// The walk is that of [`commits_early`](crate::commits_early). The sort uses the numbers of the
+/// walk, and looks up no id.
 pub fn commits_newest_first<S: Find, A: Allocator + Copy>(
     alloc: A,
     spec: &Spec,
@@ -196,7 +208,7 @@ pub fn commits_newest_first<S: Find, A: Allocator + Copy>(
     Ok(found)
 }
 
-/// As [`newest_first`].
+/// Sorts those `ids` that the source has, newest first, each once.
 fn in_order<S: Find, A: Allocator + Copy>(
     alloc: A,
     ids: &[ObjectId],
@@ -212,21 +224,28 @@ fn in_order<S: Find, A: Allocator + Copy>(
     let mut all = turned_all(alloc, ids, graph)?;
     all.sort_unstable();
     let mut found = ids_of(alloc, &all)?;
-    // An id that was handed in twice stands beside itself.
+    // An id that was passed twice stands next to itself.
     found.dedup();
     Ok(found)
 }
 
-/// Those of `ids` that the source has, each once, by falling generation, then falling time, then rising id: so
-/// children stand before their parents wherever generations rise from parent to child, as git-rev-list
-/// shows them with "--topo-order". An absent generation counts as the greatest.
+/// Sorts those `ids` that the source has, each once, newest first.
 ///
-/// What the graph held it still holds, refused or not; the data beside it may have changed. What it
-/// newly holds is one of `ids`.
+/// The order is by falling generation number, then falling time, then rising id. A missing
+/// generation number counts as infinity. A commit therefore comes before each of its parents that
+/// has a smaller generation number. Ids that the source does not have are left out.
+///
+/// # Graph
+///
+/// Held commits stay held, also on an error; their data may change. A newly held commit is one of
+/// `ids`.
 ///
 /// # Errors
 ///
-/// As [`commits`](crate::commits).
+/// - [`ListError::Source`]: the source failed.
+/// - [`ListError::OutOfMemory`]: an allocation failed.
+///
+/// The graph can be used again after either.
 pub fn newest_first<S: Find, A: Allocator + Copy>(
     alloc: A,
     ids: &[ObjectId],

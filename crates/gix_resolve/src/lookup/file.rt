@@ -1,4 +1,4 @@
-//! The ids of a commit-graph file, which are looked up where they stand.
+//! Looks up ids in a commit-graph file.
 
 ghost use Rattle.std.specs.Prelude.{◌≡◌, [], take};
 ghost use Rattle.std.specs.List.{filter};
@@ -15,8 +15,10 @@ use gix_revision::hash::{ObjectId, Prefix};
 use gix_revision::laws::base::{is_id, prefixes_read_back};
 use std::convert::AsSlice;
 
-// Nothing that begins with the prefix stands before the place of its digits filled up with zeros: the
-// last id there is looked at, since the prover knows of an id that it has 20 bytes once it is read.
+// Shows that no id before the place of the prefix, filled up with zeros, begins with the prefix.
+//
+// The last id before it is read, because the prover knows only of an id that was read that it has
+// 20 bytes.
 fn none_before<B: AsSlice<u8> + Drop>(
     file: &CommitGraph<B>,
     prefix: Prefix,
@@ -36,7 +38,7 @@ fn none_before<B: AsSlice<u8> + Drop>(
     }
 }
 
-// The ids that begin with the prefix, by the first two from that place on.
+// Looks up the ids that begin with the prefix, by the first two from that place on.
 fn nearest<B: AsSlice<u8> + Drop>(file: &CommitGraph<B>, prefix: Prefix) -> Found
     ensures found { result ≡ found_in (filter (begins_with (prefix_text prefix)) (ids_in file.now)) }
     ensures once { StandOnce (ids_in file.now) }
@@ -53,7 +55,7 @@ fn nearest<B: AsSlice<u8> + Drop>(file: &CommitGraph<B>, prefix: Prefix) -> Foun
         .with_next(prefix, second)
 }
 
-/// The ids of the file's commits.
+/// Looks up the ids of the file's commits.
 impl<B: AsSlice<u8> + Drop> Ids for CommitGraph<B> {
     ghost ids = { λ g. ids_in g };
 
@@ -62,7 +64,7 @@ impl<B: AsSlice<u8> + Drop> Ids for CommitGraph<B> {
     }
 }
 
-/// The ids of the file's commits.
+/// Looks up the ids of the file's commits.
 impl<B: AsSlice<u8> + Drop> Ids for LevelledGraph<B> {
     ghost ids = { λ g. ids_in g };
 

@@ -1,10 +1,11 @@
-//! The ids of two together.
+//! Joins two collections of ids.
 
 use crate::lookup::{Found, Ids};
 use gix_revision::hash::Prefix;
 
-/// The ids that the first has or the second, such as those of a commit-graph file and of newer commits. An
-/// id that both have is one id.
+/// The ids of two collections, such as those of a commit-graph file and of newer commits.
+///
+/// An id that both have is one id.
 #[derive(Drop)]
 pub struct JoinedIds<I: Ids, J: Ids> {
     pub first: I,

@@ -1,4 +1,4 @@
-//! The ids of a set.
+//! Looks up ids in a set.
 
 ghost use Rattle.std.specs.Prelude.{◌≡◌};
 ghost use Rattle.std.specs.List.{filter};
@@ -12,8 +12,10 @@ use gix_revision::laws::base::{is_id, prefixes_read_back};
 use std::alloc::Allocator;
 use std::collections::BTreeSet;
 
-// What begins with the prefix is not below its digits filled up with zeros: the greatest id that is
-// below them is looked at, since the prover knows of an id that it has 20 bytes once it is read.
+// Shows that no id less than the prefix, filled up with zeros, begins with the prefix.
+//
+// The greatest id less than it is read, because the prover knows only of an id that was read that
+// it has 20 bytes.
 fn are_from<A: Allocator>(ids: &BTreeSet<ObjectId, A>, prefix: Prefix, start: ObjectId)
     requires { IsStart (prefix_text prefix) start }
     ensures { AreFrom (prefix_text prefix) start ids.now }
@@ -23,8 +25,10 @@ fn are_from<A: Allocator>(ids: &BTreeSet<ObjectId, A>, prefix: Prefix, start: Ob
     }
 }
 
-// The ids that begin with the prefix. They stand side by side in the order of ids, from the
-// prefix filled up with zeros on: the first two there tell which of the cases it is.
+// Looks up the ids that begin with the prefix.
+//
+// They are next to each other in the order of ids, from the prefix filled up with zeros on. The
+// first two ids there decide the answer.
 fn nearest<A: Allocator>(ids: &BTreeSet<ObjectId, A>, prefix: Prefix) -> Found
     ensures found { result ≡ found_in (filter (begins_with (prefix_text prefix)) ids.now.keys) }
     ensures once { StandOnce ids.now.keys }
@@ -41,7 +45,7 @@ fn nearest<A: Allocator>(ids: &BTreeSet<ObjectId, A>, prefix: Prefix) -> Found
         .with_next(prefix, second)
 }
 
-/// The ids of the set.
+/// Looks up the ids of the set.
 impl<A: Allocator> Ids for BTreeSet<ObjectId, A> {
     ghost ids = { λ s. s.keys };
 

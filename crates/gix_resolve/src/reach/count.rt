@@ -1,4 +1,4 @@
-//! What the sides of a walk alone reach: the ids, or how many they are.
+//! Lists or counts what only one side of a walk reaches.
 
 ghost use Rattle.std.specs.Prelude.{◌≡◌, ◌<◌, ◌+◌, ◌-◌, ◌^◌, ◌++◌, cond, length, IfOk, false};
 ghost use Rattle.std.specs.List.{filter};
@@ -18,7 +18,7 @@ use gix_revision::merge_base::Flags;
 use gix_revwalk::numbers::{self, Number};
 use std::alloc::{AllocError, Allocator};
 
-/// The ids of those commits that the first side alone reaches, in the order in which they were met.
+/// Returns the ids of the commits that only the first side reaches, in the order of the walk.
 fn ids_of_first<S: Find, A: Allocator + Copy>(
     alloc: A,
     met: &[Number],
@@ -37,8 +37,9 @@ fn ids_of_first<S: Find, A: Allocator + Copy>(
     Ok(ids)
 }
 
-/// What the ids `first` reach and those of `second` do not, each once, in no order; where a generation
-/// rises, perhaps more of what `first` reaches.
+/// Lists the commits that `first` reaches and `second` does not, each once, in no particular order.
+///
+/// If a generation number rises the list may have more of what `first` reaches.
 pub(crate) fn listed<S: Find, A: Allocator + Copy>(
     alloc: A,
     first: &[ObjectId],
@@ -55,7 +56,7 @@ pub(crate) fn listed<S: Find, A: Allocator + Copy>(
     Ok(ids_of_first(alloc, &walk.met, graph)?)
 }
 
-/// The count, and one more where the test holds.
+/// Returns the count, plus one if `test` is true.
 fn count_if(test: bool, count: usize) -> usize
     requires { count < 2 ^ 64 - 1 }
     ensures { result ≡ count + cond test 1 0 }
@@ -63,7 +64,8 @@ fn count_if(test: bool, count: usize) -> usize
     if test { count + 1 } else { count }
 }
 
-/// How many of the commits the first side alone reaches, and how many the second side alone.
+/// Counts the commits that only the first side reaches, and those that only the second side
+/// reaches.
 fn count_sides<S: Find, A: Allocator + Copy>(
     met: &[Number],
     graph: &Graph<S, Commit<Flags, A>, A>,
@@ -84,8 +86,10 @@ fn count_sides<S: Find, A: Allocator + Copy>(
     (firsts, seconds)
 }
 
-/// How many commits the ids `first` reach and those of `second` do not, and how many the other way
-/// round; the latter only where `both` is set. Where a generation rises there may be more.
+/// Counts the commits that `first` reaches and `second` does not, and vice versa.
+///
+/// The second count has a meaning only if `both` is set. If a generation number rises a count may
+/// be greater.
 pub(crate) fn counted<S: Find, A: Allocator + Copy>(
     alloc: A,
     first: &[ObjectId],

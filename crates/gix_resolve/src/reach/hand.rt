@@ -1,4 +1,4 @@
-//! Handing marks from commit to commit.
+//! Hands marks from commit to commit.
 
 ghost use Rattle.std.specs.Prelude.{◌≡◌, ◌==◌, ◌<◌, ◌+◌, ◌∷◌, ◌++◌, [], OnOk, IfOk, IsTrue, not, is_some, cond, false};
 ghost use Rattle.std.specs.Option.{unwrap_or};
@@ -24,7 +24,7 @@ use gix_revision::merge_base::Flags;
 use gix_revwalk::numbers::{self, Mark, Number};
 use std::alloc::{AllocError, Allocator};
 
-/// A mark; none where there is none.
+/// Returns the mark, or the empty mark if there is none.
 #[inline(always)]
 fn mark_in(known: Option<Mark<Flags>>) -> Mark<Flags>
     ensures { result ≡ unwrap_or known no_mark }
@@ -38,7 +38,7 @@ fn mark_in(known: Option<Mark<Flags>>) -> Mark<Flags>
     }
 }
 
-/// What the walk gave a commit; no marks where it gave it nothing.
+/// Returns the mark that the walk gave a commit, or the empty mark if it gave none.
 #[inline(always)]
 pub(crate) fn mark_of<S: Find, A: Allocator + Copy>(
     graph: &Graph<S, Commit<Flags, A>, A>,
@@ -50,7 +50,7 @@ pub(crate) fn mark_of<S: Find, A: Allocator + Copy>(
     mark_in(numbers::mark_of(graph, number))
 }
 
-/// The generation of a commit; an absent one counts as the greatest.
+/// Returns the generation number of a commit. A missing one counts as infinity.
 #[inline(always)]
 fn generation_at<S: Find, A: Allocator + Copy>(
     graph: &Graph<S, Commit<Flags, A>, A>,
@@ -64,7 +64,7 @@ fn generation_at<S: Find, A: Allocator + Copy>(
         .unwrap_or(u32::MAX)
 }
 
-/// The time of a commit.
+/// Returns the time of a commit.
 pub(crate) fn time_at<S: Find, A: Allocator + Copy>(
     graph: &Graph<S, Commit<Flags, A>, A>,
     number: Number,
@@ -74,8 +74,10 @@ pub(crate) fn time_at<S: Find, A: Allocator + Copy>(
     numbers::value(graph, number).commit_time()
 }
 
-/// Puts a commit that is hidden among the open ones. Where generations do not tell them apart it stands there
-/// again, before those that are not hidden.
+/// Opens a commit that is hidden.
+///
+/// If its generation number is infinite, it is inserted even if it is open already, ahead of those
+/// that are not hidden.
 #[inline(always)]
 fn open_hidden<S: Find, A: Allocator + Copy>(
     number: Number,
@@ -94,7 +96,7 @@ fn open_hidden<S: Find, A: Allocator + Copy>(
     front.insert(true, generation, number)
 }
 
-/// Puts a commit that is not hidden among the open ones, unless it is open.
+/// Opens a commit that is not hidden, unless it is open already.
 fn open_shown<S: Find, A: Allocator + Copy>(
     number: Number,
     queued: u32,
@@ -111,21 +113,21 @@ fn open_shown<S: Find, A: Allocator + Copy>(
     front.insert(false, generation_at(graph, number), number)
 }
 
-/// How many of the open ones are not hidden, once one that is not, and stood among them so often, is open.
+/// Counts the open commits that are not hidden, after one that was queued `queued` times is opened.
 fn unhidden_with(unhidden: usize, queued: u32) -> Result<usize, AllocError>
     ensures { IfOk result (λ k. k ≡ cond (queued == 0) (unhidden + 1) unhidden) }
 {
     if queued != 0 {
         return Ok(unhidden);
     }
-    // The count is full only where memory is.
+    // The count overflows only after memory is full.
     match unhidden.checked_add(1) {
         Some(more) => Ok(more),
         None => Err(AllocError),
     }
 }
 
-/// Puts a commit among those that are met, where it had no mark.
+/// Adds a commit to those that the walk has met, if it had no mark.
 fn meet<A: Allocator>(
     unmarked: bool,
     number: Number,
@@ -141,7 +143,7 @@ fn meet<A: Allocator>(
     Ok(())
 }
 
-/// Puts marks beside those of a commit that was not hidden and is so then, and opens it.
+/// Adds marks to a commit that becomes hidden by them, and opens it.
 #[inline(always)]
 fn hide<S: Find, A: Allocator + Copy>(
     number: Number,
@@ -171,7 +173,8 @@ fn hide<S: Find, A: Allocator + Copy>(
     Ok(())
 }
 
-/// Puts marks beside those of a commit that is not hidden then, and opens it. It is met where it had no mark.
+/// Adds marks to a commit that they do not hide, and opens it. A commit that had no mark is now
+/// met.
 #[inline(never)]
 fn show<S: Find, A: Allocator + Copy>(
     number: Number,
@@ -204,7 +207,7 @@ fn show<S: Find, A: Allocator + Copy>(
     Ok(())
 }
 
-/// Hands marks to a commit, which is opened where it lacked one of them. A hidden one needs none.
+/// Hands marks to a commit, and opens it if it lacked one of them. A hidden commit needs none.
 #[inline(always)]
 pub(crate) fn hand<S: Find, A: Allocator + Copy>(
     number: Number,
@@ -263,7 +266,7 @@ pub(crate) fn hand_all<S: Find, A: Allocator + Copy>(
     Ok(())
 }
 
-/// Hands marks to the parents of a commit that the source has. `into` is room for their numbers.
+/// Hands marks to those parents of a commit that the source has. `into` is room for their numbers.
 pub(crate) fn hand_parents<S: Find, A: Allocator + Copy>(
     alloc: A,
     number: Number,

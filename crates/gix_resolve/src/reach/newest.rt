@@ -1,4 +1,4 @@
-//! What the first side of a walk alone reaches, the newest first.
+//! Lists what only the first side of a walk reaches, newest first.
 
 ghost use Rattle.std.specs.Prelude.{◌++◌, IfOk};
 ghost use Rattle.gix_revwalk.specs.Faults.{is_source_fault};
@@ -15,8 +15,9 @@ use gix_revision::hash::ObjectId;
 use gix_revision::merge_base::Flags;
 use std::alloc::Allocator;
 
-/// What the ids `first` reach and those of `second` do not, each once, the newest first; where a generation
-/// rises, perhaps more of what `first` reaches.
+/// Lists the commits that `first` reaches and `second` does not, each once, newest first.
+///
+/// If a generation number rises the list may have more of what `first` reaches.
 pub(crate) fn newest_listed<S: Find, A: Allocator + Copy>(
     alloc: A,
     first: &[ObjectId],

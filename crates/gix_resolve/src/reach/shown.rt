@@ -1,4 +1,4 @@
-//! The numbers of what a walk from two sides is for: what the first side alone reaches, or what either does.
+//! Returns the numbers of what only the first side of a walk reaches, or of what only either does.
 
 ghost use Rattle.std.specs.Prelude.{◌≡◌, ◌++◌, IfOk};
 ghost use Rattle.std.specs.List.{filter};
@@ -18,7 +18,7 @@ use gix_revision::merge_base::Flags;
 use gix_revwalk::numbers::Number;
 use std::alloc::{AllocError, Allocator};
 
-/// The numbers of those commits that are wanted, in the order in which they were met.
+/// Returns the numbers of the commits that are wanted, in the order of the walk.
 fn shown_of<S: Find, A: Allocator + Copy>(
     alloc: A,
     both: bool,
@@ -38,8 +38,10 @@ fn shown_of<S: Find, A: Allocator + Copy>(
     Ok(shown)
 }
 
-/// The numbers of what the ids `first` reach and those of `second` do not, each once, in no order; where a
-/// generation rises, perhaps more of what `first` reaches.
+/// Returns the numbers of the commits that `first` reaches and `second` does not, each once.
+///
+/// They are in no particular order. If a generation number rises there may be more of what `first`
+/// reaches.
 pub(crate) fn firsts<S: Find, A: Allocator + Copy>(
     alloc: A,
     first: &[ObjectId],
@@ -57,8 +59,10 @@ pub(crate) fn firsts<S: Find, A: Allocator + Copy>(
     Ok(shown_of(alloc, false, &walk.met, graph)?)
 }
 
-/// The numbers of what the ids of one of the two reach and those of the other do not, each once, in no order; where a
-/// generation rises, perhaps more of what either reaches.
+/// Returns the numbers of the commits that exactly one of the two sides reaches, each once.
+///
+/// They are in no particular order. If a generation number rises there may be more of what either
+/// side reaches.
 pub(crate) fn eithers<S: Find, A: Allocator + Copy>(
     alloc: A,
     first: &[ObjectId],

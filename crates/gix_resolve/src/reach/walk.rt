@@ -1,9 +1,10 @@
-//! A walk from two sides.
+//! Walks a history from two sides.
 //!
-//! Each commit has the marks of the sides that reach it, and is open while its parents may lack one
-//! of them. The walk takes open commits by falling generation, and ends once none of the open ones
-//! can be wanted and each of them has a smaller generation than what was taken and could be: nothing
-//! that is wanted lies below them, if no generation rises from child to parent.
+//! Each commit has the marks of the sides that reach it. It is open while its parents may lack one
+//! of them. The walk takes open commits by falling generation number. It ends when no open commit
+//! can be wanted, and each open commit has a smaller generation number than every commit that was
+//! not hidden when it was taken. If no generation number rises from child to parent, no wanted
+//! commit lies below them.
 
 ghost use Rattle.std.specs.Prelude.{◌≡◌, ◌<◌, ◌∷◌, ◌++◌, [], OnOk, IfOk, IsNone, IsSome, IfSome};
 ghost use Rattle.gix_base.specs.declared.hash.ObjectId.{ObjectId};
@@ -29,26 +30,26 @@ use gix_revision::merge_base::Flags;
 use gix_revwalk::numbers::{self, Mark, Number};
 use std::alloc::{AllocError, Allocator};
 
-/// More than any generation.
+/// A number that is greater than any generation number.
 const MORE_THAN_ANY: u64 = 0x1_0000_0000;
 
-/// What a walk from two sides keeps beside its marks.
+/// The state of a walk from two sides, apart from the marks.
 #[derive(Drop)]
 pub(crate) struct Walk<A: Allocator> {
-    /// Whether what the second side alone reaches is wanted too.
+    /// Whether what only the second side reaches is wanted too.
     pub(crate) both: bool,
-    /// What has a mark and was not hidden by its first, in the order in which it was met.
+    /// The commits that have a mark and were not hidden by their first, in the order of the walk.
     pub(crate) met: Vec<Number, A>,
-    /// What has marks that its parents may lack.
+    /// The open commits: their parents may lack one of their marks.
     pub(crate) front: Front<A>,
-    /// How many of the open ones are not hidden.
+    /// The number of open commits that are not hidden.
     pub(crate) unhidden: usize,
-    /// The least generation of those that were taken while they were not hidden; more than any where
-    /// there is none.
+    /// The least generation number of those that were taken while they were not hidden. It is
+    /// greater than any generation number if there are none.
     pub(crate) least: u64,
 }
 
-/// Gives the marks of a side to an id that it begins at, where the source has it.
+/// Gives the marks of a side to an id at which it begins, if the source has it.
 fn begin<S: Find, A: Allocator + Copy>(
     alloc: A,
     id: ObjectId,
@@ -75,7 +76,7 @@ fn begin<S: Find, A: Allocator + Copy>(
     }
 }
 
-/// Gives the marks of a side to the ids that it begins at.
+/// Gives the marks of a side to the ids at which it begins.
 fn begin_all<S: Find, A: Allocator + Copy>(
     alloc: A,
     ids: &[ObjectId],
@@ -99,8 +100,10 @@ fn begin_all<S: Find, A: Allocator + Copy>(
     Ok(())
 }
 
-/// Gives each of the two sides its marks, where nothing is marked. Where no generations are known the commits at
-/// which the first one begins wait until what the second one reaches is as old.
+/// Gives each of the two sides its marks. Nothing is marked before.
+///
+/// If no generation numbers are known, the commits at which the first side begins wait until what
+/// the second side reaches is as old.
 fn begin_both<S: Find, A: Allocator + Copy>(
     alloc: A,
     first: &[ObjectId],
@@ -152,7 +155,7 @@ fn start<S: Find, A: Allocator + Copy>(
     Ok(walk)
 }
 
-/// Those that wait leave first, once a commit that is taken is no newer than the first of them.
+/// Lets the waiting commits leave first, once a taken commit is no newer than the first of them.
 fn release<S: Find, A: Allocator + Copy>(
     number: Number,
     front: &mut Front<A>,
@@ -171,7 +174,7 @@ fn release<S: Find, A: Allocator + Copy>(
     front.release();
 }
 
-/// Settles a commit that has just left the open ones. Its marks.
+/// Settles a commit that has just left the open ones, and returns its marks.
 fn leave<S: Find, A: Allocator + Copy>(
     number: Number,
     generation: u64,
@@ -210,7 +213,9 @@ fn leave<S: Find, A: Allocator + Copy>(
     old.marks
 }
 
-/// Takes an open commit of a greatest generation, with its marks; `None` where the walk is over.
+/// Takes an open commit with the greatest generation number, and its marks.
+///
+/// The answer is `None` if the walk is over.
 fn next<S: Find, A: Allocator + Copy>(
     walk: &mut Walk<A>,
     graph: &mut Graph<S, Commit<Flags, A>, A>,
@@ -240,8 +245,9 @@ fn next<S: Find, A: Allocator + Copy>(
     Some((number, leave(number, generation, walk, graph)))
 }
 
-/// Walks from two sides until nothing that is wanted can follow. The walk, which has met each commit
-/// that is wanted.
+/// Walks from two sides until no wanted commit can follow, and returns the walk.
+///
+/// The walk has met each commit that is wanted.
 pub(crate) fn follow<S: Find, A: Allocator + Copy>(
     alloc: A,
     first: &[ObjectId],

@@ -1,4 +1,4 @@
-//! The resolver in git's own order: names before the first digits of ids.
+//! Resolves revisions in git's own order: names before abbreviated object names.
 
 ghost use Rattle.std.specs.Prelude.{◌≡◌, ℕ, List, Option, IsErrOf, false};
 ghost use Rattle.gix_revision.specs.Answer.{answer_of};
@@ -32,14 +32,14 @@ use gix_revision::spec::parse::{Delegate, Error, parse};
 use gix_revision::spec::{self, Spec};
 use std::alloc::{Allocator, Global};
 
-/// A resolver that takes no prefix, and each name in git's own order.
+/// A resolver that refuses each prefix, and resolves each name in git's own order.
 #[derive(Drop)]
 pub(crate) struct NamesFirst<'a, S: Find, A: Allocator, I: Ids> {
     resolver: Resolver<'a, S, A, I>,
 }
 
 impl<'a, S: Find, A: Allocator + Copy, I: Ids> Resolver<'a, S, A, I> {
-    // A name.
+    // Resolves a name in git's own order.
     fn call_name(&mut self, name: &[u8]) -> Result<(), Exn>
         ensures { AnswersByNames I.ids S.history S.fault_count
             self.old (find_ref name.now) (answer_of result) self.new }
@@ -48,7 +48,7 @@ impl<'a, S: Find, A: Allocator + Copy, I: Ids> Resolver<'a, S, A, I> {
         answer(self.refusals, &mut self.state, without_source(next))
     }
 
-    // A prefix, which is none: then the parse asks for the name.
+    // Refuses a prefix. The parser then asks for the name.
     fn pass_prefix(&mut self) -> Result<(), Exn>
         ensures { (digits : List ℕ) (hint : Option Hint) → AnswersByNames I.ids S.history
             S.fault_count self.old (prefix digits hint) (answer_of result) self.new }
@@ -57,7 +57,7 @@ impl<'a, S: Find, A: Allocator + Copy, I: Ids> Resolver<'a, S, A, I> {
         answer(self.refusals, &mut self.state, next)
     }
 
-    // What is peeled.
+    // Resolves a peel, such as `^{commit}`.
     fn peel_to_commit(&mut self, kind: PeelTo<'_>) -> Result<(), Exn>
         ensures { AnswersByNames I.ids S.history S.fault_count
             self.old (peel (target_of kind.entry)) (answer_of result) self.new }
@@ -127,7 +127,7 @@ impl<S: Find, A: Allocator + Copy, I: Ids> Delegate for NamesFirst<'_, S, A, I> 
     }
 }
 
-// Tells a text to a resolver that has heard nothing.
+// Parses a text with a resolver that has received no call yet, and returns the spec.
 fn tell_names<'a, S: Find, A: Allocator + Copy, I: Ids>(
     alloc: A,
     text: &'a [u8],
@@ -157,25 +157,40 @@ fn tell_names<'a, S: Find, A: Allocator + Copy, I: Ids>(
     if let Err(error) = parse(alloc, text, now, names) {
         return Err(error);
     }
-    // A text that was read to its end has ended, so there is a spec.
+    // A text that was parsed without an error has ended, so there is a spec.
     match names.resolver.spec() {
         Some(spec) => Ok(spec),
         None => unreachable!(),
     }
 }
 
-/// As [`resolve`](super::resolve), with each name in git's own order: git-rev-parse, "Specifying
-/// Revisions". A name of 40 hex digits is that id alone. Any other one is the reference of exactly
-/// these bytes; or else the one id that begins with the digits in it, which are 4 or more and stand
-/// behind its last `-g`, or are all of it. So a branch `1059-login` is a branch, though `resolve`
-/// takes it for an id that begins with `1059`. And `^{}`, `^{object}` and `^{commit}` of a commit
-/// that the source has are that commit.
+/// Resolves a revision like git: a ref name wins over an abbreviated object name.
+///
+/// See git-rev-parse, "Specifying Revisions". A name is read as the first of these that applies:
+///
+/// 1. 40 hex digits are that id alone, whatever refs exist.
+/// 2. The ref with exactly these bytes.
+/// 3. The one id that begins with the hex digits in the name. There must be at least 4. They are
+///    what follows the last `-g` of the name, or the whole name if it has none.
+///
+/// A branch `1059-login` is therefore a branch here, while [`resolve`](super::resolve) reads it as
+/// an id that begins with `1059`. `^{}`, `^{object}` and `^{commit}` of a commit that the source
+/// has are that commit. All else is as in [`resolve`](super::resolve).
+///
+/// # Graph
+///
+/// Held commits stay held, also on an error. The call loads only commits on the steps of the text:
+/// for `~n` the commits on the way, for `^n` the commit and that parent, for `^{commit}`,
+/// `^{object}` and `^{}` the commit.
 ///
 /// # Errors
 ///
-/// Those of [`resolve`](super::resolve). Where that would read digits in a name, `first` says
-/// `a name comes first`, and `second` why the name is none. `^{tag}`, `^{tree}` and `^{blob}` are
-/// refused with `commits alone are known`. Memory may be wanting for `^{}` and `^{object}`, too.
+/// Those of [`resolve`](super::resolve), with these differences:
+///
+/// - If [`resolve`](super::resolve) would read an abbreviated object name in a name, the first
+///   message is `a name comes first`, and the second says why the name is none.
+/// - `^{tag}`, `^{tree}` and `^{blob}` are refused with `commits alone are known`.
+/// - [`Error::OutOfMemory`] can come of `^{}` and `^{object}`, too.
 pub fn rev_parse<'a, S: Find, A: Allocator + Copy, I: Ids>(
     alloc: A,
     refusals: Global,
