@@ -1,5 +1,5 @@
 -- The walk that lists ancestors beyond those that are listed, over lists of ids.
-use Rattle.std.proofs.Common.{◌≡◌, ℕ, zero, suc, true, false, cond, refl, ap, sym, subst, ◌∙◌, List, [], ◌∷◌, ◌++◌, inl, inr, ◌<◌, ◌+◌, ◌-◌, take, drop, length, get_or, is_some, append_assoc, IsTrue, ◌↔◌, arith, true≢false, Some}
+use Rattle.std.proofs.Common.{◌≡◌, ℕ, zero, suc, true, false, cond, refl, ap, sym, subst, ◌∙◌, List, [], ◌∷◌, ◌++◌, inl, inr, ◌<◌, ◌≤◌, ◌+◌, ◌-◌, take, drop, length, get_or, is_some, append_assoc, IsTrue, ◌↔◌, arith, true≢false, Some}
 use Rattle.std.specs.List.{IsDistinct, filter, AllByRecursion}
 use Rattle.std.proofs.lemmas.Map.Keys.{IsDistinct-head, IsDistinct-tail}
 use Rattle.std.proofs.lemmas.List.{append-nil}
@@ -237,3 +237,7 @@ pub just_behind : {S T : Type 0} (g : Graphed S T) (P : ObjectId → Type 0) (ns
 just_behind g P ns read copy k same copied inside lists =
     let all : copy ≡ drop k ns = copied ∙ take_all (length read - k) (drop k read) (omega (arith, length-drop k read)) ∙ ap (drop k) same in
     subst (λ l. AreJust g l P) (sym all) (in_behind g k ns inside, subst (λ l. Lists l P) (drop-map (λ (x : Number). id_at g (place_in x)) k ns) lists)
+
+-- as many of the ids as there are numbers are all of them
+pub all-taken : {S T : Type 0} (g : Graphed S T) (ns : List Number) (i : ℕ) → length ns ≤ i → take i (ids_at g ns) ≡ ids_at g ns
+all-taken g ns i le = take_all i (ids_at g ns) (omega (arith, length-map ns (λ (k : Number). id_at g (place_in k))))

@@ -17,6 +17,7 @@ mod walk;
 use crate::list::early::{early_count, ids_by};
 pub(crate) use crate::list::newest::newest_of;
 pub use crate::list::newest::{commits_newest_first, newest_first};
+pub(crate) use crate::list::walk::ids_of;
 use gix_revision::graph::{self, Commit, Find, Graph};
 use gix_revision::hash::ObjectId;
 use gix_revision::merge_base::Flags;

@@ -9,33 +9,16 @@ ghost use Rattle.gix_merge_base.specs.PaintQueue.{ids_at, AreIn, marks_at};
 ghost use Rattle.gix_resolve.specs.ReachSides.{is_first_alone as first_alone, is_second_alone as second_alone, ListsFirst, CountsSides};
 ghost use Rattle.gix_resolve.specs.Taken.{TakesOnly};
 
+use crate::list::ids_of;
 use crate::reach::hand::mark_of;
+use crate::reach::shown::firsts;
 use crate::reach::sides::{is_first_alone, is_second_alone};
 use crate::reach::walk::follow;
 use gix_revision::graph::{Commit, Error, Find, Graph};
 use gix_revision::hash::ObjectId;
 use gix_revision::merge_base::Flags;
-use gix_revwalk::numbers::{self, Number};
-use std::alloc::{AllocError, Allocator};
-
-/// Returns the ids of the commits that only the first side reaches, in the order of the walk.
-fn ids_of_first<S: Find, A: Allocator + Copy>(
-    alloc: A,
-    met: &[Number],
-    graph: &Graph<S, Commit<Flags, A>, A>,
-) -> Result<Vec<ObjectId, A>, AllocError>
-    requires { AreIn graph.now met.now }
-    ensures { IfOk result (λ ids. ids.items
-        ≡ filter (λ c. first_alone (marks_at graph.now c)) (ids_at graph.now met.now)) }
-{
-    let mut ids = Vec::new(alloc);
-    for number in met {
-        if is_first_alone(mark_of(graph, *number).marks) {
-            ids.push(numbers::id_of(graph, *number))?;
-        }
-    }
-    Ok(ids)
-}
+use gix_revwalk::numbers::Number;
+use std::alloc::Allocator;
 
 /// Lists the commits that `first` reaches and `second` does not, each once, in no particular order.
 ///
@@ -52,8 +35,8 @@ pub(crate) fn listed<S: Find, A: Allocator + Copy>(
         (first.now ++ second.now)) graph.old graph.new }
     ensures after { GraphAfter S.history S.fault_count is_source_fault graph.old graph.new result }
 {
-    let walk = follow(alloc, first, second, false, graph)?;
-    Ok(ids_of_first(alloc, &walk.met, graph)?)
+    let numbers = firsts(alloc, first, second, graph)?;
+    Ok(ids_of(alloc, &numbers, graph)?)
 }
 
 /// Returns the count, plus one if `test` is true.

@@ -1,3 +1,4 @@
+use Rattle.gix_resolve.proofs.Answered.{not_so}
 use Rattle.std.proofs.Common.{[], ◌∷◌, refl}
 use Rattle.gix_revwalk.specs.History.{IsAncestor, IsAncestorOfOne}
 use Rattle.gix_revwalk.specs.Sizes.{HasSize}
@@ -36,3 +37,60 @@ returns-in-Exclude-clause-taken g c = only_same _ c.args.graph.now c.args.graph.
 
 pub returns-in-Exclude-clause-exclude : goal.returns-in-Exclude-clause-exclude
 returns-in-Exclude-clause-exclude g c = λ is. (refl, refl)
+
+pub returns-in-Include-clause-exclude : goal.returns-in-Include-clause-exclude
+returns-in-Include-clause-exclude g c = λ is. not_so (rw c.in-Include.is at is)
+
+pub returns-in-Range-clause-exclude : goal.returns-in-Range-clause-exclude
+returns-in-Range-clause-exclude g c = λ is. not_so (rw c.in-Range.is at is)
+
+pub returns-in-Merge-clause-exclude : goal.returns-in-Merge-clause-exclude
+returns-in-Merge-clause-exclude g c = λ is. not_so (rw c.in-Merge.is at is)
+
+pub returns-in-IncludeOnlyParents-clause-exclude : goal.returns-in-IncludeOnlyParents-clause-exclude
+returns-in-IncludeOnlyParents-clause-exclude g c = λ is. not_so (rw c.in-IncludeOnlyParents.is at is)
+
+pub returns-in-ExcludeParents-clause-exclude : goal.returns-in-ExcludeParents-clause-exclude
+returns-in-ExcludeParents-clause-exclude g c = λ is. not_so (rw c.in-ExcludeParents.is at is)
+
+pub returns-in-Merge-clause-size : goal.returns-in-Merge-clause-size
+returns-in-Merge-clause-size g c = rw c.in-Merge.is c.count_of_just_one.ensures.size
+
+pub returns-in-Merge-clause-taken : goal.returns-in-Merge-clause-taken
+returns-in-Merge-clause-taken g c = rw c.in-Merge.is c.count_of_just_one.ensures.taken
+
+pub returns-in-IncludeOnlyParents-clause-size : goal.returns-in-IncludeOnlyParents-clause-size
+returns-in-IncludeOnlyParents-clause-size g c = rw c.in-IncludeOnlyParents.is c.count_of_parents.ensures.size
+
+pub returns-in-IncludeOnlyParents-clause-taken : goal.returns-in-IncludeOnlyParents-clause-taken
+returns-in-IncludeOnlyParents-clause-taken g c = rw c.in-IncludeOnlyParents.is c.count_of_parents.ensures.taken
+
+pub returns-in-ExcludeParents-clause-size : goal.returns-in-ExcludeParents-clause-size
+returns-in-ExcludeParents-clause-size g c = rw c.in-ExcludeParents.is c.count_of_one.ensures.size
+
+pub returns-in-ExcludeParents-clause-taken : goal.returns-in-ExcludeParents-clause-taken
+returns-in-ExcludeParents-clause-taken g c = rw c.in-ExcludeParents.is c.count_of_one.ensures.taken
+
+pub slice_bounds-count_beyond-end-in-Include : goal.slice_bounds-count_beyond-end-in-Include
+slice_bounds-count_beyond-end-in-Include g c = refl
+
+pub slice_bounds-count_beyond-end-in-Range : goal.slice_bounds-count_beyond-end-in-Range
+slice_bounds-count_beyond-end-in-Range g c = refl
+
+pub slice_bounds-count_beyond-end-in-Range-2 : goal.slice_bounds-count_beyond-end-in-Range-2
+slice_bounds-count_beyond-end-in-Range-2 g c = refl
+
+pub returns-in-Include-clause-after : goal.returns-in-Include-clause-after
+returns-in-Include-clause-after g c = c.count_beyond.ensures.after
+
+pub returns-in-Range-clause-after : goal.returns-in-Range-clause-after
+returns-in-Range-clause-after g c = c.count_beyond-in-Range.ensures.after
+
+pub returns-in-Merge-clause-after : goal.returns-in-Merge-clause-after
+returns-in-Merge-clause-after g c = c.count_of_just_one.ensures.after
+
+pub returns-in-IncludeOnlyParents-clause-after : goal.returns-in-IncludeOnlyParents-clause-after
+returns-in-IncludeOnlyParents-clause-after g c = c.count_of_parents.ensures.after
+
+pub returns-in-ExcludeParents-clause-after : goal.returns-in-ExcludeParents-clause-after
+returns-in-ExcludeParents-clause-after g c = c.count_of_one.ensures.after

@@ -1,3 +1,4 @@
+use Rattle.gix_resolve.proofs.Answered.{not_so}
 use Rattle.std.proofs.Common.{[], ◌∷◌}
 use Rattle.gix_merge_base.specs.PaintQueue.{ids_at, AreIn}
 use Rattle.gix_spec.specs.declared.spec.Spec.TheVariants.{Range, Merge}
@@ -33,3 +34,15 @@ returns-in-Range-clause-taken g c = rw c.in-Range.is (only_swapped (g.S.Find.his
 
 pub returns-in-Merge-clause-taken : goal.returns-in-Merge-clause-taken
 returns-in-Merge-clause-taken g c = rw c.in-Merge.is c.eithers.ensures.taken
+
+pub returns-in-Range-clause-exclude : goal.returns-in-Range-clause-exclude
+returns-in-Range-clause-exclude g c = λ is. not_so (rw c.in-Range.is at is)
+
+pub returns-in-Merge-clause-exclude : goal.returns-in-Merge-clause-exclude
+returns-in-Merge-clause-exclude g c = λ is. not_so (rw c.in-Merge.is at is)
+
+pub returns-in-Range-clause-after : goal.returns-in-Range-clause-after
+returns-in-Range-clause-after g c = c.firsts.ensures.after
+
+pub returns-in-Merge-clause-after : goal.returns-in-Merge-clause-after
+returns-in-Merge-clause-after g c = c.eithers.ensures.after

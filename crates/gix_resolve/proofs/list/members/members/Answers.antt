@@ -1,3 +1,4 @@
+use Rattle.gix_resolve.proofs.Answered.{not_so}
 use Rattle.std.proofs.Common.{[], ◌∷◌, refl}
 use Rattle.gix_revwalk.specs.History.{IsAncestor, IsAncestorOfOne}
 use Rattle.gix_merge_base.specs.PaintQueue.{ids_at}
@@ -41,3 +42,60 @@ returns-in-Exclude-clause-taken g c = only_same _ c.args.graph.now c.args.graph.
 
 pub returns-in-Exclude-clause-exclude : goal.returns-in-Exclude-clause-exclude
 returns-in-Exclude-clause-exclude g c = λ is. (c.new.ensures.items, refl)
+
+pub returns-in-Include-clause-exclude : goal.returns-in-Include-clause-exclude
+returns-in-Include-clause-exclude g c = λ is. not_so (rw c.in-Include.is at is)
+
+pub returns-in-Range-clause-exclude : goal.returns-in-Range-clause-exclude
+returns-in-Range-clause-exclude g c = λ is. not_so (rw c.in-Range.is at is)
+
+pub returns-in-Merge-clause-exclude : goal.returns-in-Merge-clause-exclude
+returns-in-Merge-clause-exclude g c = λ is. not_so (rw c.in-Merge.is at is)
+
+pub returns-in-IncludeOnlyParents-clause-exclude : goal.returns-in-IncludeOnlyParents-clause-exclude
+returns-in-IncludeOnlyParents-clause-exclude g c = λ is. not_so (rw c.in-IncludeOnlyParents.is at is)
+
+pub returns-in-ExcludeParents-clause-exclude : goal.returns-in-ExcludeParents-clause-exclude
+returns-in-ExcludeParents-clause-exclude g c = λ is. not_so (rw c.in-ExcludeParents.is at is)
+
+pub returns-in-Merge-clause-meant : goal.returns-in-Merge-clause-meant
+returns-in-Merge-clause-meant g c = rw c.in-Merge.is c.ancestors_of_just_one.ensures.meant
+
+pub returns-in-Merge-clause-taken : goal.returns-in-Merge-clause-taken
+returns-in-Merge-clause-taken g c = rw c.in-Merge.is c.ancestors_of_just_one.ensures.taken
+
+pub returns-in-IncludeOnlyParents-clause-meant : goal.returns-in-IncludeOnlyParents-clause-meant
+returns-in-IncludeOnlyParents-clause-meant g c = rw c.in-IncludeOnlyParents.is c.ancestors_of_parents.ensures.meant
+
+pub returns-in-IncludeOnlyParents-clause-taken : goal.returns-in-IncludeOnlyParents-clause-taken
+returns-in-IncludeOnlyParents-clause-taken g c = rw c.in-IncludeOnlyParents.is c.ancestors_of_parents.ensures.taken
+
+pub returns-in-ExcludeParents-clause-meant : goal.returns-in-ExcludeParents-clause-meant
+returns-in-ExcludeParents-clause-meant g c = rw c.in-ExcludeParents.is c.alone.ensures.meant
+
+pub returns-in-ExcludeParents-clause-taken : goal.returns-in-ExcludeParents-clause-taken
+returns-in-ExcludeParents-clause-taken g c = rw c.in-ExcludeParents.is c.alone.ensures.taken
+
+pub slice_bounds-ancestors_beyond-end-in-Include : goal.slice_bounds-ancestors_beyond-end-in-Include
+slice_bounds-ancestors_beyond-end-in-Include g c = refl
+
+pub slice_bounds-ancestors_beyond-end-in-Range : goal.slice_bounds-ancestors_beyond-end-in-Range
+slice_bounds-ancestors_beyond-end-in-Range g c = refl
+
+pub slice_bounds-ancestors_beyond-end-in-Range-2 : goal.slice_bounds-ancestors_beyond-end-in-Range-2
+slice_bounds-ancestors_beyond-end-in-Range-2 g c = refl
+
+pub returns-in-Include-clause-after : goal.returns-in-Include-clause-after
+returns-in-Include-clause-after g c = c.ancestors_beyond.ensures.after
+
+pub returns-in-Range-clause-after : goal.returns-in-Range-clause-after
+returns-in-Range-clause-after g c = c.ancestors_beyond-in-Range.ensures.after
+
+pub returns-in-Merge-clause-after : goal.returns-in-Merge-clause-after
+returns-in-Merge-clause-after g c = c.ancestors_of_just_one.ensures.after
+
+pub returns-in-IncludeOnlyParents-clause-after : goal.returns-in-IncludeOnlyParents-clause-after
+returns-in-IncludeOnlyParents-clause-after g c = c.ancestors_of_parents.ensures.after
+
+pub returns-in-ExcludeParents-clause-after : goal.returns-in-ExcludeParents-clause-after
+returns-in-ExcludeParents-clause-after g c = c.alone.ensures.after

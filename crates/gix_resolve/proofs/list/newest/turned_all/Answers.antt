@@ -1,3 +1,7 @@
+use Rattle.std.proofs.Common.{ap}
+use Rattle.std.specs.List.{filter_map}
+use Rattle.std.proofs.lemmas.List.{take_all}
+use Rattle.gix_merge_base.specs.Candidates.{turned_at}
 use Rattle.std.proofs.Common.{◌∙◌, sym, Ok, arith}
 use Rattle.gix_resolve.proofs.ListAfter.{after_then, after_ok}
 use Rattle.gix_resolve.proofs.Newest.{turned_skip, turned_next}
@@ -36,3 +40,9 @@ returns-in_err-place-clause-taken g c =
 
 pub returns-clause-taken : goal.returns-clause-taken
 returns-clause-taken g c = c.loop-id.invariant.taken
+
+pub returns-clause-turned : goal.returns-clause-turned
+returns-clause-turned g c = c.loop-id.invariant.turned ∙ ap (filter_map (turned_at (g.S.Find.history c.args.graph.now.source))) (take_all c.loop-id.id-index c.args.ids.now (omega arith))
+
+pub returns-clause-after : goal.returns-clause-after
+returns-clause-after g c = record { same_history = c.loop-id.invariant.after.same_history; count = c.loop-id.invariant.after.count; held = c.loop-id.invariant.after.held }

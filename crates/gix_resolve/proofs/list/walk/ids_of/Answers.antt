@@ -1,3 +1,6 @@
+use Rattle.std.proofs.Common.{◌∙◌, arith}
+use Rattle.gix_merge_base.proofs.Listed.{in-item}
+use Rattle.gix_resolve.proofs.ListWalks.{all-taken}
 use Rattle.gix_resolve.proofs.ListWalks.{ids-step}
 use Rattle.gix_resolve.proofs.list.walk.ids_of.Goals as goal
 
@@ -5,3 +8,9 @@ pub loop-number-preserved : goal.loop-number-preserved
 loop-number-preserved g c =
     ids-step c.args.graph.now c.args.numbers.now c.loop-number.number-index _ c.loop-number-test.true c.loop-number.ids.items c.push.new.self.items c.id_of.result
     c.loop-number.invariant c.id_of.ensures.named c.in_ok-push.ensures.items
+
+pub id_of-requires : goal.id_of-requires
+id_of-requires g c = in-item c.args.graph.now c.args.numbers.now c.loop-number.number-index _ c.requires c.loop-number-test.true
+
+pub returns : goal.returns
+returns g c = c.loop-number.invariant ∙ all-taken c.args.graph.now c.args.numbers.now c.loop-number.number-index (omega arith)

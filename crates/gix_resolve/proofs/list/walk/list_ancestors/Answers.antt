@@ -66,3 +66,15 @@ returns-in_err-list_parents-clause-taken g c =
     let xs = ids_at c.args.graph.now c.args.listed.now.items in
     only_goes h c.args.id xs c.args.graph.now c.loop-i.graph c.loop-i.listed.items c.loop-i.i c.index-next.result.now c.list_parents.new.graph c.loop-i.invariant.adding (omega arith) c.index-next.ensures
     c.loop-i.invariant.taken (rw c.loop-i.invariant.after.same_history at c.list_parents.ensures.taken)
+
+pub returns-clause-marked : goal.returns-clause-marked
+returns-clause-marked g c = c.loop-i.invariant.marked
+
+pub returns-clause-numbers : goal.returns-clause-numbers
+returns-clause-numbers g c = c.loop-i.invariant.numbers
+
+pub returns-clause-taken : goal.returns-clause-taken
+returns-clause-taken g c = c.loop-i.invariant.taken
+
+pub returns-clause-after : goal.returns-clause-after
+returns-clause-after g c = c.loop-i.invariant.after

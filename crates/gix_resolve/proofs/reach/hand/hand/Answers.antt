@@ -1,3 +1,4 @@
+use Rattle.std.below.core.proofs.iter.Serving.{as_err}
 use Rattle.std.proofs.Common.{◌≡◌, refl, sym, ap, subst, ◌∙◌, [], ◌∷◌, ◌||◌, ◌⊎◌, inl, inr, IsTrue, is_some, true, false}
 use Rattle.std.specs.Option.{unwrap_or}
 use Rattle.gix_revwalk.specs.Data.{mark_at}
@@ -91,3 +92,63 @@ returns-clause-handed g c =
     let empty : (hides both (m id) || has_marks (m id) w) ≡ false = ap (λ (z : Mark Flags). hides both (marks_of z.marks) || has_marks (marks_of z.marks) w) (sym had) ∙ sym c.is_full.ensures ∙ c.if-is_full.false in
     let lacking = (apart (hides both (m id)) (has_marks (m id) w) true empty).1 in
     gives_entered (g.S.Find.history old.source) both w id m (marks_at new) (queued_ids old c.args.walk.now.front) (queued_ids new c.show.new.walk.front) c.requires.has lacking c.in_ok-show.ensures.entered
+
+pub returns-clause-right : goal.returns-clause-right
+returns-clause-right g c = c.in_ok-show.ensures.right
+
+pub returns-then-is_hidden-clause-right : goal.returns-then-is_hidden-clause-right
+returns-then-is_hidden-clause-right g c = c.in_ok-hide.ensures.right
+
+pub returns-in_err-hide-clause-right : goal.returns-in_err-hide-clause-right
+returns-in_err-hide-clause-right g c = rw (as_err c.from_residual.ensures.0).1 tt
+
+pub returns-in_err-hide-clause-handed : goal.returns-in_err-hide-clause-handed
+returns-in_err-hide-clause-handed g c = rw (as_err c.from_residual.ensures.0).1 tt
+
+pub returns-then-is_full-clause-right : goal.returns-then-is_full-clause-right
+returns-then-is_full-clause-right g c = c.requires.right
+
+pub returns-then-is_full-clause-sides : goal.returns-then-is_full-clause-sides
+returns-then-is_full-clause-sides g c = (refl, refl)
+
+pub returns-then-is_full-clause-ids : goal.returns-then-is_full-clause-ids
+returns-then-is_full-clause-ids g c = refl
+
+pub returns-then-is_full-clause-source : goal.returns-then-is_full-clause-source
+returns-then-is_full-clause-source g c = refl
+
+pub returns-in_err-hide-clause-sides : goal.returns-in_err-hide-clause-sides
+returns-in_err-hide-clause-sides g c = c.hide.ensures.sides
+
+pub returns-in_err-hide-clause-ids : goal.returns-in_err-hide-clause-ids
+returns-in_err-hide-clause-ids g c = c.hide.ensures.ids
+
+pub returns-in_err-hide-clause-source : goal.returns-in_err-hide-clause-source
+returns-in_err-hide-clause-source g c = c.hide.ensures.source
+
+pub returns-then-is_hidden-clause-sides : goal.returns-then-is_hidden-clause-sides
+returns-then-is_hidden-clause-sides g c = c.hide.ensures.sides
+
+pub returns-then-is_hidden-clause-ids : goal.returns-then-is_hidden-clause-ids
+returns-then-is_hidden-clause-ids g c = c.hide.ensures.ids
+
+pub returns-then-is_hidden-clause-source : goal.returns-then-is_hidden-clause-source
+returns-then-is_hidden-clause-source g c = c.hide.ensures.source
+
+pub returns-in_err-show-clause-sides : goal.returns-in_err-show-clause-sides
+returns-in_err-show-clause-sides g c = c.show.ensures.sides
+
+pub returns-in_err-show-clause-ids : goal.returns-in_err-show-clause-ids
+returns-in_err-show-clause-ids g c = c.show.ensures.ids
+
+pub returns-in_err-show-clause-source : goal.returns-in_err-show-clause-source
+returns-in_err-show-clause-source g c = c.show.ensures.source
+
+pub returns-clause-sides : goal.returns-clause-sides
+returns-clause-sides g c = c.show.ensures.sides
+
+pub returns-clause-ids : goal.returns-clause-ids
+returns-clause-ids g c = c.show.ensures.ids
+
+pub returns-clause-source : goal.returns-clause-source
+returns-clause-source g c = c.show.ensures.source

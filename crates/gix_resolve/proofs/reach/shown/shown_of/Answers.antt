@@ -1,3 +1,7 @@
+use Rattle.std.proofs.Common.{arith}
+use Rattle.std.specs.List.{filter}
+use Rattle.gix_merge_base.proofs.Listed.{in-item}
+use Rattle.gix_resolve.proofs.ListWalks.{all-taken}
 use Rattle.std.proofs.Common.{sym, ap, ◌∙◌}
 use Rattle.gix_revwalk.specs.declared.numbers.Mark.{Mark}
 use Rattle.gix_merge_base.specs.Marks.{marks_of}
@@ -20,3 +24,9 @@ loop-number-preserved g c =
           passed_left (λ d. shows c.args.both (marks_at m d)) m c.args.met.now c.loop-number.number-index _ c.loop-number-test.true c.loop-number.shown.items c.if-is_shown.shown.items
           (sym test ∙ w.if-is_shown.false) c.loop-number.invariant (ap (λ v. v.items) w.shown-is)
     ]
+
+pub mark_of-requires : goal.mark_of-requires
+mark_of-requires g c = in-item c.args.graph.now c.args.met.now c.loop-number.number-index _ c.requires c.loop-number-test.true
+
+pub returns : goal.returns
+returns g c = (c.loop-number.invariant.0, c.loop-number.invariant.1 ∙ ap (filter (λ d. shows c.args.both (marks_at c.args.graph.now d))) (all-taken c.args.graph.now c.args.met.now c.loop-number.number-index (omega arith)))

@@ -16,3 +16,6 @@ pub returns-clause-greatest : goal.returns-clause-greatest
 returns-clause-greatest g c =
     let none = c.in_default.ensures.none refl in
     rw (← c.self.view_is, none.0) (greatest_at_most c.in_ok-generation.generation c.self.inside.others c.in_ok-generation.ensures.greatest)
+
+pub invariant_of-self : goal.invariant_of-self
+invariant_of-self g c = c.self.invariant
