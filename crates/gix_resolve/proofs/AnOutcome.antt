@@ -1,4 +1,4 @@
--- A run of a text under the steps ends at a leaf.
+-- Some run of each text under the steps ends at a leaf.
 use Rattle.std.proofs.Common.{◌≡◌, Result, Ok, Err, refl}
 use Rattle.gix_revision.specs.Call.{Call}
 use Rattle.gix_revision.specs.Parse.{meaning_of}

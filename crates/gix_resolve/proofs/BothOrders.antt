@@ -1,4 +1,4 @@
--- A text without names that could be digits has the same runs in both orders.
+-- A text has the same runs in both orders if none of its names can be digits.
 use Rattle.std.proofs.Common.{◌≡◌, ℕ, ◌==◌, List, [], ◌∷◌, length, Option, Some, None, Bool, true, false, Err, refl, sym, ap, ◌∙◌}
 use Rattle.std.specs.List.{AllByRecursion, list_all}
 use Rattle.std.proofs.lemmas.Bool.{and_parts, eqb-true}

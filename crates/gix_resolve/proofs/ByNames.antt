@@ -1,4 +1,4 @@
--- From the resolver of digits first to the one of names first.
+-- Carries runs from the resolver of `resolve` to that of `rev_parse`.
 use Rattle.std.proofs.Common.{◌≡◌, inl, inr, ℕ, List, sym, ap, subst, ◌∙◌}
 use Rattle.gix_revision.specs.Answer.{Answer, accepted, refused, no_memory}
 use Rattle.gix_revision.specs.Call.{Call}

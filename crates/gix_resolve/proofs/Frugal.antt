@@ -1,4 +1,4 @@
--- Where no piece asks the source or takes out an escape, memory is never wanting.
+-- If no piece asks the source or takes out an escape, no allocation fails.
 use Rattle.std.proofs.Common.{◌≡◌, inl, inr, ◌||◌, ℕ, List, [], ◌∷◌, Option, Some, None, Bool, true, false, Result, Ok, Err, IsErrOf, refl}
 use Rattle.gix_revision.specs.Call as calls
 use Rattle.gix_revision.specs.Call.{Target}

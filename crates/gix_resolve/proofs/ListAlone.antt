@@ -1,4 +1,4 @@
--- What `a^!` means, by what its parents reach.
+-- `a^!` means what a reaches and its parents do not.
 use Rattle.std.proofs.Common.{◌≡◌, [], inl, inr, ◌⊎◌, refl, sym, subst}
 use Rattle.gix_base.specs.declared.hash.ObjectId.{ObjectId}
 use Rattle.gix_revwalk.specs.History.{History, IsEdge, IsAncestor, IsAncestorOfOne, entry_at, parents_in}
@@ -9,7 +9,7 @@ use Rattle.gix_spec.specs.declared.spec.Spec.TheVariants.{ExcludeParents}
 use Rattle.gix_resolve.specs.ListMeaning.{IsMeant}
 use Rattle.gix_resolve.specs.ListLaws.{AlonesAreWithoutParents}
 
--- a path stays where it begins, or goes on from a parent
+-- a path is empty, or goes on from a parent
 by_parent : (h : History) (a c : ObjectId) → IsAncestor h a c → (c ≡ a) ⊎ IsAncestorOfOne h (parents_in (entry_at h a)) c
 by_parent h a c (itself has) = inl refl
 by_parent h a c (further b c' path e) = elim (by_parent h a b path) as (λ _. (c' ≡ a) ⊎ IsAncestorOfOne h (parents_in (entry_at h a)) c') [

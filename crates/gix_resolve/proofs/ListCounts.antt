@@ -1,4 +1,4 @@
--- How many commits specs mean.
+-- The number of commits that a spec means.
 use Rattle.std.proofs.Common.{◌≡◌, ℕ, ◌+◌, ◌-◌, refl, List, [], ◌∷◌, ◌++◌, drop, length, is_some, true, false, arith}
 use Rattle.std.proofs.lemmas.List.{length-map, length-drop, length-append}
 use Rattle.gix_base.specs.declared.hash.ObjectId.{ObjectId}
@@ -41,7 +41,7 @@ size-merge h a b n k left right = (
   let both = length-append left.0 right.0 in let one = left.2 in let two = right.2 in omega arith,
 )
 
--- what stands behind a place
+-- the items after a place
 pub size-behind : {S T : Type 0} (P : ObjectId → Type 0) (g : Graphed S T) (ns : List Number) (i n : ℕ) → n ≡ length ns - i → Lists (drop i (ids_at g ns)) P → HasSize P n
 size-behind P g ns i n is listed = (
   drop i (ids_at g ns),

@@ -1,4 +1,4 @@
--- What a walk has marked is what it has listed, over the steps of the walk.
+-- After each step, a walk has marked exactly what it has listed.
 use Rattle.std.proofs.Common.{◌≡◌, ℕ, true, false, cond, refl, ap, sym, subst, ◌∙◌, List, [], ◌∷◌, ◌++◌, ◌||◌, ◌<◌, length, map, get_or, is_some, Option, Some, IsTrue, Bool, arith}
 use Rattle.gix_base.specs.declared.hash.ObjectId.{ObjectId}
 use Rattle.gix_revwalk.specs.History.{is_one_of, same_id}
@@ -23,7 +23,7 @@ use Rattle.gix_merge_base.proofs.Listed.{listed-grown, listed-same, listed-push,
 pub listed-mark : {S D A : Type 0} (g : Graphed S (Commit D A)) (ns : List Number) (k : ℕ) (o : Option (Mark D)) → AreMarked g ns → o ≡ mark_at g (id_at g k) → is_some o ≡ is_one_of (ids_at g ns) (id_at g k)
 listed-mark g ns k o at is = ap is_some is ∙ at.marks (id_at g k)
 
--- what stands in a list with one id more
+-- the members of a list with one more id
 pushed : (xs : List ObjectId) (id q : ObjectId) (b : Bool) → b ≡ is_one_of xs q → cond (same_id id q) true b ≡ is_one_of (xs ++ id ∷ []) q
 pushed xs id q b is = elim (same_id id q) as (λ t. same_id id q ≡ t → cond t true b ≡ is_one_of (xs ++ id ∷ []) q) [
   | true ↦ λ e. sym (one_of-right xs (id ∷ []) q (subst (λ z. IsTrue (is_one_of (id ∷ []) z)) (same_id-true id q e) (one_of-head id [])))
@@ -47,28 +47,28 @@ marked-push {S} {D} {A} m n ns x w lt at given =
     marks : (q : ObjectId) → is_some (mark_at n q) ≡ is_one_of (ids_at m ns ++ id_at m (place_in x) ∷ []) q
     marks q = here q ∙ pushed (ids_at m ns) (id_at m (place_in x)) q (is_some (mark_at m q)) (at.marks q)
 
--- what is listed stays so where more is held that no walk has marked
+-- the list stays right if the graph holds more commits that no walk has marked
 pub marked-grown : {S D A : Type 0} (m n : Graphed S (Commit D A)) (ns : List Number) → Grows m n → ((q : ObjectId) → mark_at n q ≡ mark_at m q) → AreMarked m ns
     → AreMarked n ns × (ids_at n ns ≡ ids_at m ns)
 marked-grown m n ns grows same at =
     let grown = listed-grown m n grows ns at.inside in
     (record { inside = grown.0; marks = λ q. ap is_some (same q) ∙ at.marks q ∙ ap (λ l. is_one_of l q) (sym grown.1) }, grown.1)
 
--- numbers stay those of the same commits where more is held, and then the same ids are
+-- numbers keep their commits and ids if the graph holds more
 pub numbers-kept : {S T : Type 0} (a b c : Graphed S T) → Grows a b → held_ids c ≡ held_ids b → KeepsNumbers a c
 numbers-kept a b c grows same = λ ns all.
     let first = listed-grown a b grows ns all in
     let next = listed-same b c same ns first.0 in
     (next.0, next.1 ∙ first.1)
 
--- where one call that keeps them follows another
+-- two calls that keep numbers, one after the other
 pub numbers-then : {S T : Type 0} (a b c : Graphed S T) → KeepsNumbers a b → KeepsNumbers b c → KeepsNumbers a c
 numbers-then a b c p q = λ ns all. let first = p ns all in let next = q ns first.0 in (next.0, next.1 ∙ first.1)
 
--- and where the same is held
+-- a call after which the graph holds the same
 pub numbers-held : {S T : Type 0} (m n : Graphed S T) → n.held ≡ m.held → KeepsNumbers m n
 numbers-held m n e = listed-same m n (ap (map (λ x. x.0)) e)
 
--- each number of a list is one of the graph, also where the same ids are held
+-- numbers of a list stay numbers of the graph if it holds the same ids
 pub in-loop : {S T : Type 0} (m n : Graphed S T) → held_ids n ≡ held_ids m → (ns : List Number) (i : ℕ) (d : Number) → AreIn m ns → i < length ns → place_in (get_or ns i d) < held_len n
 in-loop m n e ns i d all lt = let within = in-item m ns i d all lt in let len = same-len m n e in omega arith

@@ -46,7 +46,7 @@ pub on-ok : {T E : Type 0} (r : Result T E) {P Q : Type 0} → (P → Q) → OnO
 on-ok (Ok x) f k = f k
 on-ok (Err e) f k = tt
 
--- the same set
+-- lists of equal sets
 pub lists-same : (xs : List ObjectId) (P Q : ObjectId → Type 0) → ((c : ObjectId) → P c → Q c) → ((c : ObjectId) → Q c → P c) → Lists xs P → Lists xs Q
 lists-same xs P Q to from k = (k.0, λ c. ((λ m. to c ((k.1 c).0 m)), (λ q. (k.1 c).1 (from c q))))
 
@@ -62,7 +62,7 @@ lists-range h a b xs k = lists-same xs (IsBeyond h (a ∷ []) (b ∷ [])) (IsMea
 pub lists-parents : (h : History) (a : ObjectId) (ps xs : List ObjectId) → ps ≡ parents_in (entry_at h a) → Lists xs (IsBeyond h [] ps) → Lists xs (IsMeant h (IncludeOnlyParents a))
 lists-parents h a ps xs is k = rw (sym is) (lists-same xs (IsBeyond h [] ps) (IsAncestorOfOne h ps) (λ c p. p.0) (λ c q. (q, of-none h c)) k)
 
--- a commit that the history lacks has no parents
+-- a commit that the history does not have has no parents
 pub no_parents : (e : Option Entry) → is_some e ≡ false → parents_in e ≡ []
 no_parents None lacks = refl
 no_parents (Some x) lacks = absurd (true≢false lacks)
@@ -73,7 +73,7 @@ lists-alone h a xs is has = rw is (one_is_distinct a, λ c. ((λ m. (has, one_of
 pub lists-not_alone : (h : History) (a : ObjectId) (xs : List ObjectId) → xs ≡ [] → is_some (entry_at h a) ≡ false → Lists xs (IsMeant h (ExcludeParents a))
 lists-not_alone h a xs is lacks = rw is (lists-none (IsMeant h (ExcludeParents a)) (λ c q. true≢false (sym q.0 ∙ lacks)))
 
--- two lists that share nothing, one behind the other
+-- two lists that share nothing, one after the other
 all-append : {X : Type 0} (P : X → Type 0) (xs ys : List X) → AllByRecursion P xs → AllByRecursion P ys → AllByRecursion P (xs ++ ys)
 all-append P [] ys a b = b
 all-append P (x ∷ xs) ys a b = (a.0, all-append P xs ys a.1 b)
@@ -105,7 +105,7 @@ lists-either h a b xs k = lists-same xs (λ c. IsBeyond h (b ∷ []) (a ∷ []) 
     from c (inl k) = inl (as-one h a c k.0, λ q. k.1 (of-one h b c q))
     from c (inr k) = inr (as-one h b c k.0, λ q. k.1 (of-one h a c q))
 
--- as two lists, one behind the other
+-- two lists of numbers, one after the other
 pub lists-merge : (h : History) (a b : ObjectId) (xs ys zs : List ObjectId) → zs ≡ xs ++ ys → Lists xs (IsBeyond h (b ∷ []) (a ∷ [])) → Lists ys (IsBeyond h (a ∷ []) (b ∷ [])) → Lists zs (IsMeant h (Merge a b))
 lists-merge h a b xs ys zs is left right = rw is (lists-either h a b (xs ++ ys) (
   distinct-append xs ys left.0 right.0 (λ c m n. ((right.1 c).0 n).1 ((left.1 c).0 m).0),
@@ -122,7 +122,8 @@ lists-merge h a b xs ys zs is left right = rw is (lists-either h a b (xs ++ ys) 
     from c (inl k) = one_of-left xs ys c ((left.1 c).1 k)
     from c (inr k) = one_of-right xs ys c ((right.1 c).1 k)
 
--- the same by the numbers of a graph: none, one, and those of two walks of which the second kept the numbers of the first
+-- lists of numbers: none, one, and those of two walks of which the second keeps the numbers of the
+-- first
 module _ {S T : Type 0} where
   pub just-none : (g : Graphed S T) (P : ObjectId → Type 0) (ns : List Number) → ns ≡ [] → Lists [] P → AreJust g ns P
   just-none g P ns is lists = subst (λ l. AreJust g l P) (sym is) (tt, lists)

@@ -1,4 +1,4 @@
--- Pages, each begun after the last id of the one before, make up the list.
+-- The pages of a list make up the list, if each begins after the last id of the page before.
 use Rattle.std.proofs.Common.{◌≡◌, ℕ, zero, suc, true, false, cond, refl, ap, sym, subst, ◌∙◌, List, [], ◌∷◌, ◌++◌, ◌<◌, take, drop, Option, Some, None, IsTrue, inl, inr, append_assoc, arith}
 use Rattle.std.specs.List.{AllByRecursion}
 use Rattle.std.specs.List.Sorted.{IsStrictlySortedBy}
@@ -69,7 +69,7 @@ same_list (x ∷ xs) (y ∷ ys) a b to from = ap (λ z. z ∷ xs) heads ∙ ap (
       | inr k ↦ k
     ]
 
--- what is past an id of a rising list is what stands behind it
+-- the ids greater than an id of a rising list are those after it
 all_past : (x : ObjectId) (vs : List ObjectId) → AllAbove x vs → past (Some x) vs ≡ vs
 all_past x [] all = refl
 all_past x (v ∷ vs) all =
@@ -92,7 +92,7 @@ past_item x (u ∷ us) vs r =
     let not_gt : is_gt (id_order u x) ≡ false = ap is_gt (all-item x us vs u r.0) in
     ap (λ b. cond b (u ∷ past (Some x) (us ++ x ∷ vs)) (past (Some x) (us ++ x ∷ vs))) not_gt ∙ past_item x us vs r.1
 
--- past the last one of some ids that stand at the front
+-- the ids greater than the last of some ids at the front
 past_last : (bound : Option ObjectId) (us ps vs : List ObjectId) → Rises (us ++ (ps ++ vs)) → past bound (us ++ (ps ++ vs)) ≡ ps ++ vs → past (last_or bound ps) (us ++ (ps ++ vs)) ≡ vs
 past_last bound us [] vs r is = is
 past_last bound us (p ∷ ps) vs r is =

@@ -1,4 +1,4 @@
--- What the walk takes in is what it reaches.
+-- The walk loads only what it reaches.
 use Rattle.std.proofs.Common.{◌≡◌, ℕ, zero, suc, sym, subst, ap, ◌∙◌, List, [], ◌∷◌, ◌++◌, ◌⊎◌, inl, inr, ◌<◌, take, length, get_or, is_some, Option, Some, None, IsTrue, false, refl, arith}
 use Rattle.std.proofs.lemmas.List.{length-map}
 use Rattle.gix_base.specs.declared.hash.ObjectId.{ObjectId}
@@ -17,7 +17,7 @@ use Rattle.gix_resolve.specs.ListWalk.{Adds}
 use Rattle.gix_resolve.specs.Taken.{TakesOnly}
 use Rattle.gix_resolve.proofs.ListWalks.{Adding}
 
--- what stands among the first ones
+-- members of the first part of a list
 one_of-first : (xs : List ObjectId) (i : ℕ) (q : ObjectId) → IsTrue (is_one_of (take i xs) q) → IsTrue (is_one_of xs q)
 one_of-first [] zero q m = cc
 one_of-first [] (suc i) q m = cc
@@ -52,7 +52,7 @@ added_reach h starts xs ys o q adds there path = elim (one_of-cases xs adds.0 o 
   | inr new ↦ let a = ((adds.2 o).0 new).0 in inr (a.0, a.1, anc-trans h a.0 o q a.2 path)
 ]
 
--- behind a list that the first ones of all starts were added to, what one more of them reaches
+-- after what the first starts reach, what one more start reaches
 under_more : (h : History) (all xs ys : List ObjectId) (i : ℕ) (d q : ObjectId) → i < length all → Adds h (take i all) xs ys → IsAncestorOfOne h (ys ++ get_or all i d ∷ []) q → IsAncestorOfOne h (xs ++ all) q
 under_more h all xs ys i d q below adds k = elim (one_of-cases ys (get_or all i d ∷ []) k.0 k.1) as (λ _. IsAncestorOfOne h (xs ++ all) q) [
   | inl there ↦ elim (added_reach h (take i all) xs ys k.0 q adds there k.2) as (λ _. IsAncestorOfOne h (xs ++ all) q) [
@@ -62,7 +62,7 @@ under_more h all xs ys i d q below adds k = elim (one_of-cases ys (get_or all i 
   | inr is ↦ (get_or all i d, one_of-right xs all (get_or all i d) (one_of-at all i d below), subst (λ z. IsAncestor h z q) (one_of-single (get_or all i d) k.0 is) k.2)
 ]
 
--- behind what the hidden ones reach
+-- after what the hidden starts reach
 under_hidden : (h : History) (hidden shown xs : List ObjectId) (q : ObjectId) → Adds h hidden [] xs → IsAncestorOfOne h (xs ++ shown) q → IsAncestorOfOne h (hidden ++ shown) q
 under_hidden h hidden shown xs q adds k = elim (one_of-cases xs shown k.0 k.1) as (λ _. IsAncestorOfOne h (hidden ++ shown) q) [
   | inl there ↦ elim (added_reach h hidden [] xs k.0 q adds there k.2) as (λ _. IsAncestorOfOne h (hidden ++ shown) q) [

@@ -111,7 +111,7 @@ pub closed_ancestor : (h : History) (xs : List ObjectId) → AreClosed h xs → 
 closed_ancestor h xs at o m c (itself has) = m
 closed_ancestor h xs at o m c (further b c' p e) = at.closed b c (closed_ancestor h xs at o m b p) e
 
--- what stands behind xs in a list without repetition is not in xs
+-- what follows xs in a list without repetition is not in xs
 each-member : (P : ObjectId → Type 0) (xs : List ObjectId) → AllByRecursion P xs → (c : ObjectId) → IsTrue (is_one_of xs c) → P c
 each-member P [] all c m = cc
 each-member P (x ∷ xs) all c m = elim (one_of-cons_cases x xs c m) as (λ _. P c) [ inl is ↦ subst P (sym is) all.0 | inr k ↦ each-member P xs all.1 c k ]
@@ -226,7 +226,7 @@ lists_beyond h hidden shown xs ys first second at =
     distinct_behind [] more once = once
     distinct_behind (x ∷ xs) more once = distinct_behind xs more (IsDistinct-tail same_id x (xs ++ more) once)
 
--- the numbers behind a place
+-- the numbers after a place
 in_behind : {S T : Type 0} (g : Graphed S T) (k : ℕ) (ns : List Number) → AreIn g ns → AreIn g (drop k ns)
 in_behind g zero ns all = all
 in_behind g (suc k) [] all = tt

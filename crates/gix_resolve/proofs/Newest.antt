@@ -1,4 +1,4 @@
--- Ids that are put in order.
+-- Ids sorted by generation number, time and id.
 use Rattle.std.proofs.Common.{◌≡◌, ℕ, Bool, true, false, cond, refl, ap, sym, subst, ◌∙◌, List, [], ◌∷◌, ◌++◌, ◌||◌, ◌<◌, ◌+◌, take, length, get_or, map, Option, Some, None, is_some}
 use Rattle.std.specs.List.{filter_map, dedup, dedup_from, AllByRecursion, IsDistinct}
 use Rattle.std.specs.List.Sorted.{IsPermutation, IsSorted}
@@ -28,11 +28,11 @@ use Rattle.gix_merge_base.proofs.Sorting.{choice_ties, turned_cmp}
 use Rattle.gix_resolve.specs.Newest.{turned_for}
 use Rattle.gix_resolve.proofs.ListWalks.{ids-step}
 
--- where a commit that the history has stands
+-- the sort key of a commit that the history has
 pub turned_some : (h : History) (id : ObjectId) (e : Entry) (key : GenThenTime) → entry_at h id ≡ Some e → key ≡ key_in (Some e) → Some (record { 0 = (key, record { 0 = id }) }) ≡ turned_at h id
 turned_some h id e key has is = rw (has, is) refl
 
--- where one that it lacks does
+-- a commit that the history does not have has no sort key
 pub turned_none : (h : History) (id : ObjectId) → is_some (entry_at h id) ≡ false → None ≡ turned_at h id
 turned_none h id lacks = rw lacks refl
 
@@ -97,7 +97,7 @@ module _ (h : History) where
   turned_again [] a = refl
   turned_again (p ∷ ps) a = ap (λ q. q ∷ ps) a.0 ∙ ap (λ l. turned_for h (id_in p) ∷ l) (turned_again ps a.1)
 
-  -- ids rise where what is compared for them does
+  -- ids are in order if their sort keys are
   falls : (found : List ObjectId) → IsSorted (turned_cmp h) (map (turned_for h) found) → IsSorted (choice h) found
   falls found s k e low high =
       let at = s k (turned_for h e) low (rw (length-map found (turned_for h)) high) in
@@ -128,7 +128,7 @@ module _ (h : History) where
       none_twice [] once = refl
       none_twice (x ∷ xs) once = none_after x xs once
 
--- what is dropped stands there still
+-- a dropped duplicate is still a member
 or_again : (a r : Bool) → (a || r) ≡ (a || (a || r))
 or_again true r = refl
 or_again false r = refl

@@ -1,4 +1,4 @@
--- How many commits the sides of a walk alone reach.
+-- The numbers of commits that only one side of a walk reaches.
 use Rattle.std.proofs.Common.{◌≡◌, ℕ, Bool, true, false, cond, refl, ap, sym, ◌∙◌, List, [], ◌∷◌, ◌<◌, ◌≤◌, ◌+◌, not, zero, suc, take, length, get_or, IsTrue, arith}
 use Rattle.std.specs.List.{filter}
 use Rattle.std.proofs.lemmas.List.{length-map}

@@ -1,4 +1,4 @@
--- The count of open commits that are not hidden, over one more and over one less.
+-- The count of open commits that are not hidden, after one is added or removed.
 use Rattle.std.proofs.Common.{◌≡◌, ℕ, true, false, cond, refl, ap, sym, subst, ◌∙◌, List, [], ◌∷◌, not, ◌+◌, ◌-◌, ◌≤◌, ◌==◌, ◌||◌, ◌⊎◌, inl, inr, arith, IsTrue, Bool, true≢false}
 use Rattle.std.specs.List.Sorted.{IsPermutation}
 use Rattle.std.proofs.lemmas.List.Sums.{sum_by-cons}
@@ -15,7 +15,7 @@ use Rattle.gix_merge_base.specs.Marks.{MarkSet, level}
 use Rattle.gix_resolve.specs.ReachSides.{hides}
 use Rattle.gix_resolve.specs.ReachWalk.{Tells, count_unhidden}
 
--- how often what stands nowhere stands
+-- what is not in a list occurs 0 times in it
 pub times_some : (c : ObjectId) (q : List ObjectId) → 1 ≤ times c q → IsTrue (is_one_of q c)
 times_some c [] k = absurd (omega arith)
 times_some c (x ∷ xs) k =
@@ -187,7 +187,7 @@ tells_same both m m' n n' q q' o marks queued is tells = rw is record {
   times = λ c shown. queued c ∙ tells.times c (sym (ap (hides both) (marks c)) ∙ shown);
 }
 
--- where nothing that is open can be shown
+-- if no open commit can be wanted
 pub all_hidden : (both : Bool) (m : ObjectId → MarkSet) (q : List ObjectId) → count_unhidden both m q ≡ 0 → (c : ObjectId) → IsTrue (is_one_of q c) → IsTrue (hides both (m c))
 all_hidden both m [] none c k = cc
 all_hidden both m (x ∷ xs) none c k =

@@ -1,4 +1,4 @@
--- Handing marks to commits that may be open, of which hidden ones need none.
+-- Hands marks to commits that may be open. Hidden commits need none.
 use Rattle.std.proofs.Common.{◌≡◌, ℕ, Bool, true, false, cond, refl, ap, sym, subst, ◌∙◌, List, [], ◌∷◌, ◌++◌, ◌⊎◌, inl, inr, IsTrue, ◌+◌, ◌≤◌, ◌<◌, length, arith, take, get_or, add-one, is_some}
 use Rattle.std.specs.List.{filter}
 use Rattle.std.proofs.Math.Seq.{take-suc}
@@ -25,7 +25,7 @@ pub hides-grown : (both : Bool) (a b : MarkSet) → HasMarksOf a b → IsTrue (h
 hides-grown true a b g k = let p = and_both a.one a.two k in and_pair b.one b.two (g.one p.0) (g.two p.1)
 hides-grown false a b g k = g.two k
 
--- nothing changes, where each one has the marks or is hidden
+-- nothing changes if each commit has the marks or is hidden
 pub gives_none : (h : History) (both : Bool) (w : MarkSet) (m m' : ObjectId → MarkSet) (q q' : List ObjectId) → ((c : ObjectId) → m' c ≡ m c) → q' ≡ q → (ps : List ObjectId)
     → ((p : ObjectId) → IsTrue (is_one_of ps p) → Has h p → HasMarksOf w (m p) ⊎ IsTrue (hides both (m p))) → Gives h both w ps m q m' q'
 gives_none h both w m m' q q' e d ps has = record {

@@ -1,4 +1,4 @@
--- What a walk has marked is what it has met, over the steps of the walk.
+-- After each step, what a walk has met agrees with its marks.
 use Rattle.std.proofs.Common.{inl, inr, ◌≡◌, true, false, cond, refl, ap, sym, subst, ◌∙◌, List, [], ◌∷◌, ◌++◌, ◌||◌, ◌<◌, is_some, not, Option, Some, IsTrue, Bool, true≢false}
 use Rattle.std.specs.List.{AllByRecursion, IsDistinct}
 use Rattle.std.proofs.lemmas.Map.Keys.{IsDistinct-head, IsDistinct-tail, IsDistinct-cons}
@@ -112,7 +112,7 @@ module _ {S A : Type 0} (both : Bool) (m n : Graphed S (Commit Flags A)) (ns : L
   marked-given true test free = marked-push (turned (is_some (mark_at m id)) true test)
   marked-given false test free = marked-again (λ _. (turned (is_some (mark_at m id)) false test, free))
 
--- what was met stays so where more is held that no walk has marked
+-- what was met stays so if the graph holds more commits that no walk has marked
 pub marked-grown : {S A : Type 0} (both : Bool) (m n : Graphed S (Commit Flags A)) (ns : List Number) → Grows m n → ((q : ObjectId) → mark_at n q ≡ mark_at m q) → AreMet both m ns → AreMet both n ns
 marked-grown both m n ns grows same at =
     let grown = listed-grown m n grows ns at.inside in

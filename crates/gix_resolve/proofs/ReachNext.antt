@@ -1,4 +1,4 @@
--- An open commit leaves: what the walk keeps stays right. And where a walk begins.
+-- What the walk keeps stays right when an open commit leaves, and is right when a walk begins.
 use Rattle.std.proofs.Common.{true≢false, ◌≡◌, ℕ, true, false, cond, refl, ap, sym, subst, ◌∙◌, List, [], ◌∷◌, inl, inr, IsTrue, ◌<◌, ◌≤◌, ◌-◌, is_some, Option, Some, None, arith}
 use Rattle.std.specs.Option.{unwrap_or}
 use Rattle.std.specs.List.{AllByRecursion}
@@ -119,7 +119,7 @@ right_again h g walk next both met front unhidden right = record {
   tells = rw (both, front, unhidden) right.tells;
 }
 
--- where nothing is marked
+-- before anything is marked
 pub right_none : {S A B : Type 0} (h : History) (g : Graphed S (Commit Flags A)) (walk : Walk B) → ((q : ObjectId) → mark_at g q ≡ None) → walk.met.items ≡ [] → walk.front ≡ [] → walk.unhidden ≡ 0 → IsRight h g walk
 right_none h g walk none met front unhidden = record {
   met = subst (AreMet walk.both g) (sym met) (record { inside = tt; marked = λ q k. cc; every = λ q k hid. absurd (true≢false (sym k ∙ ap is_some (none q))); once = nothing });

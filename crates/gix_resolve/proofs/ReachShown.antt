@@ -133,7 +133,7 @@ lists_either h xs ys g ns ids at sees is =
       ];
     }
 
--- where one side is wanted
+-- if only one side is wanted
 pub shows_first : (m : MarkSet) → shows false m ≡ is_first_alone m
 shows_first m = by m.one m.two
   where

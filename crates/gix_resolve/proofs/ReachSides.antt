@@ -232,7 +232,7 @@ start-has : (h : History) (a c : ObjectId) → IsAncestor h a c → Has h a
 start-has h a c (itself has) = has
 start-has h a c (further b c' p e) = start-has h a b p
 
--- an ancestor has what its side's commits hand on, or lies below an open commit that has it
+-- an ancestor has the mark of its side, or is an ancestor of an open commit that has it
 module _ (h : History) (mark : ObjectId → Bool) (q : List ObjectId) (on : (c p : ObjectId) → is_one_of q c ≡ false → IsEdge h c p → IsTrue (mark c) → IsTrue (mark p)) where
   abbrev Reached : ObjectId → Type 0
   Reached c = IsTrue (mark c) ⊎ ((y : ObjectId) × IsTrue (is_one_of q y) × IsTrue (mark y) × IsAncestor h y c)
@@ -288,7 +288,7 @@ marked_one both m (inl k) = or_left m.one m.two k
     or_left false b h = cc
 marked_one both m (inr hid) = marked_two m (hidden_two both m hid)
 
--- where the walk is over
+-- at the end of the walk
 module _ (h : History) (xs ys : List ObjectId) (both : Bool) (m : ObjectId → MarkSet) (q : List ObjectId) (bound : ℕ) (at : Walked h xs ys both m q bound) (over : IsOver h both m q bound) where
   -- a mark of either side is handed on as one
   on_marked : (c p : ObjectId) → is_one_of q c ≡ false → IsEdge h c p → IsTrue (marked (m c)) → IsTrue (marked (m p))
@@ -306,7 +306,7 @@ module _ (h : History) (xs ys : List ObjectId) (both : Bool) (m : ObjectId → M
   below : (zs : List ObjectId) (y c : ObjectId) → IsAncestorOfOne h zs y → IsAncestor h y c → IsAncestorOfOne h zs c
   below zs y c k p = (k.0, k.1, ancestors-go_on h k.0 y c k.2 p)
 
-  -- where both sides are shown a hidden commit has the first mark too
+  -- if both sides are wanted, a hidden commit has the first mark, too
   module _ (t : IsTrue both) where
     on_first : (c p : ObjectId) → is_one_of q c ≡ false → IsEdge h c p → IsTrue (m c).one → IsTrue (m p).one
     on_first c p out e k = one_first both (m p) t (at.on_one c p out e k)
@@ -314,7 +314,7 @@ module _ (h : History) (xs ys : List ObjectId) (both : Bool) (m : ObjectId → M
     from_first : (c : ObjectId) → IsAncestorOfOne h xs c → Reached h (λ x. (m x).one) q on_first c
     from_first c k = reach h (λ x. (m x).one) q on_first k.0 (one_first both (m k.0) t (at.begun_one k.0 k.1 (start-has h k.0 c k.2))) c k.2
 
-  -- what is shown is not open, so it was taken, and nothing that is open lies above it
+  -- a wanted commit is not open, so it was taken, and no open commit is its descendant
   none_above : GenerationsNeverRiseFrom h (xs ++ ys) → (c y : ObjectId) → IsTrue (shows both (m c)) → IsTrue (is_one_of q y) → IsAncestor h y c → ⊥
   none_above never c y shown there p =
       let closed : is_one_of q c ≡ false = not_one_of q c (λ k. true≢false (sym (over c k).0 ∙ shown-not_hidden both (m c) shown)) in

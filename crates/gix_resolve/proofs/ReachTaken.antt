@@ -1,4 +1,4 @@
--- What a walk from two sides takes in is what the sides reach.
+-- A walk from two sides loads only what the sides reach.
 use Rattle.std.proofs.Common.{◌≡◌, ℕ, sym, subst, ◌∙◌, List, [], ◌∷◌, ◌++◌, ◌<◌, get_or, length, IsTrue}
 use Rattle.std.specs.List.Sorted.{IsPermutation}
 use Rattle.std.proofs.lemmas.List.Sorted.{list_any-IsPermutation}

@@ -1,4 +1,4 @@
--- What a step takes in lies on it.
+-- A step loads only commits on it.
 use Rattle.std.proofs.Common.{◌≡◌, ℕ, sym, ap, ◌∙◌, inl, inr, ◌<◌, ◌≤◌, ◌+◌, Option, Some, None, if◌then◌else◌, arith}
 use Rattle.std.specs.List.{slice_get}
 use Rattle.gix_revision.specs.Call.{Target, traverse, peel, object}
@@ -15,7 +15,8 @@ use Rattle.gix_resolve.specs.declared.walk.Walk.{Walk}
 use Rattle.gix_resolve.proofs.ListTaken.{only_then, only_wider}
 use Rattle.gix_resolve.proofs.Rounds.{steps_add, less_left}
 
--- so many steps lead to where the walk is, and with those that it has left they are no more than it was to take
+-- a number of steps leads to where the walk is; with the remaining steps it is no more than the
+-- steps asked for
 abbrev pub IsReached : History → (start : ObjectId) → (steps : ℕ) → (at : ObjectId) → (left : ℕ) → Type 0
 IsReached h start steps at left = (k : ℕ) × (k + left ≤ steps) × (ancestor_at h k start ≡ Some at)
 
@@ -27,12 +28,12 @@ further : (h : History) (k : ℕ) (start at q : ObjectId) → ancestor_at h k st
 further h k start at q way next = steps_add h k 1 start ∙ ap (onward (ancestor_at h 1)) way ∙ ap (onward (ancestor_at h 0)) next
 
 module _ (h : History) where
-  -- the commit that a step goes from lies on it
+  -- the commit from which a step goes is on it
   at_start : (id : ObjectId) (step : Traversal) (q : ObjectId) → q ≡ id → IsOnStep h step id q
   at_start id (NthAncestor n) q same = (0, omega arith, ap Some (sym same))
   at_start id (NthParent n) q same = inl same
 
-  -- where a round of `~n` leads
+  -- the commit to which a round of `~n` leads
   on_way : (start : ObjectId) (steps : ℕ) (at : ObjectId) (left : ℕ) (q : ObjectId) → IsReached h start steps at left → 0 < left → IsNear h 0 at q → IsOnStep h (NthAncestor steps) start q
   on_way start steps at left q way some (inl is) = (way.0, (let few = way.1 in omega arith), way.2 ∙ ap Some (sym is))
   on_way start steps at left q way some (inr next) = (way.0 + 1, (let few = way.1 in omega arith), further h way.0 start at q way.2 next)

@@ -31,7 +31,7 @@ module _ (p : ObjectId → Bool) where
       by false true e f more = rw (e, f, e) more
       by false false e f more = rw (e, f) more
 
-  -- an id that passes is one of those that pass, where it is one of all
+  -- an id that passes the test and is in the list is in the filtered list
   one_kept : (xs : List ObjectId) (y : ObjectId) → p y ≡ true → is_one_of xs y ≡ is_one_of (filter p xs) y
   one_kept [] y passes = refl
   one_kept (x ∷ xs) y passes = by (p x) (same_id y x) refl refl (one_kept xs y passes)
@@ -80,7 +80,7 @@ found_joined p xs ys once =
     ap found_in (filter-append p xs (without xs ys) ∙ ap (λ l. filter p xs ++ l) (swapped p (λ y. not (is_one_of xs y)) ys ∙ without_kept p xs ys))
     ∙ both_found (filter p xs) (filter p ys) (distinct_filter p ys once)
 
--- none stands twice
+-- no id occurs twice
 pub once_joined : (xs ys : List ObjectId) → StandOnce xs → StandOnce ys → StandOnce (joined_ids xs ys)
 once_joined xs ys one other =
     distinct-append xs (without xs ys) one (distinct_filter (λ y. not (is_one_of xs y)) ys other)

@@ -1,3 +1,4 @@
+use Rattle.std.below.core.proofs.iter.Serving.{as_err}
 use Rattle.std.proofs.Common.{◌≡◌, ◌∙◌, inl, inr, sym, refl, Some}
 use Rattle.std.specs.List.{slice_get}
 use Rattle.gix_revision.specs.History.{entry_at, parents_in}
@@ -44,3 +45,15 @@ returns-in_err-take_in-2-clause-lacks g c =
     let found : slice_get (parents_in (entry_at h c.args.id)) c.args.place ≡ Some c.in-Some.found = rw same at (sym c.listed.ensures ∙ c.in-Some.is) in
     let lacks : LacksOne (IsAskedNear h c.args.place c.args.id) c.take_in-2.new.graph = (c.in-Some.found, inr found, c.in_err-take_in-2.ensures.lacks) in
     where_refused _ lacks
+
+pub returns-in_err-take_in-clause-found : goal.returns-in_err-take_in-clause-found
+returns-in_err-take_in-clause-found g c = rw (as_err c.from_residual.ensures.0).1 tt
+
+pub returns-in_err-take_in-clause-there : goal.returns-in_err-take_in-clause-there
+returns-in_err-take_in-clause-there g c = rw (as_err c.from_residual.ensures.0).1 tt
+
+pub returns-in_err-take_in-2-clause-found : goal.returns-in_err-take_in-2-clause-found
+returns-in_err-take_in-2-clause-found g c = rw (as_err c.from_residual-in_err-take_in-2.ensures.0).1 tt
+
+pub returns-in_err-take_in-2-clause-there : goal.returns-in_err-take_in-2-clause-there
+returns-in_err-take_in-2-clause-there g c = rw (as_err c.from_residual-in_err-take_in-2.ensures.0).1 tt

@@ -1,3 +1,4 @@
+use Rattle.std.below.core.proofs.iter.Serving.{as_err}
 use Rattle.std.proofs.Common.{rules, ◌≡◌, IsTrue, false}
 use Rattle.gix_revision.specs.Call.{target_of, object}
 use Rattle.gix_revision.specs.Types.ObjectKind.TheVariants.{Commit}
@@ -27,3 +28,6 @@ returns-in_err-take_in-clause-lacks g c = λ yes.
 
 pub returns-then-branch-clause-lacks : goal.returns-then-branch-clause-lacks
 returns-then-branch-clause-lacks g c = λ yes. let no : IsTrue false = yes in cc
+
+pub returns-in_err-take_in-clause-there : goal.returns-in_err-take_in-clause-there
+returns-in_err-take_in-clause-there g c = rw (as_err c.from_residual.ensures.0).1 tt

@@ -1,3 +1,4 @@
+use Rattle.std.below.core.proofs.iter.Serving.{as_err}
 use Rattle.std.proofs.Common.{ap}
 use Rattle.std.specs.List.{filter_map}
 use Rattle.std.proofs.lemmas.List.{take_all}
@@ -46,3 +47,12 @@ returns-clause-turned g c = c.loop-id.invariant.turned ∙ ap (filter_map (turne
 
 pub returns-clause-after : goal.returns-clause-after
 returns-clause-after g c = record { same_history = c.loop-id.invariant.after.same_history; count = c.loop-id.invariant.after.count; held = c.loop-id.invariant.after.held }
+
+pub push_reserved-requires : goal.push_reserved-requires
+push_reserved-requires g c = omega (arith, c.loop-id.invariant.len, c.loop-id.invariant.room)
+
+pub returns-in_err-all-clause-turned : goal.returns-in_err-all-clause-turned
+returns-in_err-all-clause-turned g c = rw (as_err c.from_residual.ensures.0).1 tt
+
+pub returns-in_err-place-clause-turned : goal.returns-in_err-place-clause-turned
+returns-in_err-place-clause-turned g c = rw (as_err c.from_residual-in_err-place.ensures.0).1 tt

@@ -1,3 +1,6 @@
+use Rattle.std.proofs.Common.{ap, map, ◌∙◌}
+use Rattle.gix_resolve.specs.Newest.{turned_for}
+use Rattle.gix_resolve.proofs.ListWalks.{all-taken}
 use Rattle.std.proofs.Common.{◌<◌, arith, get_or}
 use Rattle.gix_revwalk.specs.Graph.{held_len}
 use Rattle.gix_revwalk.specs.Number.{place_in}
@@ -21,3 +24,12 @@ loop-number-preserved g c =
       len = omega (arith, c.push_reserved.ensures.len, c.loop-number.invariant.len);
       room = omega (arith, c.push_reserved.ensures.capacity, c.loop-number.invariant.room);
     }
+
+pub push_reserved-requires : goal.push_reserved-requires
+push_reserved-requires g c = omega (arith, c.loop-number.invariant.len, c.loop-number.invariant.room)
+
+pub returns : goal.returns
+returns g c = c.loop-number.invariant.turned ∙ ap (map (turned_for (g.S.Find.history c.args.graph.now.source))) (all-taken c.args.graph.now c.args.numbers.now c.loop-number.number-index (omega arith))
+
+pub offset_bounds-numbers-number-index : goal.offset_bounds-numbers-number-index
+offset_bounds-numbers-number-index g c = record { fits = omega arith }

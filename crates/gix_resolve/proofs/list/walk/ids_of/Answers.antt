@@ -1,3 +1,4 @@
+use Rattle.std.below.core.proofs.iter.Serving.{as_err}
 use Rattle.std.proofs.Common.{◌∙◌, arith}
 use Rattle.gix_merge_base.proofs.Listed.{in-item}
 use Rattle.gix_resolve.proofs.ListWalks.{all-taken}
@@ -14,3 +15,9 @@ id_of-requires g c = in-item c.args.graph.now c.args.numbers.now c.loop-number.n
 
 pub returns : goal.returns
 returns g c = c.loop-number.invariant ∙ all-taken c.args.graph.now c.args.numbers.now c.loop-number.number-index (omega arith)
+
+pub returns-in_err-ids : goal.returns-in_err-ids
+returns-in_err-ids g c = rw (as_err c.from_residual.ensures.0).1 tt
+
+pub returns-in_err-push : goal.returns-in_err-push
+returns-in_err-push g c = rw (as_err c.from_residual-in_err-push.ensures.0).1 tt

@@ -1,3 +1,4 @@
+use Rattle.std.below.core.proofs.iter.Serving.{as_err}
 use Rattle.std.proofs.Common.{◌∷◌, ◌++◌, [], ap, ◌∙◌, length, arith}
 use Rattle.std.proofs.lemmas.List.{length-map, take_all}
 use Rattle.gix_revwalk.specs.Number.{place_in}
@@ -78,3 +79,33 @@ returns-clause-taken g c = c.loop-i.invariant.taken
 
 pub returns-clause-after : goal.returns-clause-after
 returns-clause-after g c = c.loop-i.invariant.after
+
+pub list_id-requires : goal.list_id-requires
+list_id-requires g c = c.requires.marked
+
+pub list_parents-requires-clause-marked : goal.list_parents-requires-clause-marked
+list_parents-requires-clause-marked g c = c.loop-i.invariant.marked
+
+pub returns-in_err-list_id-clause-marked : goal.returns-in_err-list_id-clause-marked
+returns-in_err-list_id-clause-marked g c = rw (as_err c.from_residual.ensures.0).1 tt
+
+pub returns-in_err-list_id-clause-closed : goal.returns-in_err-list_id-clause-closed
+returns-in_err-list_id-clause-closed g c = rw (as_err c.from_residual.ensures.0).1 tt
+
+pub returns-in_err-list_id-clause-adds : goal.returns-in_err-list_id-clause-adds
+returns-in_err-list_id-clause-adds g c = rw (as_err c.from_residual.ensures.0).1 tt
+
+pub returns-in_err-list_id-clause-numbers : goal.returns-in_err-list_id-clause-numbers
+returns-in_err-list_id-clause-numbers g c = rw (as_err c.from_residual.ensures.0).1 tt
+
+pub returns-in_err-list_parents-clause-marked : goal.returns-in_err-list_parents-clause-marked
+returns-in_err-list_parents-clause-marked g c = rw (as_err c.from_residual-in_err-list_parents.ensures.0).1 tt
+
+pub returns-in_err-list_parents-clause-closed : goal.returns-in_err-list_parents-clause-closed
+returns-in_err-list_parents-clause-closed g c = rw (as_err c.from_residual-in_err-list_parents.ensures.0).1 tt
+
+pub returns-in_err-list_parents-clause-adds : goal.returns-in_err-list_parents-clause-adds
+returns-in_err-list_parents-clause-adds g c = rw (as_err c.from_residual-in_err-list_parents.ensures.0).1 tt
+
+pub returns-in_err-list_parents-clause-numbers : goal.returns-in_err-list_parents-clause-numbers
+returns-in_err-list_parents-clause-numbers g c = rw (as_err c.from_residual-in_err-list_parents.ensures.0).1 tt

@@ -152,3 +152,9 @@ returns-clause-ids g c = c.show.ensures.ids
 
 pub returns-clause-source : goal.returns-clause-source
 returns-clause-source g c = c.show.ensures.source
+
+pub returns-in_err-show-clause-right : goal.returns-in_err-show-clause-right
+returns-in_err-show-clause-right g c = rw (as_err c.from_residual-in_err-show.ensures.0).1 tt
+
+pub returns-in_err-show-clause-handed : goal.returns-in_err-show-clause-handed
+returns-in_err-show-clause-handed g c = rw (as_err c.from_residual-in_err-show.ensures.0).1 tt

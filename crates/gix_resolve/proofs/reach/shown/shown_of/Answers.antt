@@ -1,3 +1,4 @@
+use Rattle.std.below.core.proofs.iter.Serving.{as_err}
 use Rattle.std.proofs.Common.{arith}
 use Rattle.std.specs.List.{filter}
 use Rattle.gix_merge_base.proofs.Listed.{in-item}
@@ -30,3 +31,6 @@ mark_of-requires g c = in-item c.args.graph.now c.args.met.now c.loop-number.num
 
 pub returns : goal.returns
 returns g c = (c.loop-number.invariant.0, c.loop-number.invariant.1 ∙ ap (filter (λ d. shows c.args.both (marks_at c.args.graph.now d))) (all-taken c.args.graph.now c.args.met.now c.loop-number.number-index (omega arith)))
+
+pub returns-in_err-push : goal.returns-in_err-push
+returns-in_err-push g c = rw (as_err c.from_residual.ensures.0).1 tt
