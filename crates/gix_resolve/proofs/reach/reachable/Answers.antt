@@ -1,3 +1,4 @@
+use Rattle.std.below.core.proofs.iter.Serving.{as_err}
 use Rattle.gix_resolve.proofs.ListSorted.{members-sorted}
 use Rattle.gix_resolve.proofs.ReachShown.{sorted-covers}
 use Rattle.gix_resolve.specs.Reachable.{IsBeyond}
@@ -15,3 +16,9 @@ pub returns-clause-covers : goal.returns-clause-covers
 returns-clause-covers g c =
     sorted-covers (g.S.Find.history c.args.graph.now.source) c.args.include.now c.args.exclude.now c.in_ok-ids.ids.items c.sort_unstable.new.self.items
     c.in_ok-ids.ensures.listed c.sort_unstable.ensures.permutation c.sort_unstable.ensures.sorted
+
+pub returns-in_err-ids-clause-reached : goal.returns-in_err-ids-clause-reached
+returns-in_err-ids-clause-reached g c = λ never. rw (as_err c.from_residual.ensures.0).1 tt
+
+pub returns-in_err-ids-clause-covers : goal.returns-in_err-ids-clause-covers
+returns-in_err-ids-clause-covers g c = rw (as_err c.from_residual.ensures.0).1 tt

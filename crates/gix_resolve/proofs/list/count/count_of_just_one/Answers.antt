@@ -1,3 +1,4 @@
+use Rattle.std.below.core.proofs.iter.Serving.{as_err}
 use Rattle.std.proofs.Common.{◌≡◌, ◌+◌, sym, subst}
 use Rattle.gix_revwalk.specs.Sizes.{HasSize}
 use Rattle.gix_revwalk.proofs.GraphAfters.{graph_as}
@@ -36,3 +37,9 @@ pub returns-clause-taken : goal.returns-clause-taken
 returns-clause-taken g c =
     only_either (g.S.Find.history c.args.graph.now.source) c.args.theirs c.args.ours c.args.graph.now c.count_beyond.new.graph c.count_beyond-2.new.graph c.count_beyond.ensures.taken
     (rw c.count_beyond.ensures.after.same_history at c.count_beyond-2.ensures.taken)
+
+pub returns-in_err-of_theirs-clause-size : goal.returns-in_err-of_theirs-clause-size
+returns-in_err-of_theirs-clause-size g c = rw (as_err c.from_residual.ensures.0).1 tt
+
+pub returns-in_err-of_ours-clause-size : goal.returns-in_err-of_ours-clause-size
+returns-in_err-of_ours-clause-size g c = rw (as_err c.from_residual-in_err-of_ours.ensures.0).1 tt

@@ -1,3 +1,4 @@
+use Rattle.std.below.core.proofs.iter.Serving.{as_err}
 use Rattle.std.proofs.Common.{sym}
 use Rattle.gix_revwalk.proofs.Growth.{more-taken}
 use Rattle.gix_resolve.proofs.ListCounts.{size-alone, size-not_alone}
@@ -26,3 +27,6 @@ pub returns-in-None-clause-taken : goal.returns-in-None-clause-taken
 returns-in-None-clause-taken g c =
     let h = g.S.Find.history c.args.graph.now.source in
     only_alone h c.args.id c.args.graph.now c.take.new.graph (more-taken h c.args.graph.now c.take.new.graph c.args.id _ c.in_ok-take.ensures.taken)
+
+pub returns-in_err-take-clause-size : goal.returns-in_err-take-clause-size
+returns-in_err-take-clause-size g c = rw (as_err c.from_residual.ensures.0).1 tt

@@ -1,3 +1,4 @@
+use Rattle.std.below.core.proofs.iter.Serving.{as_err}
 use Rattle.std.proofs.Common.{◌≡◌, ◌∙◌, []}
 use Rattle.gix_revwalk.specs.History.{entry_at, parents_in}
 use Rattle.gix_revwalk.specs.Sizes.{HasSize}
@@ -23,3 +24,6 @@ pub returns-clause-taken : goal.returns-clause-taken
 returns-clause-taken g c =
     only_above (g.S.Find.history c.args.graph.now.source) c.args.id c.deref.result.now c.args.graph.now c.parents_of.new.graph c.count_beyond.new.graph
     (c.deref.ensures.value ∙ c.in_ok-parents.ensures.parents) c.parents_of.ensures.taken (rw c.parents_of.ensures.after.same_history at c.count_beyond.ensures.taken)
+
+pub returns-in_err-parents-clause-size : goal.returns-in_err-parents-clause-size
+returns-in_err-parents-clause-size g c = rw (as_err c.from_residual.ensures.0).1 tt

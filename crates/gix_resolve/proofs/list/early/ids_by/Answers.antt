@@ -1,3 +1,4 @@
+use Rattle.std.below.core.proofs.iter.Serving.{as_err}
 use Rattle.std.proofs.Common.{sym, ap, subst, ◌∙◌}
 use Rattle.gix_revwalk.specs.Sizes.{Lists}
 use Rattle.gix_merge_base.specs.PaintQueue.{ids_at, AreIn}
@@ -30,3 +31,15 @@ pub returns-clause-exclude : goal.returns-clause-exclude
 returns-clause-exclude g c = λ is.
     let numbers = c.in_ok-numbers.numbers in
     absurd (some_items numbers.items numbers.len numbers.ok.0 (sym c.is_empty.ensures ∙ c.if-is_empty.false) (c.in_ok-numbers.ensures.exclude is).0)
+
+pub returns-in_err-numbers-clause-meant : goal.returns-in_err-numbers-clause-meant
+returns-in_err-numbers-clause-meant g c = rw (as_err c.from_residual.ensures.0).1 tt
+
+pub returns-in_err-numbers-clause-taken : goal.returns-in_err-numbers-clause-taken
+returns-in_err-numbers-clause-taken g c = c.members_by.ensures.taken
+
+pub returns-in_err-ids_of-clause-meant : goal.returns-in_err-ids_of-clause-meant
+returns-in_err-ids_of-clause-meant g c = rw (as_err c.from_residual-in_err-ids_of.ensures.0).1 tt
+
+pub returns-clause-taken : goal.returns-clause-taken
+returns-clause-taken g c = c.members_by.ensures.taken

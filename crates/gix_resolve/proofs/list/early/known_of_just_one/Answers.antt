@@ -1,3 +1,4 @@
+use Rattle.std.below.core.proofs.iter.Serving.{as_err}
 use Rattle.std.proofs.Common.{◌≡◌, ◌+◌, [], ◌∷◌, refl, sym, subst}
 use Rattle.gix_revwalk.specs.Sizes.{HasSize}
 use Rattle.gix_revwalk.proofs.GraphAfters.{graph_as}
@@ -21,3 +22,6 @@ returns-clause-size g c =
 
 pub returns-clause-after : goal.returns-clause-after
 returns-clause-after g c = graph_as c.args.graph.now c.counted.new.graph _ c.sum.result (sym c.sum.ensures.fault) c.in_ok-of_theirs.ensures.after
+
+pub returns-in_err-of_theirs-clause-size : goal.returns-in_err-of_theirs-clause-size
+returns-in_err-of_theirs-clause-size g c = rw (as_err c.from_residual.ensures.0).1 tt

@@ -1,3 +1,4 @@
+use Rattle.std.below.core.proofs.iter.Serving.{as_err}
 use Rattle.std.proofs.Common.{◌≡◌, Some, sym, ap, ◌∙◌, rules}
 use Rattle.gix_revwalk.specs.History.{parents_in}
 use Rattle.gix_revwalk.specs.Number.{place_in}
@@ -36,3 +37,9 @@ returns-in_err-to_vec-clause-taken g c = more-taken (g.S.Find.history c.args.gra
 
 pub returns-clause-taken : goal.returns-clause-taken
 returns-clause-taken g c = more-taken (g.S.Find.history c.args.graph.now.source) c.args.graph.now c.take.new.graph c.args.id _ c.in_ok-number.ensures.taken
+
+pub returns-in_err-number-clause-parents : goal.returns-in_err-number-clause-parents
+returns-in_err-number-clause-parents g c = rw (as_err c.from_residual.ensures.0).1 tt
+
+pub returns-in_err-to_vec-clause-parents : goal.returns-in_err-to_vec-clause-parents
+returns-in_err-to_vec-clause-parents g c = rw (as_err c.from_residual-in_err-to_vec.ensures.0).1 tt

@@ -20,3 +20,6 @@ loop-id-preserved g c = record {
 
 pub returns-in_err-ids : goal.returns-in_err-ids
 returns-in_err-ids g c = rw (as_err c.from_residual.ensures.0).1 tt
+
+pub offset_bounds-all-id-index : goal.offset_bounds-all-id-index
+offset_bounds-all-id-index g c = record { fits = omega arith }

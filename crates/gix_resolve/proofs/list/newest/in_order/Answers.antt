@@ -1,3 +1,4 @@
+use Rattle.std.below.core.proofs.iter.Serving.{as_err}
 use Rattle.std.proofs.Common.{◌≡◌, ap, subst, sym, ◌∙◌, map}
 use Rattle.std.specs.List.{dedup, filter_map}
 use Rattle.std.specs.List.Sorted.{IsPermutation}
@@ -28,3 +29,15 @@ returns-clause-same g c d =
     ap (λ l. is_one_of l d) kept ∙ one_of-dedup c.in_ok-found.found.items d ∙ ap (λ l. is_one_of l d) is in
     let there = found_same h c.args.ids.now sorted perm d in
     ((λ k. there.0 (sym same ∙ k)), (λ k. same ∙ there.1 k))
+
+pub returns-in_err-all-clause-order : goal.returns-in_err-all-clause-order
+returns-in_err-all-clause-order g c = rw (as_err c.from_residual.ensures.0).1 tt
+
+pub returns-in_err-all-clause-same : goal.returns-in_err-all-clause-same
+returns-in_err-all-clause-same g c = rw (as_err c.from_residual.ensures.0).1 tt
+
+pub returns-in_err-found-clause-order : goal.returns-in_err-found-clause-order
+returns-in_err-found-clause-order g c = rw (as_err c.from_residual-in_err-found.ensures.0).1 tt
+
+pub returns-in_err-found-clause-same : goal.returns-in_err-found-clause-same
+returns-in_err-found-clause-same g c = rw (as_err c.from_residual-in_err-found.ensures.0).1 tt

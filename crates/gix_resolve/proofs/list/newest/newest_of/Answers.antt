@@ -1,3 +1,4 @@
+use Rattle.std.below.core.proofs.iter.Serving.{as_err}
 use Rattle.std.proofs.Common.{◌≡◌, ap, subst, sym, ◌∙◌, map}
 use Rattle.std.specs.List.Sorted.{IsPermutation, IsSorted}
 use Rattle.std.proofs.lemmas.List.Sorted.{IsPermutation-map}
@@ -29,3 +30,15 @@ returns-clause-same g c =
     if-ok c.ids_of.result (λ found. found.items ≡ map id_in c.deref.result.now) (λ found. IsPermutation ids found.items)
     (λ found is. subst (IsPermutation ids) (sym (is ∙ ap (map id_in) c.deref.ensures.value)) moved)
     c.ids_of.ensures
+
+pub returns-in_err-all-clause-order : goal.returns-in_err-all-clause-order
+returns-in_err-all-clause-order g c = rw (as_err c.from_residual.ensures.0).1 tt
+
+pub returns-in_err-all-clause-same : goal.returns-in_err-all-clause-same
+returns-in_err-all-clause-same g c = rw (as_err c.from_residual.ensures.0).1 tt
+
+pub returns-in_err-sort-clause-order : goal.returns-in_err-sort-clause-order
+returns-in_err-sort-clause-order g c = rw (as_err c.from_residual-in_err-sort.ensures.0).1 tt
+
+pub returns-in_err-sort-clause-same : goal.returns-in_err-sort-clause-same
+returns-in_err-sort-clause-same g c = rw (as_err c.from_residual-in_err-sort.ensures.0).1 tt

@@ -1,3 +1,4 @@
+use Rattle.std.below.core.proofs.iter.Serving.{as_err}
 use Rattle.std.proofs.Common.{◌≡◌, Some, ap, refl, ◌∙◌}
 use Rattle.gix_revwalk.specs.Commit.{copied_entry}
 use Rattle.gix_revwalk.specs.Number.{place_in}
@@ -23,3 +24,6 @@ returns-clause-turned g c =
 
 pub returns-clause-taken : goal.returns-clause-taken
 returns-clause-taken g c = more-taken (g.S.Find.history c.args.graph.now.source) c.args.graph.now c.take.new.graph c.args.id _ c.in_ok-number.ensures.taken
+
+pub returns-in_err-number-clause-turned : goal.returns-in_err-number-clause-turned
+returns-in_err-number-clause-turned g c = rw (as_err c.from_residual.ensures.0).1 tt

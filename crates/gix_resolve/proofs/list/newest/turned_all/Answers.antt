@@ -56,3 +56,6 @@ returns-in_err-all-clause-turned g c = rw (as_err c.from_residual.ensures.0).1 t
 
 pub returns-in_err-place-clause-turned : goal.returns-in_err-place-clause-turned
 returns-in_err-place-clause-turned g c = rw (as_err c.from_residual-in_err-place.ensures.0).1 tt
+
+pub offset_bounds-ids-id-index : goal.offset_bounds-ids-id-index
+offset_bounds-ids-id-index g c = record { fits = omega arith }

@@ -1,3 +1,4 @@
+use Rattle.std.below.core.proofs.iter.Serving.{as_err}
 use Rattle.std.proofs.Common.{◌≡◌, ◌-◌, drop, length, rules, take}
 use Rattle.gix_resolve.specs.Reachable.{IsBeyond}
 use Rattle.gix_resolve.proofs.ListWalks.{just_behind}
@@ -13,3 +14,21 @@ returns-clause-beyond g c =
 
 pub returns-clause-numbers : goal.returns-clause-numbers
 returns-clause-numbers g c = c.in_ok-listed.ensures.numbers
+
+pub returns-in_err-listed-clause-beyond : goal.returns-in_err-listed-clause-beyond
+returns-in_err-listed-clause-beyond g c = rw (as_err c.from_residual.ensures.0).1 tt
+
+pub returns-in_err-listed-clause-numbers : goal.returns-in_err-listed-clause-numbers
+returns-in_err-listed-clause-numbers g c = rw (as_err c.from_residual.ensures.0).1 tt
+
+pub returns-in_err-listed-clause-taken : goal.returns-in_err-listed-clause-taken
+returns-in_err-listed-clause-taken g c = c.list_beyond.ensures.taken
+
+pub returns-in_err-to_vec-clause-beyond : goal.returns-in_err-to_vec-clause-beyond
+returns-in_err-to_vec-clause-beyond g c = rw (as_err c.from_residual-in_err-to_vec.ensures.0).1 tt
+
+pub returns-in_err-to_vec-clause-numbers : goal.returns-in_err-to_vec-clause-numbers
+returns-in_err-to_vec-clause-numbers g c = rw (as_err c.from_residual-in_err-to_vec.ensures.0).1 tt
+
+pub returns-clause-taken : goal.returns-clause-taken
+returns-clause-taken g c = c.list_beyond.ensures.taken

@@ -21,3 +21,6 @@ returns-in_err-ids g c = rw (as_err c.from_residual.ensures.0).1 tt
 
 pub returns-in_err-push : goal.returns-in_err-push
 returns-in_err-push g c = rw (as_err c.from_residual-in_err-push.ensures.0).1 tt
+
+pub offset_bounds-numbers-number-index : goal.offset_bounds-numbers-number-index
+offset_bounds-numbers-number-index g c = record { fits = omega arith }

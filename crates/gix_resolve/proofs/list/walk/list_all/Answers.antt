@@ -1,3 +1,5 @@
+use Rattle.std.below.core.proofs.iter.Serving.{as_err}
+use Rattle.std.proofs.Common.{arith}
 use Rattle.std.proofs.Common.{◌∙◌}
 use Rattle.gix_merge_base.specs.PaintQueue.{ids_at}
 use Rattle.gix_resolve.proofs.ListMarks.{in-loop}
@@ -16,3 +18,12 @@ loop-number-preserved g c = record {
   ids = c.in_ok-list.ensures.ids ∙ c.loop-number.invariant.ids;
   source = c.in_ok-list.ensures.source ∙ c.loop-number.invariant.source;
 }
+
+pub offset_bounds-numbers-number-index : goal.offset_bounds-numbers-number-index
+offset_bounds-numbers-number-index g c = record { fits = omega arith }
+
+pub returns-in_err-list-clause-marked : goal.returns-in_err-list-clause-marked
+returns-in_err-list-clause-marked g c = rw (as_err c.from_residual.ensures.0).1 tt
+
+pub returns-in_err-list-clause-added : goal.returns-in_err-list-clause-added
+returns-in_err-list-clause-added g c = rw (as_err c.from_residual.ensures.0).1 tt

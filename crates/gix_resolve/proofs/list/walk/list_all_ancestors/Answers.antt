@@ -1,3 +1,4 @@
+use Rattle.std.below.core.proofs.iter.Serving.{as_err}
 use Rattle.std.proofs.Common.{refl, subst, arith}
 use Rattle.std.proofs.lemmas.List.{take_all}
 use Rattle.gix_merge_base.specs.PaintQueue.{ids_at}
@@ -48,3 +49,18 @@ pub returns-in_err-list_ancestors-clause-taken : goal.returns-in_err-list_ancest
 returns-in_err-list_ancestors-clause-taken g c =
     only_more (g.S.Find.history c.args.graph.now.source) c.args.ids.now (ids_at c.args.graph.now c.args.listed.now.items) (ids_at c.loop-id.graph c.loop-id.listed.items) c.loop-id.id-index _ c.args.graph.now c.loop-id.graph c.list_ancestors.new.graph
     c.loop-id-test.true c.loop-id.invariant.adds c.loop-id.invariant.taken (rw c.loop-id.invariant.after.same_history at c.list_ancestors.ensures.taken)
+
+pub offset_bounds-ids-id-index : goal.offset_bounds-ids-id-index
+offset_bounds-ids-id-index g c = record { fits = omega arith }
+
+pub returns-in_err-list_ancestors-clause-marked : goal.returns-in_err-list_ancestors-clause-marked
+returns-in_err-list_ancestors-clause-marked g c = rw (as_err c.from_residual.ensures.0).1 tt
+
+pub returns-in_err-list_ancestors-clause-closed : goal.returns-in_err-list_ancestors-clause-closed
+returns-in_err-list_ancestors-clause-closed g c = rw (as_err c.from_residual.ensures.0).1 tt
+
+pub returns-in_err-list_ancestors-clause-adds : goal.returns-in_err-list_ancestors-clause-adds
+returns-in_err-list_ancestors-clause-adds g c = rw (as_err c.from_residual.ensures.0).1 tt
+
+pub returns-in_err-list_ancestors-clause-numbers : goal.returns-in_err-list_ancestors-clause-numbers
+returns-in_err-list_ancestors-clause-numbers g c = rw (as_err c.from_residual.ensures.0).1 tt

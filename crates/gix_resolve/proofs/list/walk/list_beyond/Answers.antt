@@ -1,3 +1,4 @@
+use Rattle.std.below.core.proofs.iter.Serving.{as_err}
 use Rattle.std.proofs.Common.{◌≡◌, sym, ap, subst, ◌∙◌, length, drop, arith}
 use Rattle.std.proofs.lemmas.List.{length-map, length-append}
 use Rattle.gix_revwalk.specs.History.{IsAncestorOfOne}
@@ -74,3 +75,21 @@ returns-clause-numbers g c =
     let new = c.list_all_ancestors-2.new.graph in
     numbers-then c.args.graph.now begun new (numbers-held c.args.graph.now begun c.begin_walk.ensures.held)
     (numbers-then begun mid new c.in_ok-list_all_ancestors.ensures.numbers c.in_ok-list_all_ancestors-2.ensures.numbers)
+
+pub returns-in_err-list_all_ancestors-clause-inside : goal.returns-in_err-list_all_ancestors-clause-inside
+returns-in_err-list_all_ancestors-clause-inside g c = rw (as_err c.from_residual.ensures.0).1 tt
+
+pub returns-in_err-list_all_ancestors-clause-beyond : goal.returns-in_err-list_all_ancestors-clause-beyond
+returns-in_err-list_all_ancestors-clause-beyond g c = rw (as_err c.from_residual.ensures.0).1 tt
+
+pub returns-in_err-list_all_ancestors-clause-numbers : goal.returns-in_err-list_all_ancestors-clause-numbers
+returns-in_err-list_all_ancestors-clause-numbers g c = rw (as_err c.from_residual.ensures.0).1 tt
+
+pub returns-in_err-list_all_ancestors-2-clause-inside : goal.returns-in_err-list_all_ancestors-2-clause-inside
+returns-in_err-list_all_ancestors-2-clause-inside g c = rw (as_err c.from_residual-in_err-list_all_ancestors-2.ensures.0).1 tt
+
+pub returns-in_err-list_all_ancestors-2-clause-beyond : goal.returns-in_err-list_all_ancestors-2-clause-beyond
+returns-in_err-list_all_ancestors-2-clause-beyond g c = rw (as_err c.from_residual-in_err-list_all_ancestors-2.ensures.0).1 tt
+
+pub returns-in_err-list_all_ancestors-2-clause-numbers : goal.returns-in_err-list_all_ancestors-2-clause-numbers
+returns-in_err-list_all_ancestors-2-clause-numbers g c = rw (as_err c.from_residual-in_err-list_all_ancestors-2.ensures.0).1 tt

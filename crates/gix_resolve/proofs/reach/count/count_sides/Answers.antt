@@ -34,3 +34,6 @@ loop-number-preserved g c =
       second = counted_next (λ d. is_second_alone (marks_at m d)) m c.args.met.now c.loop-number.number-index _ c.loop-number-test.true c.loop-number.seconds c.count_if-seconds.result c.is_second_alone.result
           (c.is_second_alone.ensures ∙ ap (λ (z : Mark Flags). is_second_alone (marks_of z.marks)) c.mark_of.ensures) c.loop-number.invariant.second c.count_if-seconds.ensures;
     }
+
+pub offset_bounds-met-number-index : goal.offset_bounds-met-number-index
+offset_bounds-met-number-index g c = record { fits = omega arith }

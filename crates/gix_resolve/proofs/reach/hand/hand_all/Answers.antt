@@ -1,3 +1,4 @@
+use Rattle.std.below.core.proofs.iter.Serving.{as_err}
 use Rattle.std.proofs.Common.{◌∙◌, sym, subst, get_or, ◌<◌, arith}
 use Rattle.gix_revwalk.specs.Number.{place_in}
 use Rattle.gix_merge_base.specs.Marks.{marks_of}
@@ -36,3 +37,12 @@ loop-number-preserved g c =
       ids = c.hand.ensures.ids ∙ c.loop-number.invariant.ids;
       source = c.hand.ensures.source ∙ c.loop-number.invariant.source;
     }
+
+pub offset_bounds-numbers-number-index : goal.offset_bounds-numbers-number-index
+offset_bounds-numbers-number-index g c = record { fits = omega arith }
+
+pub returns-in_err-hand-clause-right : goal.returns-in_err-hand-clause-right
+returns-in_err-hand-clause-right g c = rw (as_err c.from_residual.ensures.0).1 tt
+
+pub returns-in_err-hand-clause-handed : goal.returns-in_err-hand-clause-handed
+returns-in_err-hand-clause-handed g c = rw (as_err c.from_residual.ensures.0).1 tt

@@ -1,3 +1,4 @@
+use Rattle.std.below.core.proofs.iter.Serving.{as_err}
 use Rattle.std.proofs.Common.{◌≡◌, ◌∙◌, sym, ap, subst, is_some, IsTrue, rules}
 use Rattle.std.specs.List.{filter}
 use Rattle.std.specs.Option.{unwrap_or}
@@ -101,3 +102,12 @@ returns-in-Err-clause-taken g c =
     let h = g.S.Find.history c.args.graph.now.source in
     holds-after h (parents_in (entry_at h id)) c.args.graph.now c.known_parents.new.graph c.hand_all.new.graph c.hand_all.ensures.ids
     (c.known_parents.ensures.more id (named-id c.args.graph.now (place_in c.args.number) c.requires.number))
+
+pub returns-in_err-known_parents-clause-right : goal.returns-in_err-known_parents-clause-right
+returns-in_err-known_parents-clause-right g c = rw (as_err c.from_residual.ensures.0).1 tt
+
+pub returns-in_err-known_parents-clause-handed : goal.returns-in_err-known_parents-clause-handed
+returns-in_err-known_parents-clause-handed g c = rw (as_err c.from_residual.ensures.0).1 tt
+
+pub returns-in_err-known_parents-clause-sides : goal.returns-in_err-known_parents-clause-sides
+returns-in_err-known_parents-clause-sides g c = rw (as_err c.from_residual.ensures.0).1 tt

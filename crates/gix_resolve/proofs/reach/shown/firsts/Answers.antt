@@ -1,3 +1,4 @@
+use Rattle.std.below.core.proofs.iter.Serving.{as_err}
 use Rattle.std.proofs.Common.{Bool, false, ap, sym, subst, ◌∙◌}
 use Rattle.std.proofs.Math.Path.{fun_ext}
 use Rattle.std.specs.List.{filter}
@@ -20,3 +21,21 @@ returns-clause-listed g c =
     ∙ ap (λ l. filter (λ d. shows false (marks_at new d)) (ids_at new l)) c.deref.ensures.value
     ∙ ap (λ (p : ObjectId → Bool). filter p (ids_at new c.in_ok-walk.walk.met.items)) (fun_ext (λ d. shows_first (marks_at new d)))
     )
+
+pub returns-in_err-walk-clause-inside : goal.returns-in_err-walk-clause-inside
+returns-in_err-walk-clause-inside g c = rw (as_err c.from_residual.ensures.0).1 tt
+
+pub returns-in_err-walk-clause-listed : goal.returns-in_err-walk-clause-listed
+returns-in_err-walk-clause-listed g c = rw (as_err c.from_residual.ensures.0).1 tt
+
+pub returns-in_err-walk-clause-taken : goal.returns-in_err-walk-clause-taken
+returns-in_err-walk-clause-taken g c = c.follow.ensures.taken
+
+pub returns-in_err-shown_of-clause-inside : goal.returns-in_err-shown_of-clause-inside
+returns-in_err-shown_of-clause-inside g c = rw (as_err c.from_residual-in_err-shown_of.ensures.0).1 tt
+
+pub returns-in_err-shown_of-clause-listed : goal.returns-in_err-shown_of-clause-listed
+returns-in_err-shown_of-clause-listed g c = rw (as_err c.from_residual-in_err-shown_of.ensures.0).1 tt
+
+pub returns-clause-taken : goal.returns-clause-taken
+returns-clause-taken g c = c.follow.ensures.taken

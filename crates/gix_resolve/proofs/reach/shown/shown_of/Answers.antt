@@ -34,3 +34,6 @@ returns g c = (c.loop-number.invariant.0, c.loop-number.invariant.1 ∙ ap (filt
 
 pub returns-in_err-push : goal.returns-in_err-push
 returns-in_err-push g c = rw (as_err c.from_residual.ensures.0).1 tt
+
+pub offset_bounds-met-number-index : goal.offset_bounds-met-number-index
+offset_bounds-met-number-index g c = record { fits = omega arith }

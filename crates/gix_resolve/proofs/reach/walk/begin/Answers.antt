@@ -1,3 +1,4 @@
+use Rattle.std.below.core.proofs.iter.Serving.{as_err}
 use Rattle.std.proofs.Common.{◌≡◌, ◌∙◌, sym, ap, subst, is_some, [], ◌∷◌, false, true≢false}
 use Rattle.std.specs.Option.{unwrap_or}
 use Rattle.gix_revwalk.specs.History.{entry_at, Has}
@@ -94,3 +95,12 @@ returns-in-Err-clause-taken g c =
     let h = g.S.Find.history c.args.graph.now.source in
     holds-after h (c.args.id ∷ []) c.args.graph.now c.take.new.graph c.hand.new.graph c.hand.ensures.ids
     (more-taken h c.args.graph.now c.take.new.graph c.args.id _ c.in_ok-number.ensures.taken)
+
+pub returns-in_err-number-clause-right : goal.returns-in_err-number-clause-right
+returns-in_err-number-clause-right g c = rw (as_err c.from_residual.ensures.0).1 tt
+
+pub returns-in_err-number-clause-handed : goal.returns-in_err-number-clause-handed
+returns-in_err-number-clause-handed g c = rw (as_err c.from_residual.ensures.0).1 tt
+
+pub returns-in_err-number-clause-sides : goal.returns-in_err-number-clause-sides
+returns-in_err-number-clause-sides g c = rw (as_err c.from_residual.ensures.0).1 tt

@@ -1,3 +1,4 @@
+use Rattle.std.below.core.proofs.iter.Serving.{as_err}
 use Rattle.std.proofs.Common.{◌∙◌, refl, sym, subst, arith, []}
 use Rattle.std.proofs.lemmas.List.{take_all}
 use Rattle.gix_merge_base.specs.Marks.{marks_of}
@@ -50,3 +51,15 @@ returns-in_err-begin-clause-taken g c =
     let h = g.S.Find.history c.args.graph.now.source in
     more_starts h c.args.ids.now c.loop-id.id-index _ c.args.graph.now c.loop-id.graph c.begin.new.graph c.loop-id-test.true c.loop-id.invariant.taken
     (rw c.loop-id.invariant.after.same_history at c.begin.ensures.taken)
+
+pub offset_bounds-ids-id-index : goal.offset_bounds-ids-id-index
+offset_bounds-ids-id-index g c = record { fits = omega arith }
+
+pub returns-in_err-begin-clause-right : goal.returns-in_err-begin-clause-right
+returns-in_err-begin-clause-right g c = rw (as_err c.from_residual.ensures.0).1 tt
+
+pub returns-in_err-begin-clause-handed : goal.returns-in_err-begin-clause-handed
+returns-in_err-begin-clause-handed g c = rw (as_err c.from_residual.ensures.0).1 tt
+
+pub returns-in_err-begin-clause-sides : goal.returns-in_err-begin-clause-sides
+returns-in_err-begin-clause-sides g c = rw (as_err c.from_residual.ensures.0).1 tt

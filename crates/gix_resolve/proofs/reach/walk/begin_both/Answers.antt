@@ -1,3 +1,4 @@
+use Rattle.std.below.core.proofs.iter.Serving.{as_err}
 use Rattle.std.proofs.Common.{◌∙◌, refl, sym, subst}
 use Rattle.gix_merge_base.specs.PaintQueue.{marks_at, queued_ids}
 use Rattle.gix_resolve.specs.ReachWalk.{IsRight}
@@ -51,3 +52,12 @@ returns-clause-taken g c =
 
 pub returns-clause-after : goal.returns-clause-after
 returns-clause-after g c = after_then c.args.graph.now c.begin_all.new.graph c.begin_all-2.new.graph c.begin_all-2.result c.in_ok-begin_all.ensures.after c.begin_all-2.ensures.after
+
+pub returns-in_err-begin_all-clause-right : goal.returns-in_err-begin_all-clause-right
+returns-in_err-begin_all-clause-right g c = rw (as_err c.from_residual.ensures.0).1 tt
+
+pub returns-in_err-begin_all-clause-walked : goal.returns-in_err-begin_all-clause-walked
+returns-in_err-begin_all-clause-walked g c = rw (as_err c.from_residual.ensures.0).1 tt
+
+pub returns-in_err-begin_all-clause-sides : goal.returns-in_err-begin_all-clause-sides
+returns-in_err-begin_all-clause-sides g c = rw (as_err c.from_residual.ensures.0).1 tt

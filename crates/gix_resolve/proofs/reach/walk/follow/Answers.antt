@@ -1,3 +1,4 @@
+use Rattle.std.below.core.proofs.iter.Serving.{as_err}
 use Rattle.std.proofs.Common.{◌≡◌, ℕ, Ok, refl, sym, ap, subst, ◌∙◌, ◌++◌, ◌∷◌, length, rules}
 use Rattle.std.proofs.Math.Path.{fun_ext}
 use Rattle.std.specs.List.Sorted.{IsPermutation}
@@ -124,3 +125,18 @@ returns-in_err-hand_parents-clause-taken g c =
 
 pub returns-clause-taken : goal.returns-clause-taken
 returns-clause-taken g c = only_then _ c.args.graph.now c.loop-number.graph c.next.new.graph c.loop-number.invariant.taken (only_same _ c.loop-number.graph c.next.new.graph c.next.ensures.ids)
+
+pub returns-in_err-walk-clause-sees : goal.returns-in_err-walk-clause-sees
+returns-in_err-walk-clause-sees g c = rw (as_err c.from_residual.ensures.0).1 tt
+
+pub returns-in_err-walk-clause-met : goal.returns-in_err-walk-clause-met
+returns-in_err-walk-clause-met g c = rw (as_err c.from_residual.ensures.0).1 tt
+
+pub returns-in_err-walk-clause-taken : goal.returns-in_err-walk-clause-taken
+returns-in_err-walk-clause-taken g c = c.start.ensures.taken
+
+pub returns-in_err-hand_parents-clause-sees : goal.returns-in_err-hand_parents-clause-sees
+returns-in_err-hand_parents-clause-sees g c = rw (as_err c.from_residual-in_err-hand_parents.ensures.0).1 tt
+
+pub returns-in_err-hand_parents-clause-met : goal.returns-in_err-hand_parents-clause-met
+returns-in_err-hand_parents-clause-met g c = rw (as_err c.from_residual-in_err-hand_parents.ensures.0).1 tt
