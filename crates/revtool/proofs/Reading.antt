@@ -1,15 +1,15 @@
--- Reads one after the other.
+-- Several reads, one after the other.
 use Rattle.std.proofs.Common.{ℕ, List, [], ◌++◌, Option, Some, None, refl, sym, ap, ◌∙◌}
 use Rattle.std.proofs.lemmas.List.{append_assoc}
 use Rattle.std.specs.Io.KnownBytes.{Consumes}
 use Rattle.revtool.specs.Reads.{TakesMore}
 
--- nothing was taken yet
+-- Before the first read nothing was taken.
 pub TakesMore-none : (a : Option (List ℕ)) → TakesMore a a [] []
 TakesMore-none None = ([], refl, tt)
 TakesMore-none (Some xs) = ([], refl, refl)
 
--- what two reads took, one after the other
+-- If one read takes xs and the next takes ys, then both together take xs and then ys.
 Consumes-then : (a b c : Option (List ℕ)) (xs ys : List ℕ) → Consumes a b xs → Consumes b c ys → Consumes a c (xs ++ ys)
 Consumes-then None b c xs ys h k = tt
 Consumes-then (Some a) None c xs ys h k = absurd h

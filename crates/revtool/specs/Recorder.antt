@@ -1,8 +1,8 @@
--- A delegate that accepts every call.
+-- A delegate that refuses no call.
 use Rattle.std.specs.Prelude.{⊤}
 use Rattle.gix_revision.specs.Answer.{Answer}
 
--- a call is accepted, or there is no memory for it
+-- An answer is not a refusal if the call was accepted, or if there was no memory for it.
 abbrev pub IsNoRefusal : Answer → Type 0
 IsNoRefusal Answer.accepted = ⊤
 IsNoRefusal (Answer.refused e) = ⊥

@@ -1,4 +1,4 @@
-//! The fields of a line, parted by exactly one space, and what each kind of field holds.
+//! Reads the fields of a line, which are separated by exactly one space.
 
 ghost use Rattle.std.specs.Prelude.{◌≡◌, ◌≢◌, ◌↔◌, ◌∷◌, ℕ, IsSome, IfSome, Some, None, codes, slice_index};
 ghost use Rattle.std.specs.Option.{option_copied};
@@ -40,27 +40,27 @@ impl<A: Allocator> From<InsertError<A>> for LineFault {
     }
 }
 
-/// How many digits an id has.
+/// The number of digits of an id.
 pub(crate) const ID_DIGITS: usize = 40;
 
-/// The fields that are left of a line: none once the last was taken, which no space follows.
+/// The fields of a line that were not taken yet. The last field has no space after it.
 #[derive(Clone, Copy)]
 pub(crate) struct Fields<'t> {
     left: Option<&'t [u8]>,
 }
 
 impl<'t> Fields<'t> {
-    /// All fields of a line.
+    /// Makes an iterator over all fields of a line.
     pub(crate) fn of(line: &'t [u8]) -> Fields<'t> {
         Fields { left: Some(line) }
     }
 
-    /// All that is left, as one text; none where nothing follows the last field.
+    /// Returns the rest of the line as one text, or `None` if the last field was taken.
     pub(crate) fn rest(self) -> Option<&'t [u8]> {
         self.left
     }
 
-    /// No field may be left.
+    /// Checks that no field is left.
     pub(crate) fn end(self) -> Result<(), LineFault> {
         match self.left {
             None => Ok(()),
@@ -68,7 +68,7 @@ impl<'t> Fields<'t> {
         }
     }
 
-    /// The next field, which must be there.
+    /// Takes the next field. A missing field is an error.
     pub(crate) fn take_field(&mut self) -> Result<&'t [u8], LineFault> {
         match self.next() {
             Some(field) => Ok(field),
@@ -76,12 +76,12 @@ impl<'t> Fields<'t> {
         }
     }
 
-    /// The next field as an id.
+    /// Takes the next field as an id.
     pub(crate) fn take_id(&mut self) -> Result<ObjectId, LineFault> {
         read_id(self.take_field()?)
     }
 
-    /// How many ids the fields that are left are, where each is one.
+    /// Returns how many fields are left, if each of them is an id.
     fn id_count(&self) -> usize {
         match self.left {
             None => 0,
@@ -89,7 +89,8 @@ impl<'t> Fields<'t> {
         }
     }
 
-    /// All fields that are left as ids; perhaps none. They take no more room than they need.
+    /// Takes all fields that are left as ids; there may be none. The list has no more room than it
+    /// needs.
     pub(crate) fn take_ids<A: Allocator>(self, alloc: A) -> Result<Vec<ObjectId, A>, LineFault> {
         let mut ids = Vec::with_capacity(alloc, self.id_count())?;
         for field in self {
@@ -116,7 +117,8 @@ impl<'t> Iterator for Fields<'t> {
     }
 }
 
-// The first field of a line, and what follows the space after it, where there is one.
+// Splits off the first field of a line. Also returns what follows the space after it, if there is
+// one.
 fn split_field<'t>(line: &'t [u8]) -> (&'t [u8], Option<&'t [u8]>)
     ensures { fields_of line.now ≡ result.0.now ∷ fields_of_rest (option_copied result.1) }
 {
@@ -126,7 +128,7 @@ fn split_field<'t>(line: &'t [u8]) -> (&'t [u8], Option<&'t [u8]>)
     }
 }
 
-/// 40 hex digits, in either case.
+/// Reads an id: 40 hex digits, in upper or lower case.
 pub(crate) fn read_id(field: &[u8]) -> Result<ObjectId, LineFault> {
     match ObjectId::from_hex(field) {
         Ok(id) => Ok(id),
@@ -134,7 +136,7 @@ pub(crate) fn read_id(field: &[u8]) -> Result<ObjectId, LineFault> {
     }
 }
 
-/// A time: an optional minus and digits, of a number that an `i64` holds.
+/// Reads a time: digits after an optional minus sign, of a number that fits into an `i64`.
 pub(crate) fn read_time(field: &[u8]) -> Option<i64>
     ensures some { IsSome result ↔ IsTime field.now }
     ensures value { IfSome result (λ time. time ≡ signed_digits_value 10 field.now) }
@@ -142,7 +144,7 @@ pub(crate) fn read_time(field: &[u8]) -> Option<i64>
     text_of(field)?.parse().ok()
 }
 
-/// A generation: `-` for none, or digits of a number that a `u32` holds.
+/// Reads a generation: `-` for a missing one, or digits of a number that fits into a `u32`.
 pub(crate) fn read_generation(field: &[u8]) -> Option<Option<u32>>
     ensures absent { (result ≡ Some None) ↔ (field.now ≡ codes "-") }
     ensures number { (n : ℕ)
@@ -154,7 +156,7 @@ pub(crate) fn read_generation(field: &[u8]) -> Option<Option<u32>>
     }
 }
 
-/// Digits of a number that a `u32` holds.
+/// Reads the digits of a number that fits into a `u32`.
 pub(crate) fn read_number(field: &[u8]) -> Option<u32>
     ensures some { IsSome result ↔ IsNumber field.now }
     ensures value { IfSome result (λ n. n ≡ digits_value 10 field.now) }
@@ -162,7 +164,7 @@ pub(crate) fn read_number(field: &[u8]) -> Option<u32>
     text_of(field)?.parse().ok()
 }
 
-// The text of a field that does not begin with a plus, which `parse` would take as a sign.
+// Returns the text of a field that does not begin with a plus sign, which `parse` would accept.
 fn text_of(field: &[u8]) -> Option<&str>
     ensures some { IsSome result ↔ (IsUtf8 field.now × (slice_index field.now 0 ≢ 43)) }
     ensures value { IfSome result (λ text. text.now ≡ field.now) }

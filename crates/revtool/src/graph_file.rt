@@ -1,4 +1,4 @@
-//! A commit-graph file, read and opened.
+//! Reads and opens a commit-graph file.
 
 ghost use Rattle.std.specs.Prelude.{◌≡◌, ◌↔◌, [], IsOk, IfOk, IfSome, OnOk};
 ghost use Rattle.gix_revision.specs.FileFormat.{IsCommitGraph};
@@ -9,14 +9,14 @@ use std::alloc::Global;
 use std::fmt;
 use std::io::{self, Read};
 
-/// Why a commit-graph file is not used.
+/// Why a commit-graph file can't be used.
 #[derive(Drop)]
 pub enum FileFault {
-    /// It can't be read.
+    /// Reading the file failed.
     Unreadable(io::Error),
-    /// It is none of the files that are opened.
+    /// The bytes are not a commit-graph file that can be opened.
     Unopened(OpenFault),
-    /// A commit has no level, or a parent no lesser one.
+    /// A commit has no level, or a level that is not greater than those of its parents.
     LevelsDoNotFall,
 }
 
@@ -36,11 +36,16 @@ impl fmt::Display for FileFault {
     }
 }
 
-/// The commits of a file, by its bytes.
+/// Opens the bytes of a commit-graph file as a source of commits.
+///
+/// Succeeds exactly if [`CommitGraph::open`] accepts the bytes, and the levels of the file fall:
+/// each commit has a level, which is greater than those of its parents. The source has the same
+/// bytes.
 ///
 /// # Errors
 ///
-/// Where they are not opened ([`CommitGraph::open`]), or the levels of the commits don't fall.
+/// - [`FileFault::Unopened`]: [`CommitGraph::open`] failed.
+/// - [`FileFault::LevelsDoNotFall`]: the levels of the commits don't fall.
 pub fn open_graph(bytes: Vec<u8>) -> Result<LevelledGraph, FileFault>
     ensures opened { IsOk result ↔ (IsCommitGraph bytes.items × LevelsFall bytes.items) }
     ensures same { IfOk result (λ graph. graph ≡ bytes.items) }
@@ -54,11 +59,14 @@ pub fn open_graph(bytes: Vec<u8>) -> Result<LevelledGraph, FileFault>
     }
 }
 
-/// The commits of a file, which is read to its end. `size` is how many bytes it is expected to have.
+/// Reads a commit-graph file to its end, and opens it as a source of commits.
+///
+/// `size` is the expected number of bytes; the file may have more or fewer.
 ///
 /// # Errors
 ///
-/// Where it can't be read, or there is no memory for it; those of [`open_graph`].
+/// - [`FileFault::Unreadable`]: reading failed, or there was no memory for the bytes.
+/// - The errors of [`open_graph`].
 pub fn read_graph<R: Read>(
     alloc: Global,
     size: usize,
@@ -71,7 +79,8 @@ pub fn read_graph<R: Read>(
     open_graph(bytes)
 }
 
-// Reads to the end. There is room for one byte more, so that the end is met without more memory.
+// Reads a file to its end. Reserves one byte more than `size`, so that meeting the end allocates
+// nothing.
 fn read_whole<R: Read>(size: usize, file: &mut R, bytes: &mut Vec<u8>) -> io::Result<()>
     requires { bytes.old.items ≡ [] }
     ensures { OnOk result (IfSome (R.remaining file.old) (λ xs. bytes.new.items ≡ xs)) }

@@ -1,4 +1,4 @@
-//! The whole of an input, by a bounded number of reads.
+//! Reads a whole input with a bounded number of reads.
 
 ghost use Rattle.std.specs.Prelude.{◌≡◌, ◌<◌, [], length, OnOk, IfOk, IsTrue, vec_len};
 ghost use Rattle.std.specs.Io.KnownBytes.{IsAtEnd};
@@ -8,13 +8,13 @@ use crate::stop::Stop;
 use std::alloc::{AllocError, Allocator};
 use std::io::{ErrorKind, Read};
 
-/// How many reads are made at most.
+/// The greatest number of reads.
 const READS: u32 = 16_777_216;
 
-/// How many bytes a read is for at most.
+/// The greatest number of bytes that one read asks for.
 const READ_SIZE: usize = 65_536;
 
-/// All bytes of the input, which has to end within `READS` reads of up to `READ_SIZE` bytes.
+/// Reads all bytes of the input, which must end within `READS` reads of up to `READ_SIZE` bytes.
 pub(crate) fn read_all<R: Read, A: Allocator + Copy>(
     alloc: A,
     input: &mut R,
@@ -32,14 +32,15 @@ pub(crate) fn read_all<R: Read, A: Allocator + Copy>(
     Err(Stop::UnreadableInput)
 }
 
-// Room for one read.
+// Allocates a buffer for one read.
 fn make_room<A: Allocator>(alloc: A) -> Result<Vec<u8, A>, AllocError>
     ensures { IfOk result (λ v. vec_len v ≡ 65536) }
 {
     vec![in alloc; 0u8; READ_SIZE]
 }
 
-// One more read, and whether it was at the end. A read that a signal ended counts, and gives nothing.
+// Reads once, and tells whether the input has ended. A read that a signal interrupted counts, and
+// adds nothing.
 fn read_once<R: Read, A: Allocator>(
     input: &mut R,
     room: &mut [u8],

@@ -1,8 +1,8 @@
-//! Lines about commits in, one line for each answer out.
+//! Answers lines about commits: reads them from an input, and writes one line for each question.
 //!
-//! [`run`] reads the whole of its input (`input`), reads its lines (`lines`, `fields`, `manner`) into commits
-//! and commands (`session`), and answers the commands in order (`answers`). [`run_over`] has a
-//! commit-graph file beside the lines (`commits`), which [`read_graph`] reads.
+//! [`run`] reads its whole input (`input`). It reads the lines (`lines`, `fields`, `manner`) into
+//! commits and commands (`session`), and answers the commands in order (`answers`). [`run_over`]
+//! also takes the commits of a commit-graph file (`commits`), which [`read_graph`] reads.
 #![tactic(auto)]
 
 ghost use Rattle.std.specs.Prelude.{◌≡◌, ◌≢◌, ◌≤◌, ◌⊎◌, OnOk, IfErr};
@@ -28,15 +28,22 @@ use std::alloc::{Allocator, Global};
 use std::io::{Read, Write};
 use stop::Stop;
 
-/// Reads `input` to its end, answers its commands on `output`, and gives the exit status.
+/// Reads `input` to its end, writes the answers to `output`, and returns the exit status.
 ///
-/// The status is 0 where no command was refused, and 1 where one was. Where the commands were not
-/// answered, a line on `faults` says why: `cannot read standard input` (status 2), `line N is
-/// unreadable` (2), or `out of memory` (1); nothing was written to `output` then. Where `output`
-/// can't be written the status is 2, and nothing more is written to either. A failed write to
-/// `faults` changes no status.
+/// All memory comes from `alloc`. `refusals` is where a delegate's refusal would be built; refusals
+/// take no memory.
 ///
-/// All memory comes from `alloc`. `refusals` is where a delegate's refusal would live, which takes none.
+/// # Status
+///
+/// - 0: all commands were answered.
+/// - 1: a command was refused.
+/// - 1: there was no memory before the first answer. `faults` gets the line `out of memory`, and
+///   `output` gets nothing.
+/// - 2: the input can't be read, or a line of it. `faults` gets the line `cannot read standard
+///   input` or `line N is unreadable`, and `output` gets nothing.
+/// - 2: `output` can't be written. Nothing more is written to it, and nothing to `faults`.
+///
+/// A failed write to `faults` does not change the status.
 pub fn run<R: Read, W: Write, E: Write, A: Allocator + Copy>(
     alloc: A,
     refusals: Global,
@@ -54,8 +61,9 @@ pub fn run<R: Read, W: Write, E: Write, A: Allocator + Copy>(
     run_over(alloc, refusals, None, input, output, faults)
 }
 
-/// The same over the commits of a file too, where one is given. A `commit` line of one that the file
-/// has is unreadable.
+/// Answers like [`run`]; the history also has the commits of `file`, if there is one.
+///
+/// A `commit` line for a commit that the file has is unreadable.
 pub fn run_over<R: Read, W: Write, E: Write, A: Allocator + Copy>(
     alloc: A,
     refusals: Global,
@@ -81,7 +89,7 @@ pub fn run_over<R: Read, W: Write, E: Write, A: Allocator + Copy>(
     }
 }
 
-// The answers to all commands of the input.
+// Answers all commands of the input.
 fn answer_input<R: Read, W: Write, A: Allocator + Copy>(
     alloc: A,
     refusals: Global,

@@ -1,31 +1,31 @@
-//! The options of a `describe-as` line.
+//! Reads the options of a `describe-as` line.
 
 use crate::fields::{Fields, ID_DIGITS, LineFault, read_id, read_number};
 use gix_revision::hash::ObjectId;
 
-/// How many digits of an id are printed, unless it is said.
+/// The number of printed digits without the option `abbrev`.
 const DIGITS: usize = 7;
 
-/// How many names are weighed, unless it is said.
+/// The number of weighed names without the option `candidates`.
 const CANDIDATES: usize = 10;
 
-/// How a commit is described: git-describe, "Options".
+/// How to describe a commit (git-describe, "Options").
 #[derive(Clone, Copy)]
 pub(crate) struct Manner {
-    /// Whether the depth and the digits are printed beside the commit's own name, too.
+    /// Whether to print the depth and the digits also after the commit's own name.
     pub(crate) long: bool,
-    /// Whether the digits alone are an answer where there is no name.
+    /// Whether the digits alone are the answer if there is no name.
     pub(crate) always: bool,
-    /// Whether the first parent of each commit is followed alone.
+    /// Whether to follow only first parents.
     pub(crate) first_parent: bool,
-    /// How many digits are printed; with 0 a name stands alone.
+    /// How many digits to print; with 0 the name alone is printed.
     abbrev: Option<usize>,
-    /// How many names are weighed; with 0 the commit's own one alone.
+    /// How many names to weigh; with 0 only the commit's own name counts.
     candidates: Option<usize>,
 }
 
 impl Manner {
-    /// Without options.
+    /// Returns the options of a line without any.
     pub(crate) fn plain() -> Manner {
         Manner {
             long: false,
@@ -36,17 +36,17 @@ impl Manner {
         }
     }
 
-    /// How many names are weighed.
+    /// Returns how many names to weigh.
     pub(crate) fn candidates(&self) -> usize {
         self.candidates.unwrap_or(CANDIDATES)
     }
 
-    /// How many digits are printed; 0 where a name stands alone.
+    /// Returns how many digits to print; 0 means the name alone.
     pub(crate) fn digits(&self) -> usize {
         self.abbrev.unwrap_or(DIGITS)
     }
 
-    /// How many digits are printed where there is no name: all where none are asked for.
+    /// Returns how many digits to print if there is no name: all 40 if none were asked for.
     pub(crate) fn digits_alone(&self) -> usize {
         match self.digits() {
             0 => ID_DIGITS,
@@ -54,12 +54,13 @@ impl Manner {
         }
     }
 
-    /// Whether the digits alone are an answer. As in git they are none to whom the commit's own name alone would do.
+    /// Tests whether the digits alone are an answer. As in git, they are not if only the commit's
+    /// own name counts.
     pub(crate) fn is_always(&self) -> bool {
         self.always && self.candidates() != 0
     }
 
-    // One more option, which was not given before.
+    // Adds an option. An option that was given before is an error.
     fn add(&mut self, option: &[u8]) -> Result<(), LineFault> {
         if option == b"long".as_slice() {
             return set_once(&mut self.long);
@@ -73,7 +74,7 @@ impl Manner {
         self.add_number(option)
     }
 
-    // One more option with a number.
+    // Adds an option with a number.
     fn add_number(&mut self, option: &[u8]) -> Result<(), LineFault> {
         if let Some(digits) = option.strip_prefix(b"abbrev=") {
             return put_once(&mut self.abbrev, digits, ID_DIGITS);
@@ -85,7 +86,7 @@ impl Manner {
     }
 }
 
-// Sets what was not set.
+// Sets an option that was not set before.
 fn set_once(option: &mut bool) -> Result<(), LineFault> {
     if *option {
         return Err(LineFault::Unreadable);
@@ -94,7 +95,7 @@ fn set_once(option: &mut bool) -> Result<(), LineFault> {
     Ok(())
 }
 
-// Puts a number, at most the greatest one, where none was.
+// Stores a number, at most `greatest`, if there was none before.
 fn put_once(option: &mut Option<usize>, digits: &[u8], greatest: usize) -> Result<(), LineFault> {
     let Some(number) = read_number(digits) else {
         return Err(LineFault::Unreadable);
@@ -107,7 +108,8 @@ fn put_once(option: &mut Option<usize>, digits: &[u8], greatest: usize) -> Resul
     Ok(())
 }
 
-/// `OPTION.. ID`: each option at most once, and as in git not both `long` and no digits.
+/// Reads `OPTION.. ID`. Each option occurs at most once and, as in git, `long` is not combined with
+/// `abbrev=0`.
 pub(crate) fn read_manner(fields: Fields<'_>) -> Result<(Manner, ObjectId), LineFault> {
     let mut manner = Manner::plain();
     let mut commit = None;

@@ -1,4 +1,4 @@
-//! A delegate that accepts every call, and writes each down as it is printed.
+//! A delegate that accepts every call and writes it down, for `parse` lines.
 
 ghost use Rattle.gix_revision.specs.Answer.{answer_of};
 ghost use Rattle.revtool.specs.Recorder.{IsNoRefusal};
@@ -13,11 +13,11 @@ use gix_revision::{object, spec};
 use std::alloc::{Allocator, Global};
 use std::io::{self, Write};
 
-/// The calls of a parse so far, parted by a semicolon and a space.
+/// Records the calls of a parse, separated by a semicolon and a space.
 #[derive(Drop)]
 pub struct Recorder<A: Allocator> {
     calls: Vec<u8, A>,
-    // Where a refusal would stand. The one for want of memory takes none.
+    // Where a refusal would be built. The one for no memory takes none.
     refusals: Global,
 }
 
@@ -38,7 +38,7 @@ enum Call<'a> {
 }
 
 impl<A: Allocator> Recorder<A> {
-    /// No call was heard yet.
+    /// Makes a recorder without calls.
     pub fn new(alloc: A, refusals: Global) -> Recorder<A> {
         Recorder {
             calls: Vec::new(alloc),
@@ -46,12 +46,12 @@ impl<A: Allocator> Recorder<A> {
         }
     }
 
-    /// The calls, parted by a semicolon and a space.
+    /// Returns the calls, separated by a semicolon and a space.
     pub fn calls(&self) -> &[u8] {
         &self.calls
     }
 
-    // One more call. One that memory is wanting for leaves no part of itself.
+    // Adds a call. If there is no memory for it, no part of it is kept.
     fn hear(&mut self, call: Call<'_>) -> Result<(), Exn>
         ensures { IsNoRefusal (answer_of result) }
     {
@@ -133,7 +133,7 @@ impl<A: Allocator> Delegate for Recorder<A> {
     }
 }
 
-// A call as it is printed: texts as their bytes.
+// Writes a call. Texts are written as their bytes.
 fn print_call<W: Write>(call: Call<'_>, to: &mut W) -> io::Result<()> {
     match call {
         Call::FindRef(name) => print_text("find_ref(", name, to),
@@ -171,7 +171,7 @@ fn print_index<W: Write>(path: &[u8], stage: u8, to: &mut W) -> io::Result<()> {
     print_text("", path, to)
 }
 
-// What comes before a text, the text, and a closing bracket.
+// Writes what comes before a text, the text, and a closing bracket.
 fn print_text<W: Write>(before: &str, text: &[u8], to: &mut W) -> io::Result<()> {
     to.write_all(before.as_bytes())?;
     to.write_all(text)?;

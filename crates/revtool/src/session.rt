@@ -1,5 +1,4 @@
-//! All lines of a text, read: the source that its commits make, their names and ids, its references, and the
-//! commands in order.
+//! Reads all lines of a text: commits, names, refs, and commands in order.
 
 use crate::commits::Commits;
 use crate::fields::LineFault;
@@ -13,24 +12,24 @@ use std::alloc::{AllocError, Allocator};
 use std::borrow::CowSlice;
 use std::collections::{BTreeMap, BTreeSet};
 
-/// The id of each reference.
+/// The id of each ref.
 pub(crate) type Names<A> = BTreeMap<Vec<u8, A>, ObjectId, A>;
 
-/// What the lines of a text say together.
+/// All that the lines of a text say.
 #[derive(Drop)]
 pub(crate) struct Session<'t, A: Allocator> {
     pub(crate) source: Commits<A>,
-    /// What each `describe` and `describe-as` line is answered by: all names of the text.
+    /// The options of `describe` lines, with all names of the text.
     pub(crate) options: Options<'t, A>,
-    /// What lines with a text to be resolved are answered by: all references.
+    /// The refs, for lines with a revision to resolve.
     pub(crate) names: Names<A>,
-    /// And where there is such a line, the ids of all commits of the text.
+    /// The ids of all commits of the text; empty if no line has a revision to resolve.
     pub(crate) ids: BTreeSet<ObjectId, A>,
     pub(crate) commands: Vec<Command<'t, A>, A>,
 }
 
 impl<'t, A: Allocator + Copy> Session<'t, A> {
-    // What no line says.
+    // Makes the session of a text without lines.
     fn new(alloc: A, file: Option<LevelledGraph>) -> Session<'t, A> {
         Session {
             source: Commits::new(alloc, file),
@@ -42,8 +41,10 @@ impl<'t, A: Allocator + Copy> Session<'t, A> {
     }
 }
 
-/// Reads each line. The first that is unreadable, or repeats an id or a reference, is named by its
-/// number.
+/// Reads each line of a text.
+///
+/// The error has the number of the first unreadable line. A line that repeats an id or a ref is
+/// unreadable, too.
 pub(crate) fn read_lines<'t, A: Allocator + Copy>(
     alloc: A,
     file: Option<LevelledGraph>,
@@ -51,14 +52,14 @@ pub(crate) fn read_lines<'t, A: Allocator + Copy>(
 ) -> Result<Session<'t, A>, Stop> {
     let mut session = Session::new(alloc, file);
     add_lines(alloc, text, &mut session)?;
-    // No other command asks which ids there are, and a set of them is large.
+    // Other commands do not need the set of ids, which is large.
     if session.commands.iter().any(|command| command.is_resolved()) {
         add_ids(text, &mut session.ids)?;
     }
     Ok(session)
 }
 
-// All lines of a text, but for the ids of its commits.
+// Adds all lines of a text, but not the ids of its commits.
 fn add_lines<'t, A: Allocator + Copy>(
     alloc: A,
     text: &'t [u8],
@@ -79,7 +80,7 @@ fn add_lines<'t, A: Allocator + Copy>(
     Ok(())
 }
 
-// The ids of all commits of a text. Each line of it was read before.
+// Adds the ids of all commits of a text, whose lines were read before.
 fn add_ids<A: Allocator + Copy>(
     text: &[u8],
     ids: &mut BTreeSet<ObjectId, A>,
@@ -92,8 +93,8 @@ fn add_ids<A: Allocator + Copy>(
     Ok(())
 }
 
-// One more line. A commit, or a name, whose id was there before is refused, and so is a reference
-// that was there before.
+// Adds a line. A second commit or name for one id is unreadable, and so is a second ref of one
+// name.
 fn add_line<'t, A: Allocator + Copy>(
     alloc: A,
     line: &'t [u8],
@@ -108,7 +109,7 @@ fn add_line<'t, A: Allocator + Copy>(
     Ok(())
 }
 
-// One more reference.
+// Adds a ref.
 fn add_ref<A: Allocator + Copy>(
     alloc: A,
     id: ObjectId,
@@ -122,7 +123,7 @@ fn add_ref<A: Allocator + Copy>(
     Ok(())
 }
 
-// One more name.
+// Adds a name.
 fn add_name<'t, A: Allocator + Copy>(
     id: ObjectId,
     name: &'t [u8],

@@ -6,14 +6,14 @@ ghost use Rattle.std.specs.Io.KnownBytes.{Keeps};
 use std::alloc::{AllocError, AllocFailed};
 use std::io::Write;
 
-/// What ended the program before its last answer.
+/// The reason why the program ended before its last answer.
 #[derive(Clone, Copy)]
 pub(crate) enum Stop {
-    /// The input could not be read, or had not ended after the last read that is made.
+    /// Reading the input failed, or it had not ended after the greatest number of reads.
     UnreadableInput,
-    /// The first unreadable line, counted from 1.
+    /// The number of the first unreadable line, counted from 1.
     UnreadableLine(usize),
-    /// The output could not be written.
+    /// Writing the output failed.
     UnwritableOutput,
     OutOfMemory,
 }
@@ -31,7 +31,7 @@ impl<T: Drop> From<AllocFailed<T>> for Stop {
 }
 
 impl Stop {
-    /// The exit status.
+    /// Returns the exit status.
     pub(crate) fn status(self) -> u8
         ensures least { 0 < result }
         ensures most { result ≤ 2 }
@@ -42,7 +42,7 @@ impl Stop {
         }
     }
 
-    /// Writes a line that says why; none where the output failed. A failed write is let go.
+    /// Writes a line that says why, except if the output failed. A failed write is ignored.
     pub(crate) fn report<E: Write>(self, faults: &mut E)
         ensures { self ≡ Stop.UnwritableOutput
             → Keeps (E.contents faults.old) (E.contents faults.new) }

@@ -1,4 +1,4 @@
-//! The answers to `base`, `octopus`, `octopus-all`, `independent` and `ancestor` lines, on one reused graph.
+//! Answers `base`, `octopus`, `octopus-all`, `independent` and `ancestor` lines, all on one graph.
 
 use crate::answers::Outcome;
 use crate::lines::Heads;
@@ -11,10 +11,10 @@ use gix_revision::merge_base::{
 use std::alloc::Allocator;
 use std::io::{self, Write};
 
-/// The graph of all lines but those of `describe` and `describe-as`, over their commits.
+/// The graph for all lines except `describe` and `describe-as`.
 pub(super) type BaseGraph<S, A> = Graph<S, Commit<Flags, A>, A>;
 
-/// `base` and the ids in rising order, or `base none`.
+/// Writes `base` and the merge bases by rising id, or `base none`.
 pub(super) fn answer_base<S: Find, W: Write, A: Allocator + Copy>(
     alloc: A,
     heads: &Heads<A>,
@@ -27,7 +27,7 @@ pub(super) fn answer_base<S: Find, W: Write, A: Allocator + Copy>(
     }
 }
 
-/// `octopus` and the id, or `octopus none`.
+/// Writes `octopus` and the octopus base, or `octopus none`.
 pub(super) fn answer_octopus<S: Find, W: Write, A: Allocator + Copy>(
     alloc: A,
     heads: &Heads<A>,
@@ -42,7 +42,7 @@ pub(super) fn answer_octopus<S: Find, W: Write, A: Allocator + Copy>(
     Ok(Outcome::Answered)
 }
 
-/// `octopus-all` and the ids in rising order, or `octopus-all none`.
+/// Writes `octopus-all` and the octopus bases by rising id, or `octopus-all none`.
 pub(super) fn answer_octopus_all<S: Find, W: Write, A: Allocator + Copy>(
     alloc: A,
     heads: &Heads<A>,
@@ -55,7 +55,7 @@ pub(super) fn answer_octopus_all<S: Find, W: Write, A: Allocator + Copy>(
     }
 }
 
-/// `independent` and the ids that no other of them reaches, in rising order.
+/// Writes `independent` and the ids that no other of them reaches, by rising id.
 pub(super) fn answer_independent<S: Find, W: Write, A: Allocator + Copy>(
     alloc: A,
     ids: &[ObjectId],
@@ -68,7 +68,7 @@ pub(super) fn answer_independent<S: Find, W: Write, A: Allocator + Copy>(
     }
 }
 
-/// `ancestor yes` or `ancestor no`.
+/// Writes `ancestor yes` or `ancestor no`.
 pub(super) fn answer_ancestor<S: Find, W: Write, A: Allocator + Copy>(
     alloc: A,
     ancestor: ObjectId,
@@ -84,7 +84,7 @@ pub(super) fn answer_ancestor<S: Find, W: Write, A: Allocator + Copy>(
     Ok(Outcome::Answered)
 }
 
-// The word and the ids in rising order.
+// Writes the word and the ids by rising id.
 fn print_sorted<W: Write, A: Allocator>(
     word: &str,
     mut ids: Vec<ObjectId, A>,
@@ -94,7 +94,7 @@ fn print_sorted<W: Write, A: Allocator>(
     print_list(word, &ids, output)
 }
 
-/// The word and each id, or `none`.
+/// Writes the word and each id, or `none` if there are no ids.
 pub(super) fn print_list<W: Write>(
     word: &str,
     ids: &[ObjectId],
@@ -128,7 +128,7 @@ fn print_bases<W: Write, A: Allocator>(
     Ok(Outcome::Answered)
 }
 
-// Each id after one space.
+// Writes a space before each id.
 fn print_ids<W: Write>(ids: &[ObjectId], output: &mut W) -> io::Result<()> {
     for id in ids {
         write!(output, " {id}")?;
@@ -136,7 +136,7 @@ fn print_ids<W: Write>(ids: &[ObjectId], output: &mut W) -> io::Result<()> {
     Ok(())
 }
 
-// The word and the number of the refusal.
+// Writes the word and the number of the error.
 fn print_refusal<W: Write>(
     word: &str,
     error: merge_base::Error,

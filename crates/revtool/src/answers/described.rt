@@ -1,4 +1,4 @@
-//! The answers to `describe` and `describe-as` lines, on a graph of their own.
+//! Answers `describe` and `describe-as` lines, on a graph of their own.
 
 use crate::answers::Outcome;
 use crate::commits::Commits;
@@ -11,16 +11,17 @@ use std::alloc::{AllocError, Allocator};
 use std::io::{self, Write};
 use std::mem;
 
-/// What these lines are answered by: a graph of their own, and the names of the text.
+/// The graph of these lines, and the names of the text.
 #[derive(Drop)]
 pub(super) struct Descriptions<'s, 't, A: Allocator> {
     graph: Graph<&'s Commits<A>, describe::Flags, A>,
-    // The copied names that the last answer handed back; `None` before the first line and after a refusal.
+    // The copy of the names that the last answer returned; `None` before the first line and after
+    // an error.
     names: Option<Names<'t, A>>,
 }
 
 impl<'s, 't, A: Allocator + Copy> Descriptions<'s, 't, A> {
-    /// An empty graph over a source. It takes no memory yet.
+    /// Makes an empty graph over a source. Nothing is allocated yet.
     pub(super) fn new(alloc: A, source: &'s Commits<A>) -> Self {
         Descriptions {
             graph: Graph::new(alloc, source),
@@ -28,8 +29,9 @@ impl<'s, 't, A: Allocator + Copy> Descriptions<'s, 't, A> {
         }
     }
 
-    // The options with a copy of their names, which is made where none was handed back. They ask for an answer
-    // without a name too, since each answer hands the names back.
+    // Returns the options with a copy of their names, which is made if the last call returned none.
+    // `fallback_to_oid` is set, so that a commit without a name has an outcome, too: an outcome
+    // hands the names back.
     fn take_options(
         &mut self,
         manner: Manner,
@@ -47,8 +49,9 @@ impl<'s, 't, A: Allocator + Copy> Descriptions<'s, 't, A> {
         })
     }
 
-    // Whether a walk from a commit would be refused since the source lacks it: a commit without a name is walked from
-    // where there is a name, and one may be weighed. Such a refusal would keep the names that it was handed.
+    // Tests whether a walk from `commit` would fail because the source does not have it. A walk
+    // starts only if the commit has no name, there are other names, and at least one may be
+    // weighed. The failure would keep the names that it was given.
     fn is_missing(
         &self,
         alloc: A,
@@ -62,7 +65,7 @@ impl<'s, 't, A: Allocator + Copy> Descriptions<'s, 't, A> {
         Ok(found.is_none() && is_walked && manner.candidates() != 0)
     }
 
-    // The outcome without its names, which are kept for the next line.
+    // Describes a commit. Keeps the names of the outcome for the next line.
     fn describe(
         &mut self,
         alloc: A,
@@ -83,7 +86,7 @@ impl<'s, 't, A: Allocator + Copy> Descriptions<'s, 't, A> {
     }
 }
 
-/// The word and the commit's name, depth and digits, or `none`.
+/// Writes the word and the name, depth and digits of the commit, or `none`.
 pub(super) fn answer_describe<'t, W: Write, A: Allocator + Copy>(
     alloc: A,
     word: &str,
@@ -100,7 +103,7 @@ pub(super) fn answer_describe<'t, W: Write, A: Allocator + Copy>(
     }
 }
 
-// The name as it is asked for; the digits where they are an answer, too.
+// Writes the name in the chosen format, or the digits if they are an answer, too.
 fn print_outcome<W: Write, A: Allocator>(
     word: &str,
     outcome: describe::Outcome<'_, A>,
@@ -123,7 +126,7 @@ fn print_none<W: Write>(word: &str, output: &mut W) -> io::Result<Outcome> {
     Ok(Outcome::Answered)
 }
 
-// The name as its bytes, alone where no digits are asked for.
+// Writes the name alone, as its bytes, if no digits are to be printed.
 fn print_named<W: Write, A: Allocator>(
     word: &str,
     format: &Format<'_, A>,
@@ -138,7 +141,7 @@ fn print_named<W: Write, A: Allocator>(
     Ok(Outcome::Answered)
 }
 
-// The number of the refusal.
+// Writes the word and the number of the error.
 fn print_refusal<W: Write>(word: &str, message: Message, output: &mut W) -> io::Result<Outcome> {
     let number = match message {
         Message::ParentsOf(_) => 1,

@@ -1,4 +1,4 @@
-//! The answers to `parse` lines: the calls that a revision text makes.
+//! Answers `parse` lines: the calls that a revision makes of its delegate.
 
 use crate::answers::Outcome;
 use crate::recorder::Recorder;
@@ -7,13 +7,13 @@ use gix_revision::spec::parse::{Error, parse};
 use std::alloc::{Allocator, Global};
 use std::io::{self, Write};
 
-/// When a text is read: at the epoch, in UTC.
+/// The moment from which relative dates count: the epoch, in UTC.
 pub(super) const NOW: Time = Time {
     seconds: 0,
     offset: 0,
 };
 
-/// `parse` and the calls, parted by a semicolon and a space; a refusal stands last.
+/// Writes `parse` and the calls, separated by a semicolon and a space. A fault comes last.
 pub(super) fn answer_parse<W: Write, A: Allocator + Copy>(
     alloc: A,
     refusals: Global,
@@ -28,7 +28,7 @@ pub(super) fn answer_parse<W: Write, A: Allocator + Copy>(
     print_parsed(recorder.calls(), refusal, output)
 }
 
-// The calls, and the number of the refusal that they ended in.
+// Writes the calls, and the number of the fault that ended them.
 fn print_parsed<W: Write>(
     calls: &[u8],
     refusal: Option<u8>,
@@ -45,7 +45,7 @@ fn print_parsed<W: Write>(
     Ok(Outcome::Refused)
 }
 
-/// The number of a refusal, 0 for want of memory.
+/// Returns the number of the fault, or 0 if there was no memory.
 pub(super) fn number_of(error: Error<'_>) -> u8 {
     match error {
         Error::OutOfMemory => 0,

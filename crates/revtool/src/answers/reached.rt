@@ -1,4 +1,4 @@
-//! The answers to `ahead-behind`, `reachable` and `reachable-count` lines.
+//! Answers `ahead-behind`, `reachable` and `reachable-count` lines.
 
 use crate::answers::Outcome;
 use crate::answers::bases::{BaseGraph, print_list};
@@ -9,7 +9,7 @@ use gix_revision::hash::ObjectId;
 use std::alloc::Allocator;
 use std::io::{self, Write};
 
-/// `ahead-behind`, how many commits the first alone reaches, and how many the second alone.
+/// Writes `ahead-behind`, how many commits only `ours` reaches, and how many only `theirs` reaches.
 pub(super) fn answer_ahead_behind<S: Find, W: Write, A: Allocator + Copy>(
     alloc: A,
     ours: ObjectId,
@@ -24,7 +24,8 @@ pub(super) fn answer_ahead_behind<S: Find, W: Write, A: Allocator + Copy>(
     Ok(Outcome::Answered)
 }
 
-/// `reachable` and what is reached from the shown commits alone, the newest first, or `reachable none`.
+/// Writes `reachable` and the commits that a shown one reaches and no hidden one does, the newest
+/// first; or `reachable none`.
 pub(super) fn answer_reachable<S: Find, W: Write, A: Allocator + Copy>(
     alloc: A,
     sides: &Sides<A>,
@@ -37,7 +38,7 @@ pub(super) fn answer_reachable<S: Find, W: Write, A: Allocator + Copy>(
     }
 }
 
-/// `reachable-count` and how many commits are reached from the shown ones alone.
+/// Writes `reachable-count` and how many commits a shown one reaches and no hidden one does.
 pub(super) fn answer_reachable_count<S: Find, W: Write, A: Allocator + Copy>(
     alloc: A,
     sides: &Sides<A>,
@@ -51,7 +52,7 @@ pub(super) fn answer_reachable_count<S: Find, W: Write, A: Allocator + Copy>(
     Ok(Outcome::Answered)
 }
 
-/// The number of the refusal of a list.
+/// Writes the word and the number of the error of a list.
 pub(super) fn print_refusal<W: Write>(
     word: &str,
     error: ListError,
