@@ -1,4 +1,5 @@
-//! A small file that git wrote, read back, and spoiled at each of its bytes; and one without commits.
+//! Opens a small file that git wrote, and spoils it at each of its bytes; also a file without
+//! commits.
 
 use fixtures::graph_files::{empty_file, file};
 use fixtures::histories::Row;
@@ -18,7 +19,8 @@ static COMMITS: [Row<'static>; 5] = [
     Row(4, 0x1_0000_0005, Some(4), &[2, 0, 3]),
 ];
 
-/// A place in the file, the byte that stands there in place of its own, and why the file is refused then.
+/// A place in the file, the byte that replaces its own, and the fault for which the file is then
+/// refused.
 struct Spoiled(usize, u8, OpenFault);
 
 /// Two chunks of the file, by their places in the table of contents, whose ids are swapped.
@@ -65,7 +67,7 @@ static SPOILED: [Spoiled; 20] = [
 
 type File<'b> = CommitGraph<&'b [u8]>;
 
-/// Whether these are the ids at some positions of the file, in order.
+/// Tests whether these are the ids at some positions of the file, in order.
 fn are_at(graph: &File<'_>, ids: &[ObjectId], positions: &[u8]) -> bool {
     for (id, position) in ids.iter().zip(positions) {
         if graph.id(*position as usize) != Some(*id) {
@@ -75,7 +77,7 @@ fn are_at(graph: &File<'_>, ids: &[ObjectId], positions: &[u8]) -> bool {
     ids.len() == positions.len()
 }
 
-/// Whether the commit of a row is found under its id.
+/// Tests whether the commit of a row is found under its id.
 fn finds(alloc: Global, graph: &File<'_>, row: &Row<'_>) -> bool {
     let Some(id) = graph.id(row.0 as usize) else {
         return false;
@@ -90,12 +92,12 @@ fn finds(alloc: Global, graph: &File<'_>, row: &Row<'_>) -> bool {
     }
 }
 
-/// Whether there is no commit under the id that repeats a byte.
+/// Tests whether the file has no commit under the id that repeats a byte.
 fn lacks(alloc: Global, graph: &File<'_>, byte: u8) -> bool {
     matches!(graph.get(alloc, ObjectId([byte; 20])), Ok(None))
 }
 
-/// Whether each commit of the file is found, and no other.
+/// Tests whether each commit of the file is found, and no other.
 fn finds_all(alloc: Global, graph: &File<'_>) -> bool {
     for row in &COMMITS {
         if !finds(alloc, graph, row) {
@@ -105,8 +107,8 @@ fn finds_all(alloc: Global, graph: &File<'_>) -> bool {
     graph.len() == COMMITS.len() && lacks(alloc, graph, 0xc2)
 }
 
-/// Whether the octopus merge is found, or wants memory, where the request after so many is refused; none where there is no
-/// such request.
+/// Tests whether the octopus merge is found, or its look-up runs out of memory, if the allocation
+/// after some others fails. Returns `None` if there is no such allocation.
 fn wants_memory(alloc: Global, graph: &File<'_>, id: ObjectId, before: u64) -> Option<bool> {
     let memory = Refusing::new(alloc, before);
     let is_found = match graph.get(&memory, id) {
@@ -122,7 +124,7 @@ fn wants_memory(alloc: Global, graph: &File<'_>, id: ObjectId, before: u64) -> O
     }
 }
 
-/// Whether each request for the octopus merge is told where it is refused, and there is one.
+/// Tests whether each failed allocation for the octopus merge is reported, and there is one.
 fn is_told(alloc: Global, graph: &File<'_>) -> bool {
     let Some(id) = graph.id(4) else {
         return false;
@@ -137,7 +139,7 @@ fn is_told(alloc: Global, graph: &File<'_>) -> bool {
     false
 }
 
-/// Whether the file is opened, and is what git wrote.
+/// Tests whether the file is opened, and is what git wrote.
 fn is_read_back(alloc: Global, bytes: &[u8]) -> bool {
     match CommitGraph::open(bytes) {
         Ok(graph) => {
@@ -150,7 +152,7 @@ fn is_read_back(alloc: Global, bytes: &[u8]) -> bool {
     }
 }
 
-/// Whether the file without commits is opened, and has none.
+/// Tests whether the file without commits is opened, and has none.
 fn has_none(alloc: Global, bytes: &[u8]) -> bool {
     match CommitGraph::open(bytes) {
         Ok(graph) => {
@@ -163,7 +165,7 @@ fn has_none(alloc: Global, bytes: &[u8]) -> bool {
     }
 }
 
-/// The file, and the one without commits.
+/// Tests both files: the one that git wrote, and the one without commits.
 fn both_files(alloc: Global) -> Result<bool, AllocError> {
     Ok(is_read_back(alloc, &file(alloc)?) && has_none(alloc, &empty_file(alloc)?))
 }
@@ -174,7 +176,7 @@ fn what_git_wrote_is_read_back(rt: HostRuntime) -> Result<(), Fail> {
     Ok(())
 }
 
-/// Puts another byte at a place, and answers the one that stood there.
+/// Writes another byte at a place, and returns the old one.
 fn put(bytes: &mut [u8], place: usize, byte: u8) -> u8 {
     match bytes.get_mut(place) {
         Some(at) => replace(at, byte),
@@ -182,7 +184,7 @@ fn put(bytes: &mut [u8], place: usize, byte: u8) -> u8 {
     }
 }
 
-/// Whether bytes are refused for a fault, and come back.
+/// Tests whether bytes are refused for a fault, and come back.
 fn is_refused_for(bytes: &[u8], fault: OpenFault) -> bool {
     match CommitGraph::open(bytes) {
         Ok(_) => false,
@@ -190,7 +192,7 @@ fn is_refused_for(bytes: &[u8], fault: OpenFault) -> bool {
     }
 }
 
-/// The first fault for which its spoiled file is not refused.
+/// Returns the first fault for which its spoiled file is not refused.
 fn first_opened(bytes: &mut [u8]) -> Option<OpenFault> {
     for case in &SPOILED {
         let own = put(bytes, case.0, case.1);
@@ -202,7 +204,7 @@ fn first_opened(bytes: &mut [u8]) -> Option<OpenFault> {
     None
 }
 
-/// Whether each commit of a file is found.
+/// Tests whether each commit of a file is found.
 fn is_whole(alloc: Global, graph: &File<'_>) -> bool {
     for position in 0..graph.len() {
         let Some(id) = graph.id(position) else {
@@ -215,8 +217,8 @@ fn is_whole(alloc: Global, graph: &File<'_>) -> bool {
     true
 }
 
-/// Whether bytes that are not the file's are refused; or each commit in them is found, and their hash
-/// is not right.
+/// Tests whether changed bytes are refused. If they are not, each commit in them must be found, and
+/// their hash must be wrong.
 fn is_refused_or_read(alloc: Global, bytes: &[u8]) -> bool {
     match CommitGraph::open(bytes) {
         Ok(graph) => is_whole(alloc, &graph) && !graph.hash_is_right(),
@@ -224,7 +226,7 @@ fn is_refused_or_read(alloc: Global, bytes: &[u8]) -> bool {
     }
 }
 
-/// Whether the file is refused or read with another byte at a place.
+/// Tests whether the file is refused or read with another byte at a place.
 fn holds_with(alloc: Global, bytes: &mut [u8], place: usize, byte: u8) -> bool {
     let own = put(bytes, place, byte);
     let holds = own == byte || is_refused_or_read(alloc, bytes);
@@ -232,8 +234,8 @@ fn holds_with(alloc: Global, bytes: &mut [u8], place: usize, byte: u8) -> bool {
     holds
 }
 
-/// The first place at which the file is opened where it is cut there; or neither refused nor read with 0, 255 or one bit
-/// changed there.
+/// Returns the first place that is misread. The file is opened although it ends there, or it is
+/// neither refused nor read with 0, 255 or one changed bit there.
 fn first_misread(alloc: Global, bytes: &mut [u8]) -> Option<usize> {
     for place in 0..bytes.len() {
         let (before, rest) = bytes.split_at(place);
@@ -252,7 +254,7 @@ fn first_misread(alloc: Global, bytes: &mut [u8]) -> Option<usize> {
     None
 }
 
-/// Swaps the ids of two chunks, so that each stands where the other one was.
+/// Swaps the ids of two chunks in the table of contents.
 fn swap_ids(bytes: &mut [u8], (one, other): (usize, usize)) {
     for byte in 8..12usize {
         let left = one.saturating_mul(12).saturating_add(byte);
@@ -263,7 +265,7 @@ fn swap_ids(bytes: &mut [u8], (one, other): (usize, usize)) {
     }
 }
 
-/// The first two chunks that may be swapped.
+/// Returns the first two chunks that may be swapped.
 fn first_swapped(bytes: &mut [u8]) -> Option<(usize, usize)> {
     for pair in &SWAPPED {
         swap_ids(bytes, *pair);
@@ -275,7 +277,7 @@ fn first_swapped(bytes: &mut [u8]) -> Option<(usize, usize)> {
     None
 }
 
-/// Whether the file is refused where it is spoiled on purpose, and misread nowhere.
+/// Tests whether the file is refused when it is spoiled on purpose, and misread at no place.
 fn is_refused_where_spoiled(alloc: Global) -> Result<bool, AllocError> {
     let mut bytes = file(alloc)?;
     Ok(

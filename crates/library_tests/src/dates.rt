@@ -1,4 +1,4 @@
-//! Texts that are dates, and texts that are none.
+//! Reads texts that are dates, and texts that are not.
 
 use fixtures::printed::prints;
 use gix_revision::date::{DateError, Time, parse};
@@ -9,7 +9,7 @@ const RANGE: Result<(i64, i32), DateError> = Err(DateError::OutOfRange);
 
 const NONE: Result<(i64, i32), DateError> = Err(DateError::NotADate);
 
-/// Each text, the seconds and the offset of the moment it is read at, and those that it means.
+/// A text; the seconds and the offset of the moment at which it is read; and those of its date.
 static ROWS: [(&str, (i64, i32), Result<(i64, i32), DateError>); 84] = [
     // The worked rows.
     ("1234567890 +0200", (77, 0), Ok((1234567890, 7200))),
@@ -124,7 +124,7 @@ static ROWS: [(&str, (i64, i32), Result<(i64, i32), DateError>); 84] = [
     ("2 months ago", (-377702438400, 0), RANGE),
 ];
 
-// Whether a text means that at a moment.
+// Tests whether a text has this date at a moment.
 fn means(text: &[u8], now: (i64, i32), want: Result<(i64, i32), DateError>) -> bool {
     let now = Time {
         seconds: now.0,
@@ -137,7 +137,7 @@ fn means(text: &[u8], now: (i64, i32), want: Result<(i64, i32), DateError>) -> b
     }
 }
 
-/// The first text of a table that does not mean what it says.
+/// Returns the first text of a table that has another date.
 fn first_misread() -> Option<&'static str> {
     for (text, now, want) in &ROWS {
         if !means(text.as_bytes(), *now, *want) {
@@ -152,7 +152,8 @@ fn dates_mean_their_times(rt: HostRuntime) {
     assert_eq!(rt; first_misread(), None);
 }
 
-/// Whether a text that is repeated so often before another one means that, a minute east of Greenwich.
+/// Tests whether a text has this date. A part is repeated before another one, and the moment is a
+/// minute east of Greenwich.
 fn repeated_means(
     alloc: Global,
     (text, count, rest): (&[u8], usize, &[u8]),
@@ -163,7 +164,7 @@ fn repeated_means(
     Ok(means(&long, (0, 60), want))
 }
 
-/// What is repeated, how often, and what stands behind it; and what all of it means.
+/// A repeated part, how often it is repeated, and the part after it; and the date of the text.
 static LONG: [(&[u8], usize, &[u8], Result<(i64, i32), DateError>); 6] = [
     (b"\xff", 1, b"", NONE),
     (b"1 Jan 1970 00:00 GMT (\xff)", 1, b"", NONE),
@@ -173,7 +174,7 @@ static LONG: [(&[u8], usize, &[u8], Result<(i64, i32), DateError>); 6] = [
     (b"1 day ", 20_000, b"ago", Ok((-1_728_000_000, 60))),
 ];
 
-/// The number of the first of these that means something else.
+/// Returns the index of the first of these texts that has another date.
 fn first_long_misread(alloc: Global) -> Result<Option<usize>, AllocError> {
     for (i, (text, count, rest, want)) in LONG.iter().enumerate() {
         if !repeated_means(alloc, (text, *count, rest), *want)? {
@@ -183,14 +184,14 @@ fn first_long_misread(alloc: Global) -> Result<Option<usize>, AllocError> {
     Ok(None)
 }
 
-/// How refusals print.
+/// The texts of the errors.
 static REFUSALS: [(DateError, &str); 3] = [
     (DateError::NotADate, "NotADate"),
     (DateError::OutOfRange, "OutOfRange"),
     (DateError::OutOfMemory, "out of memory"),
 ];
 
-/// The first text that a refusal is not printed as.
+/// Returns the first text that does not match its error.
 fn first_misprinted(alloc: Global) -> Result<Option<&'static str>, AllocError> {
     for (refusal, text) in &REFUSALS {
         if !prints(alloc, refusal, text)? {

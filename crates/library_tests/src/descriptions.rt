@@ -1,5 +1,5 @@
-//! Descriptions: rows of git-describe by subject, texts and copies, lists of calls, and calls where memory or the
-//! source fails.
+//! Tests of `describe`: rows of git-describe by subject, texts and copies, lists of calls, and
+//! calls whose memory or source fails.
 
 mod cases;
 mod early_ends;

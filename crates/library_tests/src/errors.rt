@@ -4,18 +4,18 @@ use gix_revision::error::{Exn, NonEmpty};
 use std::alloc::{AllocError, Global};
 use std::test::Fail;
 
-/// A list of one has that one, and no list is made of nothing.
+/// Tests whether a list of one has this one, and no list is made of nothing.
 fn holds_one(alloc: Global) -> bool {
     let one = NonEmpty::new(alloc, 7u8);
     *one.first() == 7 && one.len() == 1 && NonEmpty::<u8>::from_vec(Vec::new(alloc)).is_none()
 }
 
-/// Whether these are 3, 1 and 2.
+/// Tests whether these are 3, 1 and 2.
 fn are_three(list: &NonEmpty<u8>) -> bool {
     *list.first() == 3 && list.len() == 3 && list.iter().eq([3u8, 1, 2].iter())
 }
 
-/// A list of three has them in their order.
+/// Tests whether a list of three has them in their order.
 fn holds_three(alloc: Global) -> Result<bool, AllocError> {
     Ok(match &NonEmpty::from_vec(vec![in alloc; 3u8, 1, 2]?) {
         Some(list) => are_three(list),
@@ -23,7 +23,7 @@ fn holds_three(alloc: Global) -> Result<bool, AllocError> {
     })
 }
 
-/// Whether a refusal has this message, says this of memory, and nothing more.
+/// Tests whether a refusal has this message, tells whether memory ran out, and has nothing else.
 fn says(refused: &Exn, message: &str, out_of_memory: bool) -> bool {
     refused.message.as_str() == message
         && refused.input.is_none()
@@ -31,13 +31,13 @@ fn says(refused: &Exn, message: &str, out_of_memory: bool) -> bool {
         && refused.out_of_memory == out_of_memory
 }
 
-/// Whether both refusals say what they should.
+/// Tests whether both refusals say what they should.
 fn both_say_so(alloc: Global) -> bool {
     says(&Exn::new(alloc, "no such ref"), "no such ref", false)
         && says(&Exn::out_of_memory(alloc), "out of memory", true)
 }
 
-/// A refusal that another one led to, with a leaf before it or behind it.
+/// Makes a refusal that another one led to, with a leaf before or after it.
 fn one_more(alloc: Global, inner: Exn, is_leaf_first: bool) -> Result<Exn, AllocError> {
     let mut outer = Exn::new(alloc, "outer");
     outer.causes.push(inner)?;
@@ -48,7 +48,7 @@ fn one_more(alloc: Global, inner: Exn, is_leaf_first: bool) -> Result<Exn, Alloc
     Ok(outer)
 }
 
-/// A refusal that 200,000 others led to, each inside the next, is let go on the stack of a test.
+/// Drops a refusal that 200,000 others led to, each inside the next, on the stack of a test.
 fn lets_go_of_deep_causes(alloc: Global) -> Result<bool, AllocError> {
     let mut deep = Exn::new(alloc, "innermost");
     for i in 0..200_000 {

@@ -1,4 +1,4 @@
-//! Graphs at work: each call once, failing look-ups, and memory refused at each request.
+//! Graphs: each call once, failing look-ups, and failing allocations.
 
 use fixtures::faults::{Answered, Came, Repeats, survives};
 use fixtures::histories::{Row, agrees, id, source_of};
@@ -9,29 +9,29 @@ use std::alloc::{AllocError, Allocator, Global};
 use std::mem::replace;
 use std::test::Fail;
 
-/// A commit on one that the source lacks.
+/// A commit whose parent the source does not have.
 pub const FIRST: Row<'static> = Row(1, -10, None, &[9]);
 
-/// [3] of [2], [2] of [1], [1] of a commit that the source lacks.
+/// A line: [3] on [2], [2] on [1], and [1] on a commit that the source does not have.
 pub const LINE: &[Row<'static>] = &[FIRST, Row(2, 20, Some(7), &[1]), Row(3, 30, None, &[2, 9])];
 
 /// A call on a graph of commits with numbers as data.
 #[derive(Clone, Copy)]
 enum Step {
-    /// Takes in a commit with this data, and reads what it has then.
+    /// Loads a commit with this data, and reads its data.
     Take(u8, u8),
     /// Writes this data to a held commit, and reads it.
     Write(u8, u8),
     /// Reads the data of a held commit.
     Read(u8),
-    /// Gives this data to all.
+    /// Gives this data to all held commits.
     Fill(u8),
     Clear,
 }
 
 type CountedCommits = Graph<Counting<MemorySource>, Commit<u8>>;
 
-/// The data of a commit that is taken in with this.
+/// Loads a commit with this data and returns its data.
 fn taken(
     alloc: Global,
     graph: &mut CountedCommits,
@@ -42,20 +42,20 @@ fn taken(
     Ok(place.data().copied())
 }
 
-/// The data of a held commit that this was written to.
+/// Writes this data to a held commit and returns its data.
 fn written(graph: &mut CountedCommits, digit: u8, data: u8) -> Option<u8> {
     let place = graph.data_mut(&id(digit))?;
     *place = data;
     Some(*place)
 }
 
-/// The data of a held commit.
+/// Returns the data of a held commit.
 fn held(graph: &CountedCommits, digit: u8) -> Option<u8> {
     let commit = graph.get(&id(digit))?;
     Some(*commit.data())
 }
 
-/// What is read by a step.
+/// Makes a step and returns what it reads.
 fn read_by(alloc: Global, graph: &mut CountedCommits, step: Step) -> Result<Option<u8>, Error> {
     match step {
         Step::Take(digit, data) => return taken(alloc, graph, digit, data),
@@ -67,7 +67,7 @@ fn read_by(alloc: Global, graph: &mut CountedCommits, step: Step) -> Result<Opti
     Ok(None)
 }
 
-/// A step, what it reads, and how many are held and were looked up then.
+/// A step, what it reads, how many commits are held then, and how many were looked up.
 static STEPS: [(Step, Option<u8>, usize, u64); 14] = [
     (Step::Read(2), None, 0, 0),
     (Step::Take(2, 5), Some(5), 1, 1),
@@ -86,7 +86,8 @@ static STEPS: [(Step, Option<u8>, usize, u64); 14] = [
     (Step::Take(2, 8), Some(8), 1, 4),
 ];
 
-/// Whether so many are held and were looked up, which agree with the source, and [1] is none of them.
+/// Tests whether this many commits are held and were looked up, all held ones agree with the
+/// source, and [1] is not among them.
 fn is_at(graph: &CountedCommits, held: usize, look_ups: u64) -> bool {
     graph.len() == held
         && graph.source().questions() == look_ups
@@ -94,7 +95,7 @@ fn is_at(graph: &CountedCommits, held: usize, look_ups: u64) -> bool {
         && !graph.contains(&id(1))
 }
 
-/// Whether the steps do what they say, and what is held agrees with the source all along.
+/// Tests whether the steps do what they say. What is held must agree with the source all the time.
 fn do_as_said(alloc: Global, graph: &mut CountedCommits) -> bool {
     for (call, read, held, look_ups) in &STEPS {
         if read_by(alloc, graph, *call) != Ok(*read) || !is_at(graph, *held, *look_ups) {
@@ -104,19 +105,19 @@ fn do_as_said(alloc: Global, graph: &mut CountedCommits) -> bool {
     graph.contains(&id(2))
 }
 
-/// The same, on a new graph, whose source comes back.
+/// Tests the steps on a new graph, which gives its source back.
 fn steps_are_done(alloc: Global) -> Result<bool, AllocError> {
     let mut graph = Graph::new(alloc, Counting::new(source_of(alloc, LINE)?));
     let done = do_as_said(alloc, &mut graph);
     Ok(graph.into_source().questions() == 4 && done)
 }
 
-/// The number that is held for an id, in whose place this one is written.
+/// Writes a number for an id, and returns the old one.
 fn replaced(graph: &mut Graph<MemorySource, u32>, id: ObjectId, number: u32) -> Option<u32> {
     Some(replace(graph.get_mut(&id)?, number))
 }
 
-/// Whether numbers are held whatever the source has.
+/// Tests whether a graph holds numbers whatever the source has.
 fn hold_numbers(graph: &mut Graph<MemorySource, u32>) -> Result<bool, Error> {
     let first = graph.insert(id(9), 1)?;
     let second = graph.insert(id(9), 2)?;
@@ -143,7 +144,7 @@ fn commits_and_numbers_are_held(rt: HostRuntime) -> Result<(), Fail> {
     Ok(())
 }
 
-/// Takes in [3], [2] and [1] with the data 1.
+/// Loads [3], [2] and [1] with the data 1.
 fn take_all<S: Find, A: Allocator + Copy>(
     alloc: A,
     graph: &mut Graph<S, Commit<u8, A>, A>,
@@ -154,8 +155,8 @@ fn take_all<S: Find, A: Allocator + Copy>(
     Ok(())
 }
 
-/// How taking all in is answered, with the faults counted then, and whether what is held is the source's: all three where it
-/// is answered, and else fewer.
+/// Loads all and returns the result: the answer, the fault count, and whether the held commits are
+/// the source's. All three are held after an answer, fewer otherwise.
 fn came<S: Find, A: Allocator + Copy>(alloc: A, graph: &mut Graph<S, Commit<u8, A>, A>) -> Came {
     let answered = match take_all(alloc, graph) {
         Ok(()) => Answered::AsWanted,
@@ -170,7 +171,7 @@ fn came<S: Find, A: Allocator + Copy>(alloc: A, graph: &mut Graph<S, Commit<u8, 
     }
 }
 
-/// Takes all in.
+/// The call that loads all commits.
 struct Takes;
 
 impl Repeats for Takes {
@@ -197,7 +198,7 @@ impl Repeats for Takes {
 /// The commit for which the source fails, and how many are held then.
 static FAILS_FOR: [(u8, usize); 3] = [(3, 0), (2, 1), (1, 2)];
 
-/// Whether taking all in fails with so many held, and so many faults counted.
+/// Tests whether loading all fails with this many commits held and this fault count.
 fn fails(
     alloc: Global,
     graph: &mut Graph<Failing<MemorySource>, Commit<u8>>,
@@ -210,7 +211,7 @@ fn fails(
         && agrees(graph, LINE)
 }
 
-/// Whether a commit that fails each time is counted each time.
+/// Tests whether a commit whose look-up fails again is counted again.
 fn counts_again(alloc: Global, (digit, held): (u8, usize)) -> Result<bool, AllocError> {
     let line = source_of(alloc, LINE)?;
     let source = Failing::new(line, Turn::For(id(digit)), FindFault::Failed, 0);
@@ -218,7 +219,7 @@ fn counts_again(alloc: Global, (digit, held): (u8, usize)) -> Result<bool, Alloc
     Ok(fails(alloc, &mut graph, held, 1) && fails(alloc, &mut graph, held, 2))
 }
 
-/// The first commit that is not counted so.
+/// Returns the first commit that is counted otherwise.
 fn first_uncounted(alloc: Global) -> Result<Option<u8>, AllocError> {
     for row in &FAILS_FOR {
         if !counts_again(alloc, *row)? {

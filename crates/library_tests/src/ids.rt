@@ -45,7 +45,7 @@ static IDS: [(&str, Result<&str, HexError>); 10] = [
     ),
 ];
 
-/// Whether a text is read as an id that prints so, or is refused so.
+/// Tests whether a text is read as an id that prints so, or is refused so.
 fn reads_id(alloc: Global, text: &str, want: Result<&str, HexError>) -> Result<bool, AllocError> {
     match (ObjectId::from_hex(text.as_bytes()), want) {
         (Ok(id), Ok(printed)) => prints(alloc, &id, printed),
@@ -53,8 +53,7 @@ fn reads_id(alloc: Global, text: &str, want: Result<&str, HexError>) -> Result<b
     }
 }
 
-/// A text of digits, and the number of digits of the prefix, the prefix as it is printed, and its id as
-/// it is printed; or why it is none.
+/// A text; the number of digits of its prefix, the printed prefix and its printed id; or the error.
 static PREFIXES: [(&str, Result<(usize, &str, &str), HexError>); 10] = [
     (
         "dae8",
@@ -87,7 +86,7 @@ static PREFIXES: [(&str, Result<(usize, &str, &str), HexError>); 10] = [
     ),
 ];
 
-/// Whether a prefix has so many digits, and it and its id print so.
+/// Tests whether a prefix has this many digits, and it and its id print so.
 fn is_prefix(
     alloc: Global,
     prefix: &Prefix,
@@ -100,7 +99,8 @@ fn is_prefix(
     )
 }
 
-/// Whether a text is read as a prefix of so many digits that prints so, as its id does, or is refused so.
+/// Tests whether a text is read as a prefix that has this many digits and prints so, as does its
+/// id, or is refused so.
 fn reads_prefix(
     alloc: Global,
     text: &str,
@@ -112,7 +112,7 @@ fn reads_prefix(
     }
 }
 
-/// How refusals print.
+/// The texts of the errors.
 static REFUSALS: [(HexError, &str); 4] = [
     (HexError::WrongLength, "WrongLength"),
     (HexError::NotHex, "NotHex"),
@@ -120,7 +120,7 @@ static REFUSALS: [(HexError, &str); 4] = [
     (HexError::TooLong, "TooLong"),
 ];
 
-/// The first text that is not read as the table of ids says.
+/// Returns the first text that is not read as the table of ids says.
 fn first_misread_id(alloc: Global) -> Result<Option<&'static str>, AllocError> {
     for (text, want) in &IDS {
         if !reads_id(alloc, text, *want)? {
@@ -130,7 +130,7 @@ fn first_misread_id(alloc: Global) -> Result<Option<&'static str>, AllocError> {
     Ok(None)
 }
 
-/// The first text that is not read as the table of prefixes says.
+/// Returns the first text that is not read as the table of prefixes says.
 fn first_misread_prefix(alloc: Global) -> Result<Option<&'static str>, AllocError> {
     for (text, want) in &PREFIXES {
         if !reads_prefix(alloc, text, *want)? {
@@ -140,7 +140,7 @@ fn first_misread_prefix(alloc: Global) -> Result<Option<&'static str>, AllocErro
     Ok(None)
 }
 
-/// The first text that a refusal is not printed as.
+/// Returns the first text that does not match its error.
 fn first_misprinted(alloc: Global) -> Result<Option<&'static str>, AllocError> {
     for (refusal, text) in &REFUSALS {
         if !prints(alloc, refusal, text)? {
@@ -182,13 +182,13 @@ static AMONG_PREFIXES: [(&str, &str, Ordering); 3] = [
     ("abcd", "ABCD", Ordering::Equal),
 ];
 
-/// Whether so many digits of an id are written to the front of the room.
+/// Tests whether this many digits of an id are written to the front of the room.
 fn writes(id: &ObjectId, len: usize, count: usize, want: &str) -> bool {
     let mut out = [b'-'; 40];
     id.write_hex(len, &mut out) == count && out.as_slice() == want.as_bytes()
 }
 
-/// Whether a prefix has this order against an id.
+/// Tests whether a prefix has this order against an id.
 fn meets(text: &str, id: &ObjectId, order: Ordering) -> bool {
     match Prefix::from_hex(text.as_bytes()) {
         Ok(prefix) => prefix.cmp_oid(id) == order,
@@ -196,7 +196,7 @@ fn meets(text: &str, id: &ObjectId, order: Ordering) -> bool {
     }
 }
 
-/// Whether two prefixes have this order.
+/// Tests whether two prefixes have this order.
 fn compare(text: &str, other: &str, order: Ordering) -> bool {
     match (
         Prefix::from_hex(text.as_bytes()),
@@ -207,7 +207,7 @@ fn compare(text: &str, other: &str, order: Ordering) -> bool {
     }
 }
 
-/// The first number of digits of an id that is not written so.
+/// Returns the first number of digits of an id that is not written so.
 fn first_unwritten(id: &ObjectId) -> Option<usize> {
     for (len, count, want) in &WRITTEN {
         if !writes(id, *len, *count, want) {
@@ -217,7 +217,7 @@ fn first_unwritten(id: &ObjectId) -> Option<usize> {
     None
 }
 
-/// The first prefix that has another order against an id.
+/// Returns the first prefix that has another order against an id.
 fn first_unmet(id: &ObjectId) -> Option<&'static str> {
     for (text, order) in &AGAINST_NAME {
         if !meets(text, id, *order) {
@@ -227,7 +227,7 @@ fn first_unmet(id: &ObjectId) -> Option<&'static str> {
     None
 }
 
-/// The first of two prefixes that have another order.
+/// Returns the first of two prefixes that have another order.
 fn first_uncompared() -> Option<&'static str> {
     for (text, other, order) in &AMONG_PREFIXES {
         if !compare(text, other, *order) {
@@ -237,7 +237,7 @@ fn first_uncompared() -> Option<&'static str> {
     None
 }
 
-/// Whether the id of the example has its bytes, is written and is compared.
+/// Tests whether the id of the example has its bytes, is written and is compared.
 fn is_written_and_compared() -> bool {
     match &ObjectId::from_hex(UPPER.as_bytes()) {
         Ok(id) => {

@@ -1,5 +1,5 @@
-//! Callers over a commit-graph file, proved from the public contracts alone: the file's levels meet what
-//! merge bases ask of a history, so that nothing is asked of it.
+//! Callers over a commit-graph file, proved from the public contracts alone. The levels of a file
+//! meet the premises of merge bases, so the callers need none.
 
 ghost use Rattle.std.specs.Prelude.{◌++◌, List, IfOk};
 ghost use Rattle.gix_revision.specs.Bases.{AreBases, ids_of};
@@ -24,7 +24,7 @@ use gix_revision::merge_base::{Error, Flags, merge_base, octopus};
 use std::alloc::Global;
 use std::borrow::CowSlice;
 
-/// The merge bases.
+/// Returns the merge bases.
 fn bases_of(
     alloc: Global,
     first: ObjectId,
@@ -39,7 +39,7 @@ fn bases_of(
     merge_base(alloc, first, others, graph)
 }
 
-/// The octopus base.
+/// Returns the octopus base.
 fn octopus_of(
     alloc: Global,
     first: ObjectId,
@@ -53,7 +53,7 @@ fn octopus_of(
     octopus(alloc, first, others, graph)
 }
 
-/// The name by the nearest named ancestor.
+/// Returns the name by the nearest named ancestor.
 fn description_of<'name>(
     alloc: Global,
     commit: &ObjectId,
@@ -65,14 +65,15 @@ fn description_of<'name>(
     describe(alloc, commit, graph, options)
 }
 
-/// Keys fall along every edge that is reached, so that painting takes in little.
+/// Proves that keys fall along every edge that is reached, so painting loads little.
 fn keys_fall(source: &LevelledGraph)
     ensures { (ids : List ObjectId) → KeysFallFrom (history_in source.now) ids }
 {
     source.premises();
 }
 
-/// The merge bases, where commits came after the file was written: these have no generations.
+/// Returns the merge bases, also of commits that are newer than the file and have no generation
+/// number.
 fn bases_of_all<S: Find>(
     alloc: Global,
     first: ObjectId,
@@ -90,8 +91,8 @@ fn bases_of_all<S: Find>(
     merge_base(alloc, first, others, graph)
 }
 
-/// The ids of the file's commits, by their positions: the octopus merge, its first and its second parent, and the
-/// roots of both.
+/// The ids of the file's commits, by their positions: the octopus merge, its first and its second
+/// parent, and the roots of both.
 #[derive(Clone, Copy)]
 struct Ids {
     merge: ObjectId,
@@ -112,7 +113,7 @@ fn ids_in(source: &LevelledGraph) -> Option<Ids> {
     })
 }
 
-/// Whether these are the bases.
+/// Tests whether these are the bases.
 fn are(bases: &Option<NonEmpty<ObjectId>>, want: &[ObjectId]) -> bool {
     match bases {
         None => want.is_empty(),
@@ -144,8 +145,9 @@ fn has_octopus_base(
     }
 }
 
-/// Whether the first parent is the base of the octopus merge and itself, two commits without a common ancestor have none,
-/// and the second parent is the octopus base of the merge and both.
+/// Tests the bases of the file. The first parent is the base of the octopus merge and itself. Two
+/// commits without a common ancestor have no base. The second parent is the octopus base of the
+/// merge and both.
 fn has_all_bases(
     alloc: Global,
     ids: &Ids,
@@ -156,7 +158,7 @@ fn has_all_bases(
         && has_octopus_base(alloc, ids, graph)
 }
 
-/// Options with the name of the root.
+/// Makes options with the name of the root.
 fn naming(alloc: Global, root: ObjectId) -> Option<Options<'static>> {
     let mut options = Options::new(alloc);
     let name = CowSlice::Borrowed(b"v1".as_slice());
@@ -164,7 +166,8 @@ fn naming(alloc: Global, root: ObjectId) -> Option<Options<'static>> {
     Some(options)
 }
 
-/// Whether the octopus merge is described by the name of a root: the four others are ahead of it.
+/// Tests whether the octopus merge is described by the name of a root. The four other commits are
+/// ahead of it.
 fn is_described(alloc: Global, ids: &Ids, graph: &mut Graph<LevelledGraph, u32>) -> bool {
     let Some(options) = naming(alloc, ids.root) else {
         return false;
@@ -185,10 +188,10 @@ fn are_answered(alloc: Global) -> Option<bool> {
     Some(has_bases && is_described(alloc, &ids, &mut marks))
 }
 
-/// A commit that the file lacks.
+/// A commit that the file does not have.
 const NEWER: ObjectId = ObjectId([1; 20]);
 
-/// A commit without a generation on another one.
+/// Makes a commit without a generation number, with one parent.
 fn child_of(alloc: Global, parent: ObjectId) -> Option<SourceCommit> {
     Some(SourceCommit {
         parents: [parent].to_vec(alloc).ok()?,
@@ -197,14 +200,14 @@ fn child_of(alloc: Global, parent: ObjectId) -> Option<SourceCommit> {
     })
 }
 
-/// A source that has it as a child of another commit.
+/// Makes a source that has the newer commit as a child of another one.
 fn newer_than(alloc: Global, parent: ObjectId) -> Option<MemorySource> {
     let mut newer = MemorySource::new(alloc);
     newer.insert(NEWER, child_of(alloc, parent)?).ok()?;
     Some(newer)
 }
 
-/// Whether two commits have these bases.
+/// Tests whether two commits have these bases.
 fn meet_at<S: Find>(
     alloc: Global,
     first: ObjectId,
@@ -218,7 +221,7 @@ fn meet_at<S: Find>(
     }
 }
 
-/// Whether the octopus merge is the base of its newer child and itself.
+/// Tests whether the octopus merge is the base of its newer child and itself.
 fn is_joined(alloc: Global) -> Option<bool> {
     let file = levelled(alloc)?;
     let merge = file.graph().id(4)?;
@@ -233,7 +236,7 @@ const LATE: ObjectId = ObjectId([2; 20]);
 
 type GrowingGraph = Graph<Commits<Global>, Commit<Flags>>;
 
-/// Whether a commit is put in as a child of another one.
+/// Tests whether a commit is added as a child of another one.
 fn is_put(alloc: Global, id: ObjectId, parent: ObjectId, graph: &mut GrowingGraph) -> bool {
     match child_of(alloc, parent) {
         Some(commit) => graph.insert(id, commit).is_ok(),
@@ -241,7 +244,7 @@ fn is_put(alloc: Global, id: ObjectId, parent: ObjectId, graph: &mut GrowingGrap
     }
 }
 
-/// Whether a commit is refused, since there is one under its id, and comes back.
+/// Tests whether a commit with a known id is refused, and comes back.
 fn comes_back(alloc: Global, id: ObjectId, graph: &mut GrowingGraph) -> bool {
     let Some(commit) = child_of(alloc, id) else {
         return false;
@@ -256,8 +259,8 @@ fn comes_back(alloc: Global, id: ObjectId, graph: &mut GrowingGraph) -> bool {
     }
 }
 
-/// Whether a file keeps its commits, a new one on one of them is met, and so is a parent that comes after two walks
-/// met its child.
+/// Tests whether a file keeps its commits, and walks meet a new child of one of them. They also
+/// meet a parent that is added after two walks met its child.
 fn grows_on(alloc: Global, merge: ObjectId, graph: &mut GrowingGraph) -> bool {
     is_put(alloc, NEWER, LATE, graph)
         && meet_at(alloc, NEWER, merge, graph, &[])
@@ -276,7 +279,7 @@ fn grows(alloc: Global) -> Option<bool> {
     Some(grows_on(alloc, merge, &mut graph))
 }
 
-/// Whether a history without a file takes commits.
+/// Tests whether a history without a file takes commits.
 fn grows_from_nothing(alloc: Global) -> bool {
     let mut graph: GrowingGraph = Graph::new(alloc, Commits::new(alloc, None));
     is_put(alloc, LATE, NEWER, &mut graph)

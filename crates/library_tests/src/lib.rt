@@ -1,5 +1,5 @@
-//! Tests of what `gix_revision` passes on, but for texts: worked rows, each public call once, and hostile
-//! sources and memory.
+//! Tests of what `gix_revision` exports, except revisions: worked rows, each public call once, and
+//! hostile sources and memory.
 #![tactic(auto)]
 
 #[cfg(test)]

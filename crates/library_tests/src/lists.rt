@@ -1,4 +1,4 @@
-//! Lists of calls on one graph: reused, over a failing source, and with memory refused in turn.
+//! Lists of calls on one graph: reused, over a failing source, and with failing allocations.
 
 use crate::questions::Call::{Bases, Octopus};
 use crate::questions::{Question, are_bases, is_one};
@@ -17,7 +17,7 @@ const SAME: [Question; 3] = [
     Question(Bases, &CRISS_CROSS, 4, &[5], &[2, 3]),
 ];
 
-/// No two have one answer.
+/// Questions with four different answers.
 const UNLIKE: [Question; 4] = [
     Question(Bases, &CRISS_CROSS, 2, &[3], &[1]),
     Question(Bases, &CRISS_CROSS, 4, &[5], &[2, 3]),
@@ -25,7 +25,7 @@ const UNLIKE: [Question; 4] = [
     Question(Octopus, &CRISS_CROSS, 4, &[9], &[]),
 ];
 
-/// The query of a question.
+/// Makes the query of a question.
 fn query_of<A: Allocator + Copy>(alloc: A, question: &Question) -> Result<Query<A>, AllocError> {
     let others = ids(alloc, question.3)?;
     let first = id(question.2);
@@ -36,7 +36,7 @@ fn query_of<A: Allocator + Copy>(alloc: A, question: &Question) -> Result<Query<
     })
 }
 
-/// The queries of a list.
+/// Makes the queries of a list.
 fn queries<A: Allocator + Copy>(
     alloc: A,
     questions: &[Question],
@@ -62,8 +62,8 @@ fn answered<A: Allocator>(answer: &Answer<A>, question: &Question) -> Answered {
     }
 }
 
-/// What a list came to: how its one refused call was answered, and which one that is; the number of calls where none
-/// is refused, or the list is as a whole.
+/// The result of a list: how its failed call was answered, and the index of this call. The index is
+/// the number of calls if none failed, or if the list failed as a whole.
 type Outcome = (Answered, usize);
 
 fn outcome<A: Allocator>(answers: &[Answer<A>], questions: &[Question]) -> Outcome {
@@ -81,7 +81,8 @@ fn outcome<A: Allocator>(answers: &[Answer<A>], questions: &[Question]) -> Outco
     }
 }
 
-/// What queries come to on a graph. Where the room for the answers is refused nothing is looked up.
+/// Makes queries on a graph and returns the result. If there is no room for the answers, nothing is
+/// looked up.
 fn ran<S: Find, A: Allocator + Copy>(
     alloc: A,
     graph: &mut Graph<S, Commit<Flags, A>, A>,
@@ -96,7 +97,7 @@ fn ran<S: Find, A: Allocator + Copy>(
     }
 }
 
-/// What a list comes to on a graph.
+/// Makes a list on a graph and returns the result.
 fn listed<S: Find, A: Allocator + Copy>(
     alloc: A,
     graph: &mut Graph<S, Commit<Flags, A>, A>,
@@ -106,7 +107,7 @@ fn listed<S: Find, A: Allocator + Copy>(
     Ok(ran(alloc, graph, &queries, questions))
 }
 
-/// A list, the look-up that fails, and the query that is refused for it.
+/// A list, the look-up that fails, and the query that then fails.
 const FAILURES: [(&[Question], u64, Option<usize>); 11] = [
     (&[], 0, None),
     (&SAME, 0, Some(0)),
@@ -121,7 +122,7 @@ const FAILURES: [(&[Question], u64, Option<usize>); 11] = [
     (&UNLIKE, 5, Some(3)),
 ];
 
-/// Whether a list ends with that query refused, all others answered, and the fault counted.
+/// Tests whether a list ends with this failed query, all others answered, and the fault counted.
 fn ends_with(
     alloc: Global,
     graph: &mut Graph<Failing<MemorySource>, Commit<Flags>>,
@@ -136,7 +137,7 @@ fn ends_with(
     })
 }
 
-/// The same, over a source that fails at one look-up.
+/// Tests whether a list ends so over a source that fails at one look-up.
 fn ends_as_said(
     alloc: Global,
     (questions, turn, failed): (&[Question], u64, Option<usize>),
@@ -147,7 +148,7 @@ fn ends_as_said(
     ends_with(alloc, &mut graph, questions, failed)
 }
 
-/// The number of the first row of these that does not end so.
+/// Returns the index of the first row that ends otherwise.
 fn first_wrong(alloc: Global) -> Result<Option<usize>, AllocError> {
     for (i, row) in FAILURES.iter().enumerate() {
         if !ends_as_said(alloc, *row)? {
@@ -163,10 +164,10 @@ fn a_refused_query_does_not_end_the_list(rt: HostRuntime) -> Result<(), Fail> {
     Ok(())
 }
 
-/// A list as one call, which is refused where one of its queries is, or all of it.
+/// A list as one call, which fails if one of its queries or the whole list does.
 struct List<'q>(&'q [Question]);
 
-/// The criss-cross, as it is lent.
+/// The criss-cross, to be borrowed.
 static HISTORY: [Row<'static>; 5] = CRISS_CROSS;
 
 impl Asks for List<'_> {

@@ -1,4 +1,4 @@
-//! Merge bases of worked histories, failing look-ups, and memory refused at each request.
+//! Merge bases of small histories, failing look-ups, and failing allocations.
 
 use crate::questions::Call::{Ancestor, Bases, Counted, Octopus, Paint, Reduce};
 use crate::questions::{Call, Question, is_refused_with};
@@ -12,7 +12,7 @@ use gix_revision::merge_base::{Error, Flags, Simple, merge_base, octopus};
 use std::alloc::{AllocError, Global};
 use std::test::Fail;
 
-/// The same, where all times are equal.
+/// The criss-cross with equal times.
 const EQUAL_TIMES: [Row<'static>; 5] = [
     Row(1, 7, None, &[]),
     Row(2, 7, None, &[1]),
@@ -39,7 +39,7 @@ const LISTED_TWICE: [Row<'static>; 5] = [
     Row(5, 3, None, &[3, 3, 2]),
 ];
 
-/// A chain of eight commits with generations, and 9 beside it, on 5.
+/// A chain of eight commits with generation numbers, and commit 9 on 5.
 const LEVELLED: [Row<'static>; 9] = [
     Row(1, 1, Some(1), &[]),
     Row(2, 2, Some(2), &[1]),
@@ -52,7 +52,7 @@ const LEVELLED: [Row<'static>; 9] = [
     Row(9, 9, Some(6), &[5]),
 ];
 
-/// Generations of 1, 2 and 5 alone, as where a commit-graph file lacks the newest commits.
+/// Only 1, 2 and 5 have generation numbers, as if a commit-graph file lacks the newest commits.
 const PARTLY_LEVELLED: [Row<'static>; 5] = [
     Row(1, 1, Some(1), &[]),
     Row(2, 2, Some(2), &[1]),
@@ -69,7 +69,7 @@ const CYCLE: [Row<'static>; 4] = [
     Row(4, 2, None, &[2]),
 ];
 
-/// Nothing is looked up: there are no others, or the first is among them.
+/// Nothing is looked up: there are no others, or they contain the first.
 static TRIVIAL: [Question; 4] = [
     Question(Bases, &CRISS_CROSS, 9, &[], &[9]),
     Question(Bases, &CRISS_CROSS, 9, &[1, 9], &[9]),
@@ -103,19 +103,19 @@ static WORKED: [Question; 19] = [
     Question(Ancestor, &CRISS_CROSS, 4, &[4], &[4]),
 ];
 
-/// Whether the other commit reaches the first, which is among its ancestors by the lists of parents. Nothing is
-/// looked up far below the first one.
+/// Whether the other commit reaches the first, by the lists of parents. Nothing far below the first
+/// is looked up.
 static NEAR: [Question; 6] = [
     Question(Ancestor, &LEVELLED, 6, &[8], &[6]),
     Question(Ancestor, &LEVELLED, 9, &[8], &[]),
     Question(Ancestor, &LEVELLED, 6, &[9], &[]),
     Question(Ancestor, &LEVELLED, 5, &[9], &[5]),
-    // The first is above the other, with and without a generation.
+    // The first is above the other, with and without a generation number.
     Question(Ancestor, &LEVELLED, 8, &[1], &[]),
     Question(Ancestor, &PARTLY_LEVELLED, 4, &[5], &[]),
 ];
 
-/// The same, where the walk is long, or goes round.
+/// Whether the other commit reaches the first, if the walk is long or there is a cycle.
 static FAR: [Question; 6] = [
     Question(Ancestor, &LEVELLED, 1, &[8], &[1]),
     Question(Ancestor, &PARTLY_LEVELLED, 1, &[4], &[1]),
@@ -135,7 +135,7 @@ static LACKED: [Question; 6] = [
     Question(Ancestor, &CRISS_CROSS, 9, &[9], &[]),
 ];
 
-/// Whether all are answered. What is held is not asked for again.
+/// Tests whether all questions are answered. What is held must not be looked up again.
 fn are_answered(alloc: Global) -> Result<bool, AllocError> {
     Ok(
         first_wrong(alloc, &TRIVIAL, 0)?.is_none()
@@ -160,7 +160,7 @@ fn commits_reach_their_ancestors(rt: HostRuntime) -> Result<(), Fail> {
     Ok(())
 }
 
-/// Whether both calls answer on a history with a cycle. What they answer is open.
+/// Tests whether both calls return on a history with a cycle. Their answers are unspecified.
 fn returns(alloc: Global, graph: &mut Graph<MemorySource, Commit<Flags>>) -> bool {
     merge_base(alloc, id(3), &[id(4)], graph).is_ok()
         && octopus(alloc, id(3), &[id(4)], graph).is_ok()
@@ -177,12 +177,13 @@ fn calls_return_on_a_cycle(rt: HostRuntime) -> Result<(), Fail> {
     Ok(())
 }
 
-/// The text of a refusal where an id that was handed in could not be asked for, and where a parent could not.
+/// The text of an error if the look-up of a given id failed, and if that of a parent failed.
 const OF_ID: &str = "could not insert commit into graph";
 
 const OF_PARENT: &str = "could not insert parent commit into graph";
 
-/// The look-up that fails of those for the bases of 4 and 5 in the criss-cross, and the text of the refusal. There are five.
+/// The look-up that fails while the bases of 4 and 5 in the criss-cross are computed, and the text
+/// of the error. There are five look-ups.
 static IN_ORDER: [(u64, Option<&str>); 6] = [
     (0, Some(OF_ID)),
     (1, Some(OF_ID)),
@@ -192,7 +193,7 @@ static IN_ORDER: [(u64, Option<&str>); 6] = [
     (5, None),
 ];
 
-/// The first of these look-ups that is not answered with its text where it fails.
+/// Returns the first of these look-ups whose failure has another text.
 fn first_untold(alloc: Global) -> Result<Option<u64>, AllocError> {
     let question = Question(Bases, &CRISS_CROSS, 4, &[5], &[2, 3]);
     for (before, text) in &IN_ORDER {
@@ -203,7 +204,7 @@ fn first_untold(alloc: Global) -> Result<Option<u64>, AllocError> {
     Ok(None)
 }
 
-/// The other calls, each of 4 and 5.
+/// The other calls, each for 4 and 5.
 static CALLS: [(Call, &[u8]); 4] = [
     (Counted, &[5]),
     (Octopus, &[5]),
@@ -211,7 +212,7 @@ static CALLS: [(Call, &[u8]); 4] = [
     (Reduce, &[4, 5]),
 ];
 
-/// Each commit of the criss-cross, and the text of a refusal since the source failed for it.
+/// Each commit of the criss-cross, and the text of the error if the source fails for it.
 static OF_EACH: [(u8, &str); 5] = [
     (4, OF_ID),
     (5, OF_ID),
@@ -220,7 +221,7 @@ static OF_EACH: [(u8, &str); 5] = [
     (1, OF_PARENT),
 ];
 
-/// The first commit for which a call of 4 and 5 is not refused with its text.
+/// Returns the first commit for which a call for 4 and 5 has another text.
 fn first_untold_of(
     alloc: Global,
     call: Call,
@@ -235,7 +236,7 @@ fn first_untold_of(
     Ok(None)
 }
 
-/// Whether each of the other calls is refused with the text of each commit.
+/// Tests whether each of the other calls fails with the text of each commit.
 fn are_told(alloc: Global) -> Result<bool, AllocError> {
     for (call, others) in &CALLS {
         if first_untold_of(alloc, *call, *others)?.is_some() {
@@ -245,7 +246,7 @@ fn are_told(alloc: Global) -> Result<bool, AllocError> {
     Ok(true)
 }
 
-/// Whether all survive refused look-ups and memory.
+/// Tests whether all questions survive failing look-ups and allocations.
 fn survive(alloc: Global) -> Result<bool, AllocError> {
     Ok(first_lost(alloc, &WORKED)?.is_none() && first_lost(alloc, &LACKED)?.is_none())
 }
@@ -257,7 +258,7 @@ fn refused_look_ups_and_memory_refuse_the_call(rt: HostRuntime) -> Result<(), Fa
     Ok(())
 }
 
-/// Whether marks have git's bits and are set and cleared one by one.
+/// Tests whether marks have git's bits, and are set and cleared one by one.
 fn marks_are_bits() -> bool {
     let both = Flags::from_bits_retain(3);
     let mut marks = Flags::default();

@@ -1,5 +1,5 @@
-//! Octopus bases of small histories, with every order of the heads, failing look-ups, and memory refused
-//! in turn.
+//! Octopus bases of small histories, with every order of the heads, failing look-ups, and failing
+//! allocations.
 //!
 //! ```text
 //!   4   5        3   4   5        3   4
@@ -74,7 +74,7 @@ const ALL_EQUAL: [Row<'static>; 4] = [
     FOURTH,
 ];
 
-/// [1] and [2] have a parent that the source lacks, and so have the two merges of [1].
+/// [1] and [2] have a parent that the source does not have, and so have the two merges of [1].
 const PARENT_LACKED: [Row<'static>; 4] = [
     Row(1, 1, None, &[9]),
     Row(2, 1, None, &[9]),
@@ -104,21 +104,21 @@ static WORKED: [Question; 27] = [
     Question(Octopus, &THREE_HEADS, 4, &[5, 3], &[2]),
     Question(Octopus, &THREE_HEADS, 5, &[3, 4], &[2]),
     Question(Octopus, &THREE_HEADS, 5, &[4, 3], &[2]),
-    // The generation counts before the time, and the time before the id.
+    // The generation number decides, then the time, then the id.
     Question(Octopus, &GENERATIONS_FALL, 3, &[4], &[1]),
     Question(Octopus, &GENERATIONS_RISE, 3, &[4], &[2]),
     Question(Octopus, &ABSENT_IS_GREATEST, 3, &[4], &[1]),
     Question(Octopus, &TIMES_FALL, 3, &[4], &[1]),
     Question(Octopus, &ALL_EQUAL, 3, &[4], &[1]),
-    // Heads that come again, and one that is among the bases of the others.
+    // Repeated heads, and one that is among the bases of the others.
     Question(Octopus, &THREE_HEADS, 5, &[3, 3, 5, 4, 3], &[2]),
     Question(Octopus, &CRISS_CROSS, 4, &[5, 3], &[3]),
     Question(Octopus, &CRISS_CROSS, 3, &[5, 4, 3], &[3]),
-    // Heads in a chain, also where times rise along it, and bases in one.
+    // Heads in a chain, also if times rise along it, and bases in a chain.
     Question(Octopus, &CRISS_CROSS, 1, &[2, 4], &[1]),
     Question(Octopus, &OLDER_CHILD, 1, &[3, 2], &[1]),
     Question(Octopus, &OLDER_CHILD, 3, &[4], &[2]),
-    // All of them, the first in front.
+    // All octopus bases, the first in front.
     Question(OctopusBases, &CRISS_CROSS, 4, &[5], &[2, 3]),
     Question(OctopusBases, &YOUNGER_THIRD, 4, &[5, 4], &[3, 2]),
     Question(OctopusBases, &THREE_HEADS, 3, &[4, 5], &[2]),
@@ -126,7 +126,7 @@ static WORKED: [Question; 27] = [
     Question(OctopusBases, &CRISS_CROSS, 5, &[3, 4], &[3]),
 ];
 
-/// One of the ids is not in the source, or a parent that they have in common is not.
+/// One of the ids is not in the source, or a common parent is not.
 static LACKED: [Question; 8] = [
     Question(Octopus, &CRISS_CROSS, 4, &[9], &[]),
     Question(Octopus, &CRISS_CROSS, 9, &[4], &[]),
@@ -138,7 +138,7 @@ static LACKED: [Question; 8] = [
     Question(OctopusBases, &CRISS_CROSS, 4, &[5, 9], &[]),
 ];
 
-/// Whether all are answered. What is held is not asked for again.
+/// Tests whether all questions are answered. What is held must not be looked up again.
 fn are_answered(alloc: Global) -> Result<bool, AllocError> {
     Ok(
         first_wrong(alloc, &TRIVIAL, 0)?.is_none()
@@ -153,7 +153,7 @@ fn heads_go_back_to_their_best_base(rt: HostRuntime) -> Result<(), Fail> {
     Ok(())
 }
 
-/// Whether all survive refused look-ups and memory.
+/// Tests whether all questions survive failing look-ups and allocations.
 fn survive(alloc: Global) -> Result<bool, AllocError> {
     Ok(first_lost(alloc, &WORKED)?.is_none() && first_lost(alloc, &LACKED)?.is_none())
 }

@@ -1,4 +1,4 @@
-//! Painting, the reduction and the counts of pops, on worked histories.
+//! Painting, the reduction and the counts of pops, on small histories.
 
 use crate::questions::Call::{Counted, Paint, Reduce};
 use crate::questions::{Question, are_bases, are_set};
@@ -10,7 +10,7 @@ use gix_revision::merge_base::{Flags, counted, paint};
 use std::alloc::{AllocError, Global};
 use std::test::Fail;
 
-/// A line of three commits with two heads: what lies below 2 need not be looked at.
+/// A line of three commits with two heads. Commits below 2 need not be looked up.
 const NEAR: [Row<'static>; 5] = [
     Row(1, 1, None, &[]),
     Row(2, 2, None, &[1]),
@@ -19,7 +19,7 @@ const NEAR: [Row<'static>; 5] = [
     Row(5, 4, None, &[3]),
 ];
 
-/// Two bases, of which 3 is the newer one.
+/// Two bases; 3 is the newer one.
 const BY_TIME: [Row<'static>; 5] = [
     Row(1, 1, None, &[]),
     Row(2, 2, None, &[1]),
@@ -28,7 +28,7 @@ const BY_TIME: [Row<'static>; 5] = [
     Row(5, 4, None, &[2, 3]),
 ];
 
-/// The same, where 2 has the greater generation.
+/// Two bases; 2 has the greater generation number.
 const BY_GENERATION: [Row<'static>; 5] = [
     Row(1, 1, Some(1), &[]),
     Row(2, 2, Some(3), &[1]),
@@ -37,7 +37,7 @@ const BY_GENERATION: [Row<'static>; 5] = [
     Row(5, 4, Some(4), &[2, 3]),
 ];
 
-/// The line with its generations.
+/// The line with generation numbers.
 const NEAR_BY_GENERATION: [Row<'static>; 5] = [
     Row(1, 1, Some(1), &[]),
     Row(2, 2, Some(2), &[1]),
@@ -46,8 +46,8 @@ const NEAR_BY_GENERATION: [Row<'static>; 5] = [
     Row(5, 4, Some(4), &[3]),
 ];
 
-/// Between 3 and 1, which are found as common ones, lies 2, which is older than both; a third one has
-/// a greater generation.
+/// Commit 2 is between the common ancestors 3 and 1, and older than both. A third common ancestor
+/// has a greater generation number.
 const SKEWED: [Row<'static>; 6] = [
     Row(1, 50, Some(1), &[]),
     Row(2, 0, Some(1), &[1]),
@@ -57,15 +57,15 @@ const SKEWED: [Row<'static>; 6] = [
     Row(6, 90, None, &[3, 1, 4]),
 ];
 
-/// A history, two commits of it, their merge bases in order, and the pops where they are worked out.
+/// A history, two of its commits, their merge bases in order, and the number of pops.
 type Worked = (&'static [Row<'static>], u8, u8, &'static [u8], Option<u128>);
 
-/// What lies below the base of this one is not looked up.
+/// Nothing below the base of this row is looked up.
 const TO_NEAR: Worked = (&NEAR, 4, 5, &[3], Some(4));
 
 static WORKED: [Worked; 9] = [
     (&OLDER_CHILD, 3, 4, &[2], Some(7)),
-    // The source lacks both.
+    // The source has neither.
     (&OLDER_CHILD, 8, 9, &[], Some(0)),
     TO_NEAR,
     (&CRISS_CROSS, 4, 4, &[4], Some(0)),
@@ -76,7 +76,7 @@ static WORKED: [Worked; 9] = [
     (&OLD_PATH, 6, 7, &[5], None),
 ];
 
-/// Whether `counted` answers these bases, with these pops where they are known.
+/// Tests whether `counted` returns these bases, and this number of pops if it is known.
 fn counts<S: Find>(alloc: Global, graph: &mut Graph<S, Commit<Flags>>, worked: &Worked) -> bool {
     match counted(alloc, id(worked.1), &[id(worked.2)], graph) {
         Ok((found, made)) => {
@@ -86,7 +86,8 @@ fn counts<S: Find>(alloc: Global, graph: &mut Graph<S, Commit<Flags>>, worked: &
     }
 }
 
-/// Whether the call answers alike on a fresh graph, and on one that a call the other way round left.
+/// Tests whether the call has the same answer on a new graph, and on one that a call the other way
+/// round left.
 fn counts_alike(
     alloc: Global,
     graph: &mut Graph<MemorySource, Commit<Flags>>,
@@ -102,7 +103,7 @@ fn is_counted(alloc: Global, worked: &Worked) -> Result<bool, AllocError> {
     Ok(counts_alike(alloc, &mut graph, worked))
 }
 
-/// The number of the first row that is not counted so.
+/// Returns the index of the first row that is counted otherwise.
 fn first_miscounted(alloc: Global) -> Result<Option<usize>, AllocError> {
     for (i, worked) in WORKED.iter().enumerate() {
         if !is_counted(alloc, worked)? {
@@ -112,7 +113,7 @@ fn first_miscounted(alloc: Global) -> Result<Option<usize>, AllocError> {
     Ok(None)
 }
 
-/// Whether the walk to a near base leaves the far end of the line alone.
+/// Tests whether the walk to a near base does not look up the far end of the line.
 fn stays_near(alloc: Global, graph: &mut Graph<Failing<MemorySource>, Commit<Flags>>) -> bool {
     counts(alloc, graph, &TO_NEAR)
         && graph.source().faults() == 0
@@ -120,7 +121,7 @@ fn stays_near(alloc: Global, graph: &mut Graph<Failing<MemorySource>, Commit<Fla
         && !graph.contains(&id(1))
 }
 
-/// The same, over a source that fails for the far end.
+/// Tests it over a source that fails for the far end.
 fn leaves_the_far_end(alloc: Global) -> Result<bool, AllocError> {
     let inner = source_of(alloc, &NEAR)?;
     let source = Failing::new(inner, Turn::For(id(1)), FindFault::Failed, 0);
@@ -135,14 +136,15 @@ fn pops_of_worked_histories(rt: HostRuntime) -> Result<(), Fail> {
     Ok(())
 }
 
-/// Two commits of the history with an older child, what painting finds, in any order, and its pops.
+/// Two commits of the history with an older child, what painting finds, in any order, and the
+/// number of pops.
 static PAINTED: [(u8, u8, &[u8], u128); 2] = [
     (3, 4, &[1, 2], 7),
-    // The source lacks both.
+    // The source has neither.
     (8, 9, &[], 0),
 ];
 
-/// Whether painting finds what each row says, with its pops.
+/// Tests whether painting finds what each row says, with its number of pops.
 fn paints(alloc: Global, graph: &mut Graph<MemorySource, Commit<Flags>>) -> bool {
     for (first, other, wanted, pops) in &PAINTED {
         let is_painted = match paint(alloc, id(*first), &[id(*other)], graph) {
@@ -167,21 +169,22 @@ fn painting_by_itself(rt: HostRuntime) -> Result<(), Fail> {
     Ok(())
 }
 
-/// Each call by itself, where each look-up and each request for memory is refused in turn.
+/// Each call by itself, while each look-up and each allocation fails in turn.
 static HOSTILE: [Question; 13] = [
     Question(Counted, &CRISS_CROSS, 4, &[5], &[2, 3]),
     Question(Counted, &SKEWED, 5, &[6], &[4, 3]),
     Question(Paint, &CRISS_CROSS, 4, &[5], &[2, 3]),
     Question(Paint, &OLDER_CHILD, 3, &[4], &[1, 2]),
     Question(Reduce, &OLDER_CHILD, 9, &[1, 2, 9], &[2, 9]),
-    // The ends of a line, all of it, and two of one generation with one below both.
+    // The ends of a line, all of it, and two commits with one generation number and a common
+    // ancestor.
     Question(Reduce, &NEAR, 9, &[1, 4], &[4]),
     Question(Reduce, &NEAR, 9, &[2, 4, 1, 3, 4], &[4]),
     Question(Reduce, &NEAR, 9, &[5, 2, 4], &[5, 4]),
     Question(Reduce, &NEAR_BY_GENERATION, 9, &[1, 4], &[4]),
     Question(Reduce, &NEAR_BY_GENERATION, 9, &[2, 4, 1, 3, 4], &[4]),
     Question(Reduce, &NEAR_BY_GENERATION, 9, &[5, 2, 4], &[5, 4]),
-    // One generation for a line, and a greater one for a root.
+    // One generation number for a line, and a greater one for a root.
     Question(Reduce, &SKEWED, 9, &[1, 4, 3], &[4, 3]),
     Question(Reduce, &SKEWED, 9, &[4, 2, 6, 5], &[6, 5]),
 ];

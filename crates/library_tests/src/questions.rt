@@ -1,4 +1,4 @@
-//! Questions of the calls of `merge_base`, as tables have them.
+//! Questions for the calls of `merge_base`, in tables.
 
 use fixtures::faults::{Answered, Asks};
 use fixtures::histories::{Row, are, id, ids, source_of};
@@ -19,13 +19,13 @@ pub enum Call {
     Octopus,
     OctopusBases,
     Paint,
-    /// Of the others alone.
+    /// Takes the others alone.
     Reduce,
-    /// Of the first and one other: the answer is the first where the other reaches it.
+    /// Takes the first and one other. The answer is the first if the other reaches it.
     Ancestor,
 }
 
-/// A call: the function, the history, the first id, the others, and the ids of the answer in order, but
+/// A call: the function, the history, the first id, the others, and the ids of the answer in order;
 /// those of painting in any order.
 #[derive(Clone, Copy)]
 pub struct Question(
@@ -36,7 +36,7 @@ pub struct Question(
     pub &'static [u8],
 );
 
-/// Whether these are the ids of the digits, in order.
+/// Tests whether these are the ids of the digits, in order.
 pub fn are_bases<A: Allocator>(found: &Option<NonEmpty<ObjectId, A>>, digits: &[u8]) -> bool {
     let Some(list) = found else {
         return digits.is_empty();
@@ -49,7 +49,7 @@ pub fn are_bases<A: Allocator>(found: &Option<NonEmpty<ObjectId, A>>, digits: &[
     list.len() == digits.len()
 }
 
-/// Whether these are the ids of the digits, in any order, each once.
+/// Tests whether these are the ids of the digits, in any order, each once.
 pub fn are_set(list: &[ObjectId], digits: &[u8]) -> bool {
     for digit in digits {
         if !list.contains(&id(*digit)) {
@@ -59,7 +59,7 @@ pub fn are_set(list: &[ObjectId], digits: &[u8]) -> bool {
     list.len() == digits.len()
 }
 
-/// Whether this is the id of the digit, or none where there is no digit.
+/// Tests whether this is the id of the digit, or `None` without a digit.
 pub fn is_one(found: Option<ObjectId>, digits: &[u8]) -> bool {
     match digits.first() {
         Some(digit) => found == Some(id(*digit)),
@@ -67,7 +67,7 @@ pub fn is_one(found: Option<ObjectId>, digits: &[u8]) -> bool {
     }
 }
 
-/// Whether it is answered that the only one of the others reaches the first.
+/// Tests whether the call answers that the only other id reaches the first.
 fn is_reached<S: Find, A: Allocator + Copy>(
     alloc: A,
     graph: &mut Graph<S, Commit<Flags, A>, A>,
@@ -80,7 +80,7 @@ fn is_reached<S: Find, A: Allocator + Copy>(
     }
 }
 
-/// Whether the answer is the one of the question, whose others these are.
+/// Tests whether the answer is that of the question with these others.
 fn is_right<S: Find, A: Allocator + Copy>(
     alloc: A,
     graph: &mut Graph<S, Commit<Flags, A>, A>,
@@ -120,8 +120,8 @@ impl Asks for Question {
     }
 }
 
-/// Whether the call of a question is refused with this text, or not at all where there is none, over a source that fails at
-/// each such turn.
+/// Tests whether the call of a question fails with this text, or succeeds without one, over a
+/// source that fails at each such turn.
 pub fn is_refused_with(
     alloc: Global,
     question: &Question,

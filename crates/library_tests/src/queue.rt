@@ -1,14 +1,14 @@
-//! The queue at work, each call once, and refused memory.
+//! The queue: each call once, and failing allocations.
 
 use gix_revision::PriorityQueue;
 use refusing::Refusing;
 use std::alloc::{AllocError, Allocator, Global};
 use std::test::Fail;
 
-/// What is put in. Two have one key.
+/// The pairs that are added. Two have the same key.
 const PAIRS: [(u8, char); 4] = [(2, 'b'), (9, 'i'), (2, 'c'), (5, 'e')];
 
-/// A queue of the pairs.
+/// Makes a queue of the pairs.
 fn filled<A: Allocator>(alloc: A) -> Result<PriorityQueue<u8, char, A>, AllocError> {
     let mut queue = PriorityQueue::new(alloc);
     for (key, value) in PAIRS {
@@ -19,7 +19,7 @@ fn filled<A: Allocator>(alloc: A) -> Result<PriorityQueue<u8, char, A>, AllocErr
     Ok(queue)
 }
 
-/// How often a value comes.
+/// Returns how often a value occurs.
 fn times<A: Allocator>(queue: &PriorityQueue<u8, char, A>, value: char) -> u8 {
     let mut times: u8 = 0;
     for one in queue.iter_unordered() {
@@ -30,7 +30,7 @@ fn times<A: Allocator>(queue: &PriorityQueue<u8, char, A>, value: char) -> u8 {
     times
 }
 
-/// Whether it has each value of the pairs once, and nothing more.
+/// Tests whether a queue has each value of the pairs once, and nothing else.
 fn has_each_once<A: Allocator>(queue: &PriorityQueue<u8, char, A>) -> bool {
     for (_, value) in PAIRS {
         if times(queue, value) != 1 {
@@ -40,7 +40,7 @@ fn has_each_once<A: Allocator>(queue: &PriorityQueue<u8, char, A>) -> bool {
     queue.len() == 4 && !queue.is_empty()
 }
 
-/// Whether it gives up the pairs from the greatest key on.
+/// Tests whether a queue pops the pairs by falling key.
 fn falls(queue: &mut PriorityQueue<u8, char>) -> bool {
     let greatest = queue.pop();
     let next = queue.pop_value();
@@ -54,13 +54,13 @@ fn falls(queue: &mut PriorityQueue<u8, char>) -> bool {
         && queue.is_empty()
 }
 
-/// Whether the queue has all pairs and gives them up.
+/// Tests whether the queue has all pairs and pops them.
 fn works(alloc: Global) -> Result<bool, AllocError> {
     let mut queue = filled(alloc)?;
     Ok(has_each_once(&queue) && falls(&mut queue))
 }
 
-/// Whether a pair that finds no room comes back, and nothing is in the queue then.
+/// Tests whether a pair comes back if there is no room for it, and the queue is then empty.
 fn hands_back(alloc: Global) -> bool {
     let refusing = Refusing::new(alloc, 0);
     let mut queue = PriorityQueue::new(&refusing);

@@ -1,4 +1,4 @@
-//! Sources at work: each call once, a commit that comes late, and memory refused.
+//! Sources: each call once, a commit that is added late, and failing allocations.
 
 use crate::graphs::{FIRST, LINE};
 use crate::questions::are_bases;
@@ -13,24 +13,24 @@ use std::test::Fail;
 /// Another commit under the id of the first of the line.
 const OTHER: Row<'static> = Row(1, 8, Some(1), &[]);
 
-/// Whether the commit is that of the row.
+/// Tests whether the commit is that of the row.
 fn is_row<A: Allocator>(commit: &SourceCommit<A>, row: Row<'_>) -> bool {
     are(&commit.parents, row.3) && commit.time == row.1 && commit.generation == row.2
 }
 
-/// What became of a commit that was put into a source.
+/// What became of a commit that was added to a source.
 #[derive(Clone, Copy, PartialEq)]
 enum Put {
     In,
-    /// It came back: its id is there already.
+    /// It came back, because its id was known.
     Back,
-    /// It came back: there was no memory.
+    /// It came back, because there was no memory.
     BackForMemory,
     /// Another commit came back.
     Changed,
 }
 
-/// Why the commit of the row came back.
+/// Returns why the commit of the row came back.
 fn why_back<A: Allocator>(refused: &InsertError<A>, row: Row<'_>) -> Put {
     match refused {
         InsertError::AlreadyThere(commit) if is_row(commit, row) => Put::Back,
@@ -39,7 +39,7 @@ fn why_back<A: Allocator>(refused: &InsertError<A>, row: Row<'_>) -> Put {
     }
 }
 
-/// Puts the commit of a row in.
+/// Adds the commit of a row.
 fn put_in<A: Allocator + Copy>(
     source: &mut MemorySource<A>,
     alloc: A,
@@ -52,7 +52,7 @@ fn put_in<A: Allocator + Copy>(
     })
 }
 
-/// Whether the source finds the commit of the row, by both calls.
+/// Tests whether the source finds the commit of the row, by both calls.
 fn finds(source: &mut MemorySource, alloc: Global, row: Row<'_>) -> bool {
     let is_got = match source.get(alloc, id(row.0)) {
         Ok(Some(commit)) => is_row(&commit, row),
@@ -65,7 +65,7 @@ fn finds(source: &mut MemorySource, alloc: Global, row: Row<'_>) -> bool {
         }
 }
 
-/// Whether the source finds all commits of the line, and not what was not put in.
+/// Tests whether the source finds all commits of the line, and no other.
 fn finds_the_line(source: &mut MemorySource, alloc: Global) -> bool {
     for row in LINE {
         if !finds(source, alloc, *row) {
@@ -75,14 +75,14 @@ fn finds_the_line(source: &mut MemorySource, alloc: Global) -> bool {
     matches!(source.find(alloc, id(9)), Ok(None)) && source.faults() == 0
 }
 
-/// Whether a source keeps the first commit of an id, and lacks what was not put in.
+/// Tests whether a source keeps the first commit of an id, and has no commit that was not added.
 fn keeps_the_first(alloc: Global) -> Result<bool, AllocError> {
     let mut source = source_of(alloc, LINE)?;
     Ok(put_in(&mut source, alloc, OTHER) == Ok(Put::Back) && finds_the_line(&mut source, alloc))
 }
 
-/// Whether of two commits of one id the first comes back for want of memory, and the other is put in, where the second
-/// request for memory is refused.
+/// Tests two commits of one id while the second allocation fails. The first comes back because
+/// there is no memory, and the other is added.
 fn comes_back_for_memory(alloc: Global) -> bool {
     let refusing = Refusing::new(alloc, 1);
     let mut source = MemorySource::new(&refusing);
@@ -90,16 +90,17 @@ fn comes_back_for_memory(alloc: Global) -> bool {
         && put_in(&mut source, &refusing, OTHER) == Ok(Put::In)
 }
 
-/// A call on a graph over the source of the line, and what comes of it.
+/// A call on a graph over the source of the line, and its result.
 #[derive(Clone, Copy)]
 enum Step {
     /// Two commits, and their bases.
     Meet(u8, u8, &'static [u8]),
-    /// A commit is put in.
+    /// A commit is added.
     Put(Row<'static>, Put),
 }
 
-/// The parent that the line lacks comes after two walks met its children; it is met by the next one, and stays.
+/// The missing parent of the line is added after two walks met its children. The next walk meets
+/// it, and so do later ones.
 static STEPS: [Step; 8] = [
     Step::Meet(3, 1, &[1]),
     Step::Meet(3, 9, &[]),
@@ -113,7 +114,7 @@ static STEPS: [Step; 8] = [
 
 type MarkedGraph = Graph<MemorySource, Commit<Flags>>;
 
-/// Puts the commit of a row into the source of a graph.
+/// Adds the commit of a row to the source of a graph.
 fn put_late(graph: &mut MarkedGraph, alloc: Global, row: Row<'_>) -> Result<Put, AllocError> {
     let commit = commit_of(alloc, row)?;
     Ok(match graph.insert(id(row.0), commit) {
@@ -122,7 +123,7 @@ fn put_late(graph: &mut MarkedGraph, alloc: Global, row: Row<'_>) -> Result<Put,
     })
 }
 
-/// Whether the bases of two commits are those of the digits.
+/// Tests whether the bases of two commits are those of the digits.
 fn meets(graph: &mut MarkedGraph, alloc: Global, (first, other): (u8, u8), bases: &[u8]) -> bool {
     match merge_base(alloc, id(first), &[id(other)], graph) {
         Ok(found) => are_bases(&found, bases),
@@ -130,7 +131,7 @@ fn meets(graph: &mut MarkedGraph, alloc: Global, (first, other): (u8, u8), bases
     }
 }
 
-/// Whether the steps do what they say.
+/// Tests whether the steps do what they say.
 fn are_done(graph: &mut MarkedGraph, alloc: Global) -> bool {
     for step in &STEPS {
         let is_done = match *step {
@@ -144,7 +145,7 @@ fn are_done(graph: &mut MarkedGraph, alloc: Global) -> bool {
     true
 }
 
-/// The same, on a new graph.
+/// Tests the steps on a new graph.
 fn meets_a_late_parent(alloc: Global) -> Result<bool, AllocError> {
     let mut graph = Graph::new(alloc, source_of(alloc, LINE)?);
     Ok(are_done(&mut graph, alloc))

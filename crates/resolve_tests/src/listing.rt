@@ -1,5 +1,5 @@
-//! Lists of the commits that specs mean, pages of them, and their counts, over small histories; the same with
-//! failing look-ups and with memory refused in turn.
+//! Lists of the commits of specs, pages of them, and their counts, over small histories; also with
+//! failing look-ups and failing allocations.
 //!
 //! ```text
 //!   2---4      2       3   6
@@ -31,19 +31,20 @@ enum Of {
     ExcludeParents(u8),
 }
 
-/// What of the list is asked for.
+/// Which part of the list is asked for.
 #[derive(Clone, Copy)]
 enum Part {
     Whole,
-    /// The same by the walk that may end early.
+    /// The whole list, by the walk that may end early.
     Early,
-    /// The first so many behind the id of a digit, or of all.
+    /// The first commits after the id of a digit, or of all commits.
     Page(Option<u8>, usize),
-    /// How many there are.
+    /// How many commits there are.
     Count,
 }
 
-/// A call: the spec, the history, what is asked for, and the ids of the answer in their order, or those that it counts.
+/// A call: the spec, the history, the part that is asked for, and the ids that the answer has in
+/// order or counts.
 #[derive(Clone, Copy)]
 struct Listing(Of, &'static [Row<'static>], Part, &'static [u8]);
 
@@ -54,7 +55,7 @@ const CYCLE: [Row<'static>; 3] = [
     Row(3, 1, None, &[2]),
 ];
 
-/// A parent is listed twice, and another is not in the source.
+/// A parent is listed twice, and another one is not in the source.
 const UNEVEN: [Row<'static>; 4] = [
     Row(1, 1, None, &[]),
     Row(2, 9, Some(1), &[1, 1]),
@@ -62,7 +63,7 @@ const UNEVEN: [Row<'static>; 4] = [
     Row(6, 1, None, &[8]),
 ];
 
-/// The parent 1 comes behind its child 2, and has a greater generation.
+/// The parent 1 comes after its child 2 in the table, and has a greater generation number.
 const LATE: [Row<'static>; 3] = [
     Row(2, 2, Some(2), &[1]),
     Row(1, 1, Some(5), &[]),
@@ -92,13 +93,13 @@ static WORKED: [Listing; 38] = [
     Listing(Of::Merge(2, 9), &CRISS_CROSS, Part::Whole, &[1, 2]),
     Listing(Of::IncludeOnlyParents(9), &CRISS_CROSS, Part::Whole, &[]),
     Listing(Of::ExcludeParents(9), &CRISS_CROSS, Part::Whole, &[]),
-    // Cycles, parents that are listed twice, and parents that the source lacks.
+    // Cycles, repeated parents, and parents that the source does not have.
     Listing(Of::Include(1), &CYCLE, Part::Whole, &[1, 2]),
     Listing(Of::Range(1, 3), &CYCLE, Part::Whole, &[3]),
     Listing(Of::IncludeOnlyParents(2), &CYCLE, Part::Whole, &[1, 2]),
     Listing(Of::Include(3), &UNEVEN, Part::Whole, &[1, 2, 3]),
     Listing(Of::IncludeOnlyParents(6), &UNEVEN, Part::Whole, &[]),
-    // A generation rises: none of what lies below the hidden commit is listed.
+    // A generation number rises. Nothing below the hidden commit is listed.
     Listing(Of::Range(2, 3), &RISING, Part::Whole, &[3]),
     Listing(Of::Range(2, 3), &RISING, Part::Early, &[3]),
     Listing(Of::Range(2, 3), &LATE, Part::Early, &[3]),
@@ -118,7 +119,7 @@ static WORKED: [Listing; 38] = [
         Part::Page(Some(4), usize::MAX),
         &[5],
     ),
-    // Counts, a row for each form, and one each of a commit that the source lacks.
+    // Counts, a row for each form, and one each for a commit that the source does not have.
     Listing(Of::Include(5), &CRISS_CROSS, Part::Count, &[1, 2, 3, 5]),
     Listing(Of::Range(3, 5), &CRISS_CROSS, Part::Count, &[2, 5]),
     Listing(Of::Merge(4, 5), &CRISS_CROSS, Part::Count, &[4, 5]),
@@ -135,7 +136,7 @@ static WORKED: [Listing; 38] = [
     Listing(Of::ExcludeParents(9), &CRISS_CROSS, Part::Count, &[]),
 ];
 
-/// Two near commits with generations, of which no more is looked up than what lies between.
+/// Two near commits with generation numbers. Only what is between them is looked up.
 static NEAR: [Listing; 6] = [
     Listing(Of::Range(4, 6), &BRANCHES, Part::Early, &[5, 6]),
     Listing(Of::Range(6, 4), &BRANCHES, Part::Early, &[]),
@@ -162,7 +163,7 @@ fn spec_of(of: Of) -> Spec {
     }
 }
 
-/// Whether the answer is the one of the call.
+/// Tests whether the answer is that of the call.
 fn is_right<S: Find, A: Allocator + Copy>(
     alloc: A,
     graph: &mut Graph<S, Commit<Flags, A>, A>,
@@ -200,7 +201,8 @@ impl Asks for Listing {
     }
 }
 
-/// Whether the next page of so many is what is left of a list, or its beginning, and how many it has; none where it is not.
+/// Compares the next page with what is left of a list, and returns its length. Returns `None` if
+/// the page is not the beginning of what is left.
 fn next_page(
     alloc: Global,
     graph: &mut Graph<MemorySource, Commit<Flags>>,
@@ -214,7 +216,8 @@ fn next_page(
     }
 }
 
-/// Whether the pages of so many, each begun behind the last id of the one before, make up a list.
+/// Tests whether pages of this size make up a list. Each begins after the last id of the page
+/// before it.
 fn pages_join(
     alloc: Global,
     graph: &mut Graph<MemorySource, Commit<Flags>>,
@@ -237,7 +240,7 @@ fn pages_join(
     false
 }
 
-/// Whether the pages of one to four make up the list of a call.
+/// Tests whether the pages of one to four make up the list of a call.
 fn all_join(alloc: Global, graph: &mut Graph<MemorySource, Commit<Flags>>, spec: &Spec) -> bool {
     match commits(alloc, spec, graph) {
         Ok(list) => {
@@ -255,7 +258,7 @@ fn is_joined(alloc: Global, call: &Listing) -> Result<bool, AllocError> {
     Ok(all_join(alloc, &mut graph, &spec_of(call.0)))
 }
 
-/// The number of the first call whose pages of one to four do not make up its list.
+/// Returns the index of the first call whose pages of one to four do not make up its list.
 fn first_unjoined(alloc: Global) -> Result<Option<usize>, AllocError> {
     for (i, call) in WORKED.iter().enumerate() {
         if !is_joined(alloc, call)? {

@@ -1,5 +1,5 @@
-//! What some commits reach and some others do not, listed and counted, and commits in order, over small
-//! histories; the same with failing look-ups and with memory refused in turn.
+//! What some commits reach and others do not, listed and counted, and commits in order, over small
+//! histories; also with failing look-ups and failing allocations.
 
 use fixtures::faults::{Answered, Asks, first_lost, first_wrong};
 use fixtures::histories::{CRISS_CROSS, Row, are, id, ids};
@@ -13,11 +13,11 @@ use std::test::Fail;
 /// Which function is called.
 #[derive(Clone, Copy)]
 enum Call {
-    /// The ids, and how many they are.
+    /// The ids, and their number.
     Reachable,
-    /// Both counts, of the first ids of each side.
+    /// Both counts, for the first ids of each side.
     AheadBehind,
-    /// Of the first side alone.
+    /// The first side alone, in order.
     Newest,
 }
 
@@ -31,7 +31,7 @@ struct Reaching(
     &'static [u8],
 );
 
-/// Two branches, with generations:
+/// Two branches, with generation numbers:
 ///
 /// ```text
 /// 1---2---3---4---5---6
@@ -66,7 +66,7 @@ static WORKED: [Reaching; 22] = [
     Reaching(Call::Reachable, &CRISS_CROSS, &[], &[4], &[]),
     Reaching(Call::Reachable, &BRANCHES, &[8, 4], &[3], &[4, 7, 8]),
     Reaching(Call::Reachable, &BRANCHES, &[3], &[6], &[]),
-    // A generation rises: what the other side reaches below may be listed.
+    // A generation number rises. What the other side reaches below it may be listed.
     Reaching(Call::Reachable, &RISING, &[3], &[2], &[1, 3]),
     Reaching(Call::AheadBehind, &CRISS_CROSS, &[4], &[5], &[1, 1]),
     Reaching(Call::AheadBehind, &CRISS_CROSS, &[5], &[2], &[2, 0]),
@@ -83,7 +83,7 @@ static WORKED: [Reaching; 22] = [
         &[4, 5, 2, 3, 1],
     ),
     Reaching(Call::Newest, &CRISS_CROSS, &[], &[], &[]),
-    // The generation decides, then the time, and then the id.
+    // The generation number decides, then the time, then the id.
     Reaching(
         Call::Newest,
         &BRANCHES,
@@ -95,14 +95,14 @@ static WORKED: [Reaching; 22] = [
     Reaching(Call::Newest, &BRANCHES, &[9], &[], &[]),
 ];
 
-/// Three near commits, of which no more is looked up than what lies between.
+/// Three near commits. Only what is between them is looked up.
 static NEAR: [Reaching; 3] = [
     Reaching(Call::Reachable, &BRANCHES, &[6], &[4], &[5, 6]),
     Reaching(Call::Reachable, &BRANCHES, &[4], &[6], &[]),
     Reaching(Call::AheadBehind, &BRANCHES, &[5], &[6], &[0, 1]),
 ];
 
-/// Whether these are the ids, and so many are counted.
+/// Tests whether these are the ids, and this many are counted.
 fn are_reached<S: Find, A: Allocator + Copy>(
     alloc: A,
     graph: &mut Graph<S, Commit<Flags, A>, A>,
@@ -114,7 +114,7 @@ fn are_reached<S: Find, A: Allocator + Copy>(
     Ok(are(&found, digits) && count == digits.len())
 }
 
-/// Whether these are the two counts.
+/// Tests whether these are the two counts.
 fn are_counts<S: Find, A: Allocator + Copy>(
     alloc: A,
     graph: &mut Graph<S, Commit<Flags, A>, A>,
@@ -131,7 +131,7 @@ fn are_counts<S: Find, A: Allocator + Copy>(
     })
 }
 
-/// Whether the answer is the one of the call, whose sides these are.
+/// Tests whether the answer is that of the call with these sides.
 fn is_right<S: Find, A: Allocator + Copy>(
     alloc: A,
     graph: &mut Graph<S, Commit<Flags, A>, A>,

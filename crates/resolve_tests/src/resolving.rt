@@ -1,4 +1,4 @@
-//! Revision texts resolved over worked histories, where look-ups fail, and where memory is refused.
+//! Revisions that are resolved over small histories, with failing look-ups and failing allocations.
 
 use crate::texts::{AMBIGUOUS, CROSSED, Case, NAMES_FIRST, Order, ROUNDS};
 use fixtures::faults::{Answered, Asks, refusals};
@@ -20,7 +20,7 @@ const NOW: Time = Time {
     offset: 0,
 };
 
-// The ids of the history, and those beside it.
+// Returns the ids of the history, and the other ids of the case.
 fn ids_of<A: Allocator + Copy>(alloc: A, case: &Case) -> Result<BTreeSet<ObjectId, A>, AllocError> {
     let mut ids = BTreeSet::new(alloc);
     for row in case.history {
@@ -49,7 +49,7 @@ fn table_of<A: Allocator + Copy>(alloc: A, case: &Case) -> Result<Table<A>, Allo
     Ok(Table { names, ids })
 }
 
-// What the resolver said, where it refused.
+// Adds what the resolver said, if it refused.
 fn add_refusal(before: &str, refusal: &Option<Exn>, line: &mut Vec<u8>) -> Result<(), AllocError> {
     if let Some(refusal) = refusal {
         line.extend_from_slice(before.as_bytes())?;
@@ -58,7 +58,7 @@ fn add_refusal(before: &str, refusal: &Option<Exn>, line: &mut Vec<u8>) -> Resul
     Ok(())
 }
 
-// What was answered, as rows have it.
+// Adds the answer, in the form of rows.
 fn add_answer(
     alloc: Global,
     answer: &Result<Spec, Error<'_>>,
@@ -88,7 +88,7 @@ fn add_answer(
     }
 }
 
-// Whether that was answered.
+// Tests whether this was the answer.
 fn is_written(
     alloc: Global,
     answer: &Result<Spec, Error<'_>>,
@@ -122,7 +122,7 @@ fn judged(
     })
 }
 
-/// A text of a case, and what is wanted of it.
+/// A text of a case, and the expected answer.
 #[derive(Clone, Copy)]
 struct Wanted<'t> {
     case: &'static Case,
@@ -150,7 +150,7 @@ impl Asks for Wanted<'_> {
     }
 }
 
-/// Whether a text survives each fault and each refused request.
+/// Tests whether a text survives each failing look-up and allocation.
 fn survives(
     alloc: Global,
     case: &'static Case,
@@ -166,7 +166,7 @@ fn survives(
     Ok(refusals(alloc, &wanted)?.is_some())
 }
 
-/// The first row of a case that does not survive them.
+/// Returns the first row of a case that does not survive them.
 fn first_wrong(alloc: Global, case: &'static Case) -> Result<Option<&'static str>, AllocError> {
     for row in case.rows.lines() {
         if !survives(

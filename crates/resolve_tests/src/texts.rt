@@ -1,20 +1,20 @@
-//! Texts over worked histories, and what they are resolved to.
+//! Revisions over small histories, and what they resolve to.
 
 use fixtures::histories::{CRISS_CROSS, Row};
 use gix_revision::hash::ObjectId;
 
-/// What is tried first on a name that could be digits of an id.
+/// Which wins if a name could be an abbreviated id.
 #[derive(Clone, Copy)]
 pub enum Order {
-    /// The digits: `resolve`.
+    /// The abbreviated id: `resolve`.
     DigitsFirst,
-    /// The name: `rev_parse`.
+    /// The ref: `rev_parse`.
     NamesFirst,
 }
 
-/// The order, a history, names and the digits of their ids, ids of the table beside those of the history,
-/// and rows. A row is a text and what it is resolved to: a spec, or the number of a refusal, the part of
-/// the text that it names in round brackets, and what the resolver said.
+/// The order, a history, names and the digits of their ids, further ids of the table, and rows. A
+/// row is a text and what it resolves to: a spec; or the number of a fault, in round brackets the
+/// part of the text, and what the resolver said.
 pub struct Case {
     pub order: Order,
     pub history: &'static [Row<'static>],
@@ -80,7 +80,7 @@ main@{u} => P20 (u) not supported here
 ",
 };
 
-/// A second id begins as the first does.
+/// A second id begins like the first.
 pub static AMBIGUOUS: Case = Case {
     order: Order::DigitsFirst,
     history: &CRISS_CROSS,
@@ -121,7 +121,7 @@ pub static ROUNDS: Case = Case {
 ",
 };
 
-/// Names that could be digits: of an id, of another one or of none, of two ids.
+/// Names that could be an abbreviated id: of one id, of another or of none, of two ids.
 pub static NAMES_FIRST: Case = Case {
     order: Order::NamesFirst,
     history: &CRISS_CROSS,

@@ -1,5 +1,6 @@
-//! Texts with braces: dates, entries, siblings, targets and searches, with the calls that they make and the fault of
-//! each refused call; the braces alone; and want of memory where an escape is taken out.
+//! Revisions with braces: dates, entries, siblings, targets and searches, with the calls that they
+//! make and the fault of each refused call; the braces alone; and failing allocations while an
+//! escape is removed.
 
 use crate::calls::{first_wrong, makes};
 use crate::cut_short::first_lost;
@@ -9,7 +10,7 @@ use std::alloc::{AllocError, Allocator, Global};
 use std::borrow::CowSlice;
 use std::test::Fail;
 
-/// Rows as `calls` reads them.
+/// Rows in the form of `calls`.
 const ROWS: &str = "\
 @~3^2^{tree} => find_ref(HEAD) or P2; ancestor(3) or P24 (3^2^{tree}); parent(2) or P24 (2^{tree}); \
     peel(tree) or P25 ({tree}); done or P5
@@ -110,8 +111,8 @@ fn memory_is_wanted_for_escapes_alone(rt: HostRuntime) -> Result<(), Fail> {
     Ok(())
 }
 
-/// A text that begins with braces, what they hold, what is left, and whether what they hold is borrowed: where no escape
-/// is taken out.
+/// A text that begins with braces, what they hold, what is left, and whether what they hold is
+/// borrowed: it is if no escape is removed.
 type Row = (&'static [u8], &'static [u8], &'static [u8], bool);
 
 static BRACED: [Row; 6] = [
@@ -123,7 +124,7 @@ static BRACED: [Row; 6] = [
     (b"{\\{\\}{\\\\}}^", b"{}{\\}", b"^", false),
 ];
 
-// Whether what was read is that of the row: what the braces hold, what is left, and how long they are.
+// Tests whether the braces hold what the row says, what is left, and how long they are.
 fn is_of<A: Allocator>(
     (held, rest, taken): &(CowSlice<'_, u8, A>, &[u8], usize),
     (text, inner, left, borrows): Row,
@@ -134,12 +135,12 @@ fn is_of<A: Allocator>(
         && matches!(held, CowSlice::Borrowed(_)) == borrows
 }
 
-/// What comes of reading the braces that a text begins with.
+/// The result of reading the braces at the beginning of a text.
 #[derive(Clone, Copy, PartialEq)]
 enum Came {
     /// What the row says.
     Held,
-    /// It begins with none.
+    /// The text does not begin with braces.
     Nothing,
     Unclosed,
     OutOfMemory,
@@ -161,8 +162,8 @@ fn came_of<A: Allocator + Copy>(alloc: A, row: Row) -> Came {
     }
 }
 
-// Whether each request for memory that is refused in turn refuses a braced text, which is then held; there is such a
-// request just where nothing is borrowed.
+// Tests whether each failed allocation is reported, and the text is then read. There is an
+// allocation exactly if nothing is borrowed.
 fn is_held(alloc: Global, row: Row) -> bool {
     for before in 0..100u64 {
         let refusing = Refusing::new(alloc, before);
@@ -177,7 +178,7 @@ fn is_held(alloc: Global, row: Row) -> bool {
     false
 }
 
-// The first braced text that is not held so.
+// Returns the first text that is read otherwise.
 fn first_unheld(alloc: Global) -> Option<&'static [u8]> {
     for row in &BRACED {
         if !is_held(alloc, *row) {
@@ -187,7 +188,7 @@ fn first_unheld(alloc: Global) -> Option<&'static [u8]> {
     None
 }
 
-/// Texts that begin with no brace, and ones whose first brace never closes.
+/// Texts that do not begin with a brace, and texts whose first brace never closes.
 static UNBRACED: [(&[u8], Came); 5] = [
     (b"a{b}", Came::Nothing),
     (b"", Came::Nothing),
@@ -211,7 +212,7 @@ fn braces_are_read_alone(rt: HostRuntime) {
     assert!(rt; are_refused(rt.alloc()));
 }
 
-// `main^{/`, so many opening braces, as many closing ones, and perhaps the last one.
+// Makes the text `main^{/`, opening braces, as many closing ones, and perhaps the last one.
 fn nested(alloc: Global, depth: usize, closed: bool) -> Result<Vec<u8>, AllocError> {
     let mut text = b"main^{/".to_vec(alloc)?;
     text.extend_from_slice(&b"{".repeat(alloc, depth)?)?;
@@ -219,7 +220,8 @@ fn nested(alloc: Global, depth: usize, closed: bool) -> Result<Vec<u8>, AllocErr
     Ok(text)
 }
 
-// Whether a text makes these calls, between whose first and last words a part of it stands.
+// Tests whether a text makes these calls, with a part of the text between their first and last
+// words.
 fn tells(
     alloc: Global,
     text: &[u8],
@@ -232,7 +234,7 @@ fn tells(
     makes(alloc, text, &want)
 }
 
-// The regex that they hold is told.
+// Tests whether the delegate gets the regex in the braces.
 fn is_regex_told(alloc: Global, depth: usize) -> Result<bool, AllocError> {
     let closed = nested(alloc, depth, true)?;
     let regex = closed.get(7..closed.len().saturating_sub(1));
@@ -244,7 +246,7 @@ fn is_regex_told(alloc: Global, depth: usize) -> Result<bool, AllocError> {
     )
 }
 
-// The pair never closes.
+// Tests whether a pair that never closes is refused.
 fn is_refused(alloc: Global, depth: usize) -> Result<bool, AllocError> {
     let open = nested(alloc, depth, false)?;
     tells(

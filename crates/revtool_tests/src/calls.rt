@@ -1,16 +1,19 @@
-//! What texts make of a delegate: rows of calls, each of which is refused in turn, and wants memory in turn.
+//! Compares the calls that revisions make of a delegate with rows. Each call of a row is refused in
+//! turn, and runs out of memory in turn.
 //!
-//! A row is a text and the calls that it makes, as `revtool` prints them, each with the fault that its refusal is
-//! answered by:
+//! A row is a text and the calls that it makes, as `revtool` prints them. Each call has the fault
+//! that its refusal leads to:
 //!
 //! ```text
-//! main^-2 => find_ref(main) or P12 (main^-2); parent(2) or P24 (-2); kind(RangeBetween) or P1 (-2); ...
+//! main^-2 => find_ref(main) or P12 (main^-2); parent(2) or P24 (-2); ...
 //! ```
 //!
-//! Behind a fault stands the part of the text that it names, in round brackets; none where it names none. A last fault
-//! without a call is of the text itself. A call behind an exclamation mark is refused in this row, and one with `next`
-//! in place of a fault is refused in another row of the text, since something else is tried then. `[x]` stands for
-//! forty digits x, and a number sign for the byte 255.
+//! - In round brackets after a fault is the part of the text that it names, if it names one.
+//! - A last fault without a call is one of the text itself.
+//! - A call after an exclamation mark is refused in this row.
+//! - A call with `next` in place of a fault is refused in another row of the same text, because
+//!   something else is tried then.
+//! - `[x]` is forty digits x, and a number sign is the byte 255.
 
 use crate::delegate::{Answers, Told};
 use fixtures::histories::written_out;
@@ -27,7 +30,7 @@ const NOW: Time = Time {
 /// A part of a row.
 #[derive(Clone, Copy)]
 enum Step<'t> {
-    /// A call, and the fault where it is refused.
+    /// A call, and the fault if it is refused.
     Accepted(&'t str, &'t str),
     /// A call that is refused.
     Refused(&'t str),
@@ -43,7 +46,7 @@ fn step_of(part: &str) -> Step<'_> {
     }
 }
 
-/// Which call of a row is not accepted, beside those that it marks.
+/// Which call of a row is not accepted, as well as those that the row marks.
 #[derive(Clone, Copy, PartialEq)]
 pub enum Turn {
     Never,
@@ -51,7 +54,7 @@ pub enum Turn {
     WantsMemory(usize),
 }
 
-// What the delegate answers to the calls of a row.
+// Returns the answers of the delegate to the calls of a row.
 pub fn answers_of(calls: &str, turn: Turn) -> Answers {
     let mut answers = Answers::ACCEPTED;
     for (i, part) in calls.split("; ").enumerate() {
@@ -66,7 +69,7 @@ pub fn answers_of(calls: &str, turn: Turn) -> Answers {
     answers
 }
 
-// One more call, behind a semicolon and a space where it is not the first.
+// Adds a call, after a semicolon and a space if it is not the first.
 fn add_call(alloc: Global, call: &str, line: &mut Vec<u8>) -> Result<(), AllocError> {
     if !line.is_empty() {
         line.extend_from_slice(b"; ")?;
@@ -74,7 +77,7 @@ fn add_call(alloc: Global, call: &str, line: &mut Vec<u8>) -> Result<(), AllocEr
     line.extend_from_slice(&written_out(alloc, call)?)
 }
 
-// The fault of a refused call: what the delegate said at the calls from the first one to the last.
+// Adds the fault of a refused call: what the delegate said at the calls from the first to the last.
 fn add_fault(
     alloc: Global,
     fault: &str,
@@ -89,8 +92,8 @@ fn add_fault(
     Ok(())
 }
 
-/// Adds the calls of a row and how it ends, as `told_by` has them. A fault comes with what was said at the calls that were
-/// refused one behind the other up to it.
+/// Adds the calls of a row and how it ends, in the form of `told_by`. After a fault comes what the
+/// delegate said at the refused calls in a row up to it.
 fn add_wanted(
     alloc: Global,
     calls: &str,
@@ -127,7 +130,7 @@ pub fn wanted(alloc: Global, calls: &str, turn: Turn) -> Result<Vec<u8>, AllocEr
     Ok(line)
 }
 
-// What the delegate said, where it refused.
+// Adds what the delegate said, if it refused.
 fn add_refusal(refusal: &Option<Exn>, line: &mut Vec<u8>) -> Result<(), AllocError> {
     if let Some(refusal) = refusal {
         line.extend_from_slice(b" by ")?;
@@ -160,7 +163,7 @@ fn add_error(alloc: Global, error: &Error<'_>, line: &mut Vec<u8>) -> Result<(),
     add_refusal(second, line)
 }
 
-// The calls that were made, and the fault.
+// Adds the calls that were made, and the fault.
 fn add_answer(
     alloc: Global,
     calls: &[u8],
@@ -174,7 +177,7 @@ fn add_answer(
     }
 }
 
-// The calls that a text makes, and its fault.
+// Adds the calls that a text makes, and its fault.
 fn add_told<A: Allocator + Copy>(
     to: Global,
     alloc: A,
@@ -187,8 +190,8 @@ fn add_told<A: Allocator + Copy>(
     add_answer(to, told.calls(), &answer, line)
 }
 
-/// The calls that a text makes of a delegate with these answers, and its fault with what the delegate said. The parse
-/// has its memory from `alloc`.
+/// Returns the calls that a text makes of a delegate with these answers, and its fault with what
+/// the delegate said. The parse allocates in `alloc`.
 pub fn told_by<A: Allocator + Copy>(
     to: Global,
     alloc: A,
@@ -200,7 +203,7 @@ pub fn told_by<A: Allocator + Copy>(
     Ok(line)
 }
 
-// Whether that is what is wanted.
+// Tests whether a text has the expected calls and fault.
 pub fn tells<A: Allocator + Copy>(
     to: Global,
     alloc: A,
@@ -211,25 +214,26 @@ pub fn tells<A: Allocator + Copy>(
     Ok(told_by(to, alloc, answers, text)?.as_slice() == want)
 }
 
-/// Whether a text makes these calls, where all are accepted, and ends in this fault, if any.
+/// Tests whether a text makes these calls if all are accepted, and ends in this fault, if any.
 pub fn makes(alloc: Global, text: &[u8], want: &[u8]) -> Result<bool, AllocError> {
     tells(alloc, alloc, Answers::ACCEPTED, text, want)
 }
 
-/// How many calls a text makes, where all are accepted.
+/// Returns how many calls a text makes if all are accepted.
 pub fn count(alloc: Global, text: &[u8]) -> usize {
     let mut told = Told::new(alloc, Answers::ACCEPTED);
     let _ = parse(alloc, text, NOW, &mut told);
     told.count()
 }
 
-// Whether what is wanted of a row comes where one more of its calls is not accepted.
+// Tests whether a row has its result if one more of its calls is not accepted.
 fn comes(alloc: Global, text: &[u8], calls: &str, turn: Turn) -> Result<bool, AllocError> {
     let want = wanted(alloc, calls, turn)?;
     tells(alloc, alloc, answers_of(calls, turn), text, &want)
 }
 
-// Whether what a part of a row wants comes where its call is refused, and where it wants memory.
+// Tests whether a part of a row has its result if its call is refused, and if it runs out of
+// memory.
 fn part_stands(
     alloc: Global,
     text: &[u8],
@@ -246,7 +250,7 @@ fn part_stands(
     }
 }
 
-// Whether a text makes these calls, also where any one of them is refused or wants memory.
+// Tests whether a text makes these calls, also if any one of them is refused or runs out of memory.
 fn parts_stand(alloc: Global, text: &[u8], calls: &str) -> Result<bool, AllocError> {
     for (i, part) in calls.split("; ").enumerate() {
         if !part_stands(alloc, text, calls, (i.saturating_add(1), part))? {
@@ -256,7 +260,7 @@ fn parts_stand(alloc: Global, text: &[u8], calls: &str) -> Result<bool, AllocErr
     comes(alloc, text, calls, Turn::Never)
 }
 
-// The same of the text of a row.
+// Tests it for the text of a row.
 fn stands(alloc: Global, row: &str) -> Result<bool, AllocError> {
     match row.split_once(" => ") {
         Some((text, calls)) => parts_stand(alloc, &written_out(alloc, text)?, calls),
@@ -264,7 +268,7 @@ fn stands(alloc: Global, row: &str) -> Result<bool, AllocError> {
     }
 }
 
-/// The first row whose calls are not made as it says.
+/// Returns the first row whose calls differ.
 pub fn first_wrong(alloc: Global, rows: &'static str) -> Result<Option<&'static str>, AllocError> {
     for row in rows.lines() {
         if !stands(alloc, row)? {

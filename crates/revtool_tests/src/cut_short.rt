@@ -1,4 +1,4 @@
-//! Texts that are cut short since a request of the parse for memory is refused.
+//! Revisions whose parse ends because an allocation fails.
 
 use crate::calls::{Turn, answers_of, tells, told_by, wanted};
 use crate::delegate::Answers;
@@ -6,13 +6,13 @@ use fixtures::histories::written_out;
 use refusing::Refusing;
 use std::alloc::{AllocError, Global};
 
-// Whether a text has a backslash before a brace or a backslash.
+// Tests whether a text has a backslash before a brace or a backslash.
 fn has_escape(text: &[u8]) -> bool {
     text.windows(2)
         .any(|pair| pair[0] == b'\\' && b"{}\\".contains(&pair[1]))
 }
 
-// Whether a line is a beginning of the row's calls that ends for want of memory.
+// Tests whether a line is a beginning of the row's calls that ends because there is no memory.
 fn is_cut_short(line: &[u8], want: &[u8]) -> bool {
     match line.strip_suffix(b"refused P0") {
         Some(calls) => (calls.is_empty() || calls.ends_with(b"; ")) && want.starts_with(calls),
@@ -20,8 +20,8 @@ fn is_cut_short(line: &[u8], want: &[u8]) -> bool {
     }
 }
 
-// Whether a text is cut short where a request of the parse for memory is refused, and answers its row then; none where there
-// is no such request, and the text answers its row.
+// Tests whether a parse ends early if an allocation fails, and the text then has the result of its
+// row. Returns `None` if there is no such allocation and the text has the result of its row.
 fn is_cut(
     alloc: Global,
     answers: Answers,
@@ -40,7 +40,7 @@ fn is_cut(
     })
 }
 
-// Whether a text survives each such request that is refused; and whether it asks for memory just where it has an escape.
+// Tests whether a text survives each failed allocation, and allocates exactly if it has an escape.
 fn survives_refusals(
     alloc: Global,
     text: &[u8],
@@ -57,7 +57,7 @@ fn survives_refusals(
     Ok(false)
 }
 
-// The same of the text of a row.
+// Tests it for the text of a row.
 fn survives(alloc: Global, row: &str) -> Result<bool, AllocError> {
     let (text, calls) = row.split_once(" => ").unwrap_or((row, ""));
     let text = written_out(alloc, text)?;
@@ -65,7 +65,7 @@ fn survives(alloc: Global, row: &str) -> Result<bool, AllocError> {
     survives_refusals(alloc, &text, answers_of(calls, Turn::Never), &want)
 }
 
-/// The first row whose text does not survive each refused request for memory.
+/// Returns the first row whose text does not survive each failed allocation.
 pub fn first_lost(alloc: Global, rows: &'static str) -> Result<Option<&'static str>, AllocError> {
     for row in rows.lines() {
         if !survives(alloc, row)? {

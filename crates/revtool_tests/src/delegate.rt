@@ -1,4 +1,4 @@
-//! A delegate that answers some of its calls as it is told, and writes all of them down.
+//! A delegate with given answers, which writes down all calls.
 
 use gix_base::error::Exn;
 use gix_base::hash::Prefix;
@@ -13,9 +13,9 @@ use std::alloc::Global;
 /// Which calls are not accepted, by their numbers from 1 on.
 #[derive(Clone, Copy)]
 pub struct Answers {
-    /// The ones that are refused; each 0 stands for none.
+    /// The calls that are refused; 0 means none.
     refused: [usize; 3],
-    /// The one that wants memory, or 0.
+    /// The call that runs out of memory, or 0.
     pub wanting: usize,
 }
 
@@ -26,7 +26,7 @@ impl Answers {
         wanting: 0,
     };
 
-    /// The call of this number is refused, too. The last three are.
+    /// Refuses the call of this number, too. At most the last three are refused.
     pub fn refuse(&mut self, number: usize) {
         let [first, second, _] = self.refused;
         self.refused = [number, first, second];
@@ -38,7 +38,7 @@ const MESSAGES: [&str; 9] = [
     "call 1", "call 2", "call 3", "call 4", "call 5", "call 6", "call 7", "call 8", "call 9",
 ];
 
-/// Writes down each call, as `revtool` prints it, and answers as it was told.
+/// Writes down each call, as `revtool` prints it, and gives the chosen answer.
 #[derive(Drop)]
 pub struct Told {
     recorder: Recorder<Global>,
@@ -48,7 +48,7 @@ pub struct Told {
 }
 
 impl Told {
-    /// No call was made yet.
+    /// Makes a delegate without calls.
     pub fn new(alloc: Global, answers: Answers) -> Told {
         Told {
             recorder: Recorder::new(alloc, alloc),
@@ -58,17 +58,17 @@ impl Told {
         }
     }
 
-    /// The calls, parted by a semicolon and a space.
+    /// Returns the calls, separated by a semicolon and a space.
     pub fn calls(&self) -> &[u8] {
         self.recorder.calls()
     }
 
-    /// How many calls were made.
+    /// Returns how many calls were made.
     pub fn count(&self) -> usize {
         self.count
     }
 
-    // The answer to the next call, which the recorder has heard.
+    // Answers the next call, which the recorder has heard.
     fn answer(&mut self, heard: Result<(), Exn>) -> Result<(), Exn> {
         heard?;
         self.count = self.count.saturating_add(1);
@@ -82,7 +82,7 @@ impl Told {
     }
 }
 
-// What the refusal of a call says.
+// Returns the message of the refusal of a call.
 fn message_of(number: usize) -> &'static str {
     match MESSAGES.get(number.saturating_sub(1)) {
         Some(message) => *message,

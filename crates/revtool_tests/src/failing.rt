@@ -1,4 +1,4 @@
-//! What `revtool` does where its input fails or does not end, and where nothing can be written.
+//! Runs `revtool` on inputs that fail or do not end, and on outputs that fail.
 
 use crate::lines::run_over;
 use crate::rows::CRISS_CROSS;
@@ -10,7 +10,7 @@ use std::test::Fail;
 
 const UNREAD: &[u8] = b"cannot read standard input\n";
 
-/// Whether an input that fails after so many bytes can't be read.
+/// Tests whether an input that fails after some bytes is reported.
 fn fails_after(alloc: Global, count: usize) -> Result<bool, AllocError> {
     let text = written_out(alloc, CRISS_CROSS)?;
     let left = text.get(..count).unwrap_or(&text);
@@ -18,7 +18,7 @@ fn fails_after(alloc: Global, count: usize) -> Result<bool, AllocError> {
     Ok(run_over(alloc, alloc, &mut input).is(2, UNREAD))
 }
 
-/// Whether a run over so many line feeds ends with this status, and how often it read.
+/// Returns whether a run over this many line feeds ends with this status, and how often it read.
 fn line_feeds(alloc: Global, count: u64, status: u8) -> (bool, u64) {
     let mut input = LineFeeds::new(count);
     let written = if status == 2 { UNREAD } else { b"" };
@@ -26,8 +26,8 @@ fn line_feeds(alloc: Global, count: u64, status: u8) -> (bool, u64) {
     (ends, input.reads())
 }
 
-/// How many line feeds there are, the status, and how often they are read: the last read that is made
-/// finds the end, or one byte more. An input without end is read no further.
+/// The number of line feeds, the status, and the number of reads. The last possible read finds the
+/// end, or one more byte; an input without end is read no further.
 static LINE_FEEDS: [(u64, u8, u64); 4] = [
     (0, 0, 1),
     (16_777_215, 0, 16_777_216),
@@ -38,7 +38,7 @@ static LINE_FEEDS: [(u64, u8, u64); 4] = [
 /// How many bytes are read before an input fails.
 static BYTES: [usize; 3] = [0, 1, 1000];
 
-/// The first number of bytes after which an input that fails is read.
+/// Returns the first number of bytes after which a failing input is read.
 fn first_read(alloc: Global) -> Result<Option<usize>, AllocError> {
     for count in &BYTES {
         if !fails_after(alloc, *count)? {
@@ -48,7 +48,7 @@ fn first_read(alloc: Global) -> Result<Option<usize>, AllocError> {
     Ok(None)
 }
 
-/// The first number of line feeds that are not read so.
+/// Returns the first number of line feeds that are read otherwise.
 fn first_misread(alloc: Global) -> Option<u64> {
     for (count, status, reads) in &LINE_FEEDS {
         if line_feeds(alloc, *count, *status) != (true, *reads) {
@@ -65,7 +65,7 @@ fn an_input_may_fail_or_not_end(rt: HostRuntime) -> Result<(), Fail> {
     Ok(())
 }
 
-/// What is left of a run whose output fails: its status, whether the output failed, how often it was
+/// The result of a run whose output fails: its status, whether the output failed, how often it was
 /// written to after that, and whether no fault was written.
 #[derive(Clone, Copy)]
 struct Unwritten {
@@ -75,7 +75,7 @@ struct Unwritten {
     no_faults: bool,
 }
 
-/// The criss-cross, and many questions.
+/// Makes the criss-cross and many questions.
 fn many_lines(alloc: Global) -> Result<Vec<u8>, AllocError> {
     let mut text = written_out(alloc, CRISS_CROSS)?;
     for _ in 0..100u8 {
@@ -84,7 +84,7 @@ fn many_lines(alloc: Global) -> Result<Vec<u8>, AllocError> {
     Ok(text)
 }
 
-/// The answers to them, to an output that fails at the call after that many.
+/// Answers these lines to an output that fails after some calls.
 fn with_failing_output(alloc: Global, lines: &[u8], before: u64) -> Unwritten {
     let mut input = lines;
     let mut output = FailingWriter::new(before);
@@ -98,7 +98,8 @@ fn with_failing_output(alloc: Global, lines: &[u8], before: u64) -> Unwritten {
     }
 }
 
-/// The status of a run whose faults can't be written, and whether it wrote nothing else.
+/// Runs with faults that cannot be written; returns the status, and whether nothing else was
+/// written.
 fn with_failing_faults(alloc: Global, text: &[u8]) -> (u8, bool) {
     let mut input = text;
     let mut output = Vec::new(alloc);
@@ -107,12 +108,13 @@ fn with_failing_faults(alloc: Global, text: &[u8]) -> (u8, bool) {
     (status, output.is_empty())
 }
 
-/// Whether nothing was written after the call that failed, if one did, and the status says so.
+/// Tests whether nothing was written after the failed call, if one failed, and the status says so.
 fn is_left_alone(left: Unwritten) -> bool {
     left.status == (if left.has_failed { 2 } else { 0 }) && left.later == 0 && left.no_faults
 }
 
-/// How many calls many answers take, each of which fails in turn; none where one is not the last, or they never end.
+/// Returns how many calls many answers need, while each fails in turn. Returns `None` if a failed
+/// call is not the last, or the calls never end.
 fn calls_of(alloc: Global, lines: &[u8]) -> Option<u64> {
     for before in 0..100u64 {
         let left = with_failing_output(alloc, lines, before);

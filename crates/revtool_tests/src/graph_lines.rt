@@ -1,5 +1,5 @@
-//! What `revtool` answers to lines over a commit-graph file, what it says of a file that it can't use, and what it reads of a
-//! command line.
+//! Tests the answers of `revtool` over a commit-graph file, its message for an unusable file, and
+//! its command line.
 
 use crate::lines::Run;
 use crate::memory::{Came, judged};
@@ -13,8 +13,8 @@ use std::io;
 use std::string::String;
 use std::test::Fail;
 
-/// Lines over the file of five commits, the status, and what is written. The third stands in no other line than those of the file;
-/// the octopus merge has a newer child, and an id that begins like its own.
+/// Lines over the file of five commits, the status, and what is written. The third commit is only
+/// in the file; the octopus merge has a newer child, and another id begins like its own.
 static ROWS: [&str; 6] = [
     "base c5f95b31d00a42c40e7802fb583d1d3ba95e4a6d 6ec51cce1d57faa4c7a89b1bd415c748c14c8eec|spec c24f^2|list c5f9^!|list c24f^@ => 0 \
 base 6ec51cce1d57faa4c7a89b1bd415c748c14c8eec|spec c2ae463f2de8e30be91d8ecc93e9d64145174877|\
@@ -30,7 +30,7 @@ spec c5f95b31d00a42c40e7802fb583d1d3ba95e4a6d|spec c5f90000000000000000000000000
     " => 0",
 ];
 
-/// A run over the file.
+/// Runs over the file.
 fn run_with<A: Allocator + Copy>(to: Global, alloc: A, text: &[u8]) -> Run {
     let mut input = text;
     let mut output = Vec::new(to);
@@ -50,7 +50,8 @@ fn run_with<A: Allocator + Copy>(to: Global, alloc: A, text: &[u8]) -> Run {
     }
 }
 
-/// What comes of a row where the request after so many is refused, and whether there is such a request.
+/// Returns the result of a row if the allocation after some others fails, and whether there is such
+/// an allocation.
 fn came_with(alloc: Global, row: &Row, before: u64) -> (Came, bool) {
     let memory = Refusing::new(alloc, before);
     let ran = run_with(alloc, &memory, &row.text);
@@ -60,7 +61,8 @@ fn came_with(alloc: Global, row: &Row, before: u64) -> (Came, bool) {
     )
 }
 
-/// Whether lines are answered as a row says, and as it says or with want of memory where each request is refused in turn.
+/// Tests whether lines are answered as a row says; while each allocation fails in turn, as the row
+/// says or with an out-of-memory report.
 fn is_answered_with(alloc: Global, row: &Row) -> bool {
     for before in 0..2000u64 {
         let (came, has_refused) = came_with(alloc, row, before);
@@ -78,7 +80,7 @@ fn is_answered(alloc: Global, row: &str) -> Result<bool, AllocError> {
     Ok(is_answered_with(alloc, &row_of(alloc, "", row)?))
 }
 
-/// The first row that is not answered so.
+/// Returns the first row with another answer.
 fn first_wrong(alloc: Global) -> Result<Option<&'static str>, AllocError> {
     for row in &ROWS {
         if !is_answered(alloc, row)? {
@@ -88,14 +90,14 @@ fn first_wrong(alloc: Global) -> Result<Option<&'static str>, AllocError> {
     Ok(None)
 }
 
-/// A place in the file, the byte that stands there in place of its own, and what is said of the file then. The last one is
-/// the root's level, which is 0.
+/// A place in the file, the byte that replaces its own, and what is said of the file then. The last
+/// place is the root's level, which becomes 0.
 static CHANGED: [(usize, u8, &str); 2] = [
     (0, b'c', "no commit-graph file"),
     (0x4b4 + 36 + 31, 0, "levels that do not fall"),
 ];
 
-/// Whether this is said of the file where a byte of it is changed.
+/// Tests whether this is said of the file with one changed byte.
 fn is_said_of(alloc: Global, (place, byte, said): (usize, u8, &str)) -> Result<bool, AllocError> {
     let mut bytes = file(alloc)?;
     if let Some(at) = bytes.get_mut(place) {
@@ -107,7 +109,7 @@ fn is_said_of(alloc: Global, (place, byte, said): (usize, u8, &str)) -> Result<b
     }
 }
 
-/// What of these is not said.
+/// Returns the first of these messages that differs.
 fn first_unsaid(alloc: Global) -> Result<Option<&'static str>, AllocError> {
     for row in &CHANGED {
         if !is_said_of(alloc, *row)? {
@@ -117,13 +119,13 @@ fn first_unsaid(alloc: Global) -> Result<Option<&'static str>, AllocError> {
     Ok(None)
 }
 
-/// Whether a file that is not there is said to be so.
+/// Tests whether a missing file is reported.
 fn is_missing_said(alloc: Global) -> Result<bool, AllocError> {
     let missing = FileFault::Unreadable(io::Error::from(io::ErrorKind::NotFound));
     prints(alloc, &missing, "entity not found")
 }
 
-/// Whether the file is read to its end, whatever its size was said to be.
+/// Tests whether the file is read to its end, whatever size was expected.
 fn is_read(alloc: Global, size: usize) -> Result<bool, AllocError> {
     let bytes = file(alloc)?;
     let mut input = bytes.as_slice();
@@ -144,7 +146,7 @@ fn a_file_that_is_not_used_is_named(rt: HostRuntime) -> Result<(), Fail> {
     Ok(())
 }
 
-/// What is read of a command line whose words are parted by spaces, and what a file is named.
+/// Tests whether a command line, whose words are separated by spaces, has this meaning.
 fn read_as(alloc: Global, line: &str, want: Request<'_>) -> Result<bool, AllocError> {
     let mut words = Vec::new(alloc);
     for word in line.split(' ') {
@@ -153,7 +155,7 @@ fn read_as(alloc: Global, line: &str, want: Request<'_>) -> Result<bool, AllocEr
     Ok(Request::of(&words) == want)
 }
 
-/// Command lines, and what they ask for.
+/// Command lines, and their meaning.
 static REQUESTS: [(&str, Request<'static>); 8] = [
     ("--commit-graph a/b", Request::AnswersOver("a/b")),
     ("--commit-graph=a=b", Request::AnswersOver("a=b")),
@@ -165,7 +167,7 @@ static REQUESTS: [(&str, Request<'static>); 8] = [
     ("--commit-graphs=a", Request::Unread("--commit-graphs=a")),
 ];
 
-/// The first command line that is read otherwise.
+/// Returns the first command line with another meaning.
 fn first_misread(alloc: Global) -> Result<Option<&'static str>, AllocError> {
     for (line, want) in &REQUESTS {
         if !read_as(alloc, line, *want)? {

@@ -1,5 +1,5 @@
-//! Tests of `revtool`, and of the calls that a text makes, which its recorder writes down: worked rows, and hostile
-//! delegates, streams and memory.
+//! Tests of `revtool`, and of the calls that a revision makes, which its recorder writes down:
+//! worked rows, and hostile delegates, streams and memory.
 #![tactic(auto)]
 
 #[cfg(test)]

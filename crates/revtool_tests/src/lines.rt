@@ -1,4 +1,4 @@
-//! What `revtool` answers to lines.
+//! Tests the answers of `revtool` to lines.
 
 use crate::rows::{AFTER_CRISS_CROSS, ALONE, COMMANDS, CRISS_CROSS, row_of, text_of};
 use crate::streams::{Ending, Trickle};
@@ -90,7 +90,7 @@ base [1]\t[2]|
 commit [a] 2 -|
 commit [A] 2 -|";
 
-/// What a run left behind.
+/// The result of a run.
 #[derive(Drop)]
 pub struct Run {
     pub status: u8,
@@ -99,7 +99,8 @@ pub struct Run {
 }
 
 impl Run {
-    /// Whether it ended with this status and wrote this: as faults where the status is 2, else as output.
+    /// Tests whether the run ended with this status and wrote this: as faults if the status is 2,
+    /// otherwise as output.
     pub fn is(&self, status: u8, written: &[u8]) -> bool {
         let (used, unused) = if status == 2 {
             (&self.faults, &self.output)
@@ -110,7 +111,7 @@ impl Run {
     }
 }
 
-/// A run with all memory that it asks of `alloc`.
+/// Runs with all memory from `alloc`.
 pub fn run_over<R: Read, A: Allocator + Copy>(to: Global, alloc: A, input: &mut R) -> Run {
     let mut output = Vec::new(to);
     let mut faults = Vec::new(to);
@@ -122,20 +123,21 @@ pub fn run_over<R: Read, A: Allocator + Copy>(to: Global, alloc: A, input: &mut 
     }
 }
 
-/// Whether a run over a text ends so, both where it is read whole and where it comes a byte a read.
+/// Tests whether a run over a text ends so, both if it is read whole and if each read gives one
+/// byte.
 fn ends(alloc: Global, text: &[u8], status: u8, written: &[u8]) -> bool {
     let mut whole = text;
     run_over(alloc, alloc, &mut whole).is(status, written)
         && run_over(alloc, alloc, &mut Trickle::new(text, Ending::End)).is(status, written)
 }
 
-/// Whether the lines of a row end as it says.
+/// Tests whether the lines of a row end as it says.
 fn ends_as_said(alloc: Global, before: &str, row: &str) -> Result<bool, AllocError> {
     let row = row_of(alloc, before, row)?;
     Ok(ends(alloc, &row.text, row.status, &row.written))
 }
 
-/// The first row of a table that does not end so.
+/// Returns the first row of a table that ends otherwise.
 fn first_wrong(
     alloc: Global,
     before: &str,
@@ -149,14 +151,14 @@ fn first_wrong(
     Ok(None)
 }
 
-/// Whether a line is the first that can't be read, the fourth of its text.
+/// Tests whether a line is the first unreadable one, as the fourth of its text.
 fn is_unreadable(alloc: Global, line: &str) -> Result<bool, AllocError> {
     let mut text = text_of(alloc, "commit [a] 1 -||base [a]|", line)?;
     text.extend_from_slice(b"base x\n")?;
     Ok(ends(alloc, &text, 2, b"line 4 is unreadable\n"))
 }
 
-/// The first line that can be read, or is not the first that can't.
+/// Returns the first line that is readable, or not the first unreadable one.
 fn first_readable(alloc: Global) -> Result<Option<&'static str>, AllocError> {
     for line in UNREADABLE.split('\n') {
         if !is_unreadable(alloc, line)? {

@@ -1,4 +1,4 @@
-//! What `revtool` answers to lines where each request for memory is refused in turn.
+//! Tests the answers of `revtool` while each allocation fails in turn.
 
 use crate::lines::{Run, run_over};
 use crate::rows::{AFTER_CRISS_CROSS, ALONE, COMMANDS, CRISS_CROSS, row_of};
@@ -6,7 +6,7 @@ use refusing::Refusing;
 use std::alloc::{AllocError, Global};
 use std::test::Fail;
 
-/// The words of answers, and what stands behind them where memory is wanting.
+/// The words of answers, and what follows them if there is no memory.
 static REFUSALS: [(&[u8], &[u8]); 18] = [
     (b"base ", b"refused M2"),
     (b"octopus ", b"refused M2"),
@@ -28,8 +28,8 @@ static REFUSALS: [(&[u8], &[u8]); 18] = [
     (b"rev-list ", b"refused E2"),
 ];
 
-/// Whether a line is this row, or says in its place that memory was wanting: after the word alone, or of a
-/// text after some of its calls.
+/// Tests whether a line is this row, or reports in its place that memory ran out: after the word
+/// alone or, for a revision, after some of its calls.
 fn is_row_or_refusal(line: &[u8], row: &[u8]) -> bool {
     for (word, refusal) in &REFUSALS {
         if row.starts_with(*word) && line.strip_prefix(*word) == Some(*refusal) {
@@ -45,7 +45,7 @@ fn is_row_or_refusal(line: &[u8], row: &[u8]) -> bool {
     }
 }
 
-/// Whether each line is its row or a refusal for memory, and one is a refusal.
+/// Tests whether each line is its row or an out-of-memory report, and one is a report.
 fn are_rows_or_refusals(lines: &[u8], rows: &[u8]) -> bool {
     let mut wanted = rows.split(|byte| *byte == b'\n');
     for line in lines.split(|byte| *byte == b'\n') {
@@ -59,14 +59,14 @@ fn are_rows_or_refusals(lines: &[u8], rows: &[u8]) -> bool {
     wanted.next().is_none() && lines != rows
 }
 
-/// What came of a run where one request for memory may be refused.
+/// The result of a run in which one allocation may fail.
 #[derive(Clone, Copy, PartialEq)]
 pub enum Came {
     /// It ended as it should.
     Answered,
     /// Its input could not be read.
     Unread,
-    /// Some lines say that memory was wanting.
+    /// Some lines report that memory ran out.
     Lacking,
     Wrong,
 }
@@ -87,8 +87,8 @@ pub fn judged(ran: &Run, (status, written): (u8, &[u8])) -> Came {
     Came::Wrong
 }
 
-/// How often a run could not read its input, how often some lines lacked memory, and how often none did, where each
-/// request is refused in turn.
+/// How often a run could not read its input, how often some lines ran out of memory, and how often
+/// none did, while each allocation fails in turn.
 #[derive(Clone, Copy)]
 struct Tally {
     unread: u64,
@@ -103,7 +103,7 @@ impl Tally {
         answered: 0,
     };
 
-    // One more run; none where something else came of it.
+    // Adds a run. Returns `None` if it had another result.
     fn with(self, came: Came) -> Option<Tally> {
         let mut tally = self;
         match came {
@@ -116,7 +116,8 @@ impl Tally {
     }
 }
 
-/// What comes of a run where the request after so many is refused, and whether there is such a request.
+/// Returns the result of a run if the allocation after some others fails, and whether there is such
+/// an allocation.
 fn came_with(alloc: Global, text: &[u8], ended: (u8, &[u8]), before: u64) -> (Came, bool) {
     let memory = Refusing::new(alloc, before);
     let mut input = text;
@@ -124,8 +125,8 @@ fn came_with(alloc: Global, text: &[u8], ended: (u8, &[u8]), before: u64) -> (Ca
     (came, memory.has_refused())
 }
 
-/// The runs of a row with each request for memory refused in turn, added to a tally; none where something else came, or
-/// requests never end.
+/// Runs a row while each allocation fails in turn, and adds the runs to a tally. Returns `None` if
+/// a run had another result, or allocations never end.
 fn with_refusals(alloc: Global, text: &[u8], ended: (u8, &[u8]), before: Tally) -> Option<Tally> {
     let mut tally = before;
     for number in 0..2000u64 {
@@ -142,7 +143,7 @@ fn with_refusals(alloc: Global, text: &[u8], ended: (u8, &[u8]), before: Tally) 
     None
 }
 
-/// The same of a row of a table.
+/// Adds the runs of a row of a table.
 fn row_tally(
     alloc: Global,
     before: &str,
@@ -153,7 +154,7 @@ fn row_tally(
     Ok(with_refusals(alloc, &row.text, (row.status, &row.written), all))
 }
 
-/// The same of all rows of a table.
+/// Adds the runs of all rows of a table.
 fn tally_of(alloc: Global, before: &str, rows: &str) -> Result<Option<Tally>, AllocError> {
     let mut all = Tally::NONE;
     for row in rows.split('\n') {
@@ -165,8 +166,8 @@ fn tally_of(alloc: Global, before: &str, rows: &str) -> Result<Option<Tally>, Al
     Ok(Some(all))
 }
 
-// Whether lines lacked memory so often, and refusals were unseen at most so often: room in which answers are gathered,
-// or to remember the parents of a commit, is not needed.
+// Tests whether lines ran out of memory at least this often, and failures went unseen at most this
+// often. A buffer for answers is not needed, nor room to remember the parents of a commit.
 fn lacks(tally: Option<Tally>, least: u64, most: u64) -> bool {
     match tally {
         Some(tally) => tally.lacking > least && tally.unread > 20 && tally.answered < most,

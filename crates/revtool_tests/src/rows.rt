@@ -37,7 +37,7 @@ ref [4] HEAD|ref [5] HEAD| => 2 line 7 is unreadable|
 ref [4] HEAD|ref [4] head|name [4] HEAD|spec HEAD^!| => 0 spec [4]^!|
 base [4] [5]|commit [9] x -| => 2 line 7 is unreadable|";
 
-/// The same, with nothing before the lines.
+/// Rows with nothing before their lines.
 pub const ALONE: &str = " => 0
 commit [1] x -| => 2 line 1 is unreadable|
 commit [1] 1 -|commit [2] 2 - [1]|commit [3] 3 - [2]|name [1] v1|describe [3]| => 0 describe v1-2-g3333333|
@@ -53,7 +53,8 @@ commit [a] 0 -|name [a] v#|commit [b] 1 - [a]|describe [a]|describe [b]| => 0 \
 describe v#|describe v#-1-gbbbbbbb|
 parse|parse |parse ^[A]| => 0 parse done|parse done|parse kind(ExcludeReachable); prefix([a]); done|";
 
-/// All commands after the criss-cross, and a text that takes memory of its own, as the rows above.
+/// All commands after the criss-cross, and a revision that needs memory of its own, in the form of
+/// the rows above.
 pub const COMMANDS: &str =
     "name [1] v|ref [4] HEAD|base [4] [5]|octopus [4] [5]|parse [1]..[2]|describe [2]|base [4]|parse|octopus [5] [4]|\
 describe [2]|parse a^{/\\{}^{/\\}}|base [4] [5]|spec HEAD~2|rev-parse HEAD^2^{}|list HEAD^!|list HEAD^@|list ^HEAD|\
@@ -72,14 +73,14 @@ pub struct Row {
     pub written: Vec<u8>,
 }
 
-/// Some lines behind others.
+/// Returns some lines after others.
 pub fn text_of(alloc: Global, before: &str, lines: &str) -> Result<Vec<u8>, AllocError> {
     let mut text = written_out(alloc, before)?;
     text.extend_from_slice(&written_out(alloc, lines)?)?;
     Ok(text)
 }
 
-/// A row of a table behind these lines.
+/// Returns a row of a table after these lines.
 pub fn row_of(alloc: Global, before: &str, row: &str) -> Result<Row, AllocError> {
     let (lines, ended) = row.split_once(" => ").unwrap_or((row, ""));
     let (status, written) = ended.split_once(' ').unwrap_or((ended, ""));

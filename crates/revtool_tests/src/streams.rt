@@ -1,4 +1,4 @@
-//! Readers and writers that give little, fail, or never end.
+//! Readers and writers that give or take little, fail, or never end.
 
 use std::io::{self, ErrorKind, Read, Write};
 
@@ -48,7 +48,7 @@ impl Read for Trickle<'_> {
     }
 }
 
-/// Gives so many line feeds, one a read, and counts its reads.
+/// Gives this many line feeds, one a read, and counts its reads.
 #[derive(Drop)]
 pub struct LineFeeds {
     left: u64,
@@ -60,7 +60,7 @@ impl LineFeeds {
         LineFeeds { left, reads: 0 }
     }
 
-    /// How often it was read.
+    /// Returns how often it was read.
     pub fn reads(&self) -> u64 {
         self.reads
     }
@@ -87,7 +87,7 @@ pub struct FailingWriter {
 }
 
 impl FailingWriter {
-    /// Fails at the call that comes after that many.
+    /// Makes a writer that fails at the call after this many.
     pub fn new(before: u64) -> FailingWriter {
         FailingWriter {
             before,
@@ -96,17 +96,17 @@ impl FailingWriter {
         }
     }
 
-    /// Whether it has failed.
+    /// Tests whether it has failed.
     pub fn has_failed(&self) -> bool {
         self.has_failed
     }
 
-    /// How many calls came after the one that failed.
+    /// Returns how many calls came after the failed one.
     pub fn later(&self) -> u64 {
         self.later
     }
 
-    // One more call.
+    // Counts a call, and fails if it is its turn.
     fn turn(&mut self) -> io::Result<()> {
         if self.has_failed {
             self.later = self.later.saturating_add(1);

@@ -1,5 +1,5 @@
-//! Texts without braces: ranges, names, steps and colon forms, with the calls that they make and the fault of each
-//! refused call; very long ones; printed faults and specs.
+//! Revisions without braces: ranges, names, steps and colon forms, with the calls that they make
+//! and the fault of each refused call; very long ones; printed faults and specs.
 
 use crate::calls::{count, first_wrong};
 use fixtures::printed::prints;
@@ -10,7 +10,7 @@ use gix_spec::spec::{Kind, Spec};
 use std::alloc::{AllocError, Global};
 use std::test::Fail;
 
-/// Rows as `calls` reads them.
+/// Rows in the form of `calls`.
 const ROWS: &str = "\
 ^ => kind(ExcludeReachable) or P1; done or P5
  => done or P5
@@ -140,7 +140,7 @@ fn texts_make_their_calls(rt: HostRuntime) -> Result<(), Fail> {
     Ok(())
 }
 
-/// Five thousand `^`, and five thousand `~1` behind a name: how many calls each makes.
+/// Counts the calls of five thousand `^`, and of five thousand `~1` after a name.
 fn count_long(alloc: Global) -> Result<(usize, usize), AllocError> {
     let carets = vec![in alloc; b'^'; 5000]?;
     let mut steps = vec![in alloc; b'a'; 1]?;
@@ -156,7 +156,7 @@ fn long_texts_are_read(rt: HostRuntime) -> Result<(), Fail> {
     Ok(())
 }
 
-/// The texts of faults that hold a debug form; a clause has the others.
+/// The texts of faults that contain a debug form; a clause has the others.
 static FAULTS: [(Fault, &str); 5] = [
     (
         Fault::KindRefused(Kind::RangeBetween),
@@ -180,7 +180,7 @@ static FAULTS: [(Fault, &str); 5] = [
     (Fault::IndexRefused(2), "the delegate found no index entry"),
 ];
 
-// Whether a refusal for a fault prints as this text.
+// Tests whether a refusal for a fault prints as this text.
 fn refusal_prints(alloc: Global, fault: Fault, text: &str) -> Result<bool, AllocError> {
     let refused = Error::Refused {
         fault,
@@ -191,12 +191,12 @@ fn refusal_prints(alloc: Global, fault: Fault, text: &str) -> Result<bool, Alloc
     prints(alloc, &refused, text)
 }
 
-// Whether a fault and a refusal for it print as this text.
+// Tests whether a fault and a refusal for it print as this text.
 fn both_print(alloc: Global, fault: &Fault, text: &str) -> Result<bool, AllocError> {
     Ok(prints(alloc, fault, text)? && refusal_prints(alloc, *fault, text)?)
 }
 
-/// The first text as which its fault is not printed.
+/// Returns the first text that its fault does not print as.
 fn first_misprinted(alloc: Global) -> Result<Option<&'static str>, AllocError> {
     for (fault, text) in &FAULTS {
         if !both_print(alloc, fault, text)? {
@@ -254,7 +254,7 @@ static SPECS: [(Spec, Kind, &str); 6] = [
     ),
 ];
 
-/// The first text as which its spec is not printed, or in which no calls are found.
+/// Returns the first text that its spec does not print as, or that makes no calls.
 fn first_unread(alloc: Global) -> Result<Option<&'static str>, AllocError> {
     for (spec, kind, text) in &SPECS {
         if spec.kind() != *kind
@@ -274,7 +274,7 @@ fn specs_print_and_read_back(rt: HostRuntime) -> Result<(), Fail> {
     Ok(())
 }
 
-/// What stands in the braces of a sibling branch, in any case, and which it is.
+/// The text in the braces of a sibling branch, in any case, and which one it means.
 static SIBLINGS: [(&str, Option<SiblingBranch>); 8] = [
     ("u", Some(SiblingBranch::Upstream)),
     ("U", Some(SiblingBranch::Upstream)),

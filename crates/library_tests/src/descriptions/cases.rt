@@ -1,4 +1,4 @@
-//! Calls of `describe` as tables have them, and whether they are answered so.
+//! Calls of `describe` in tables, and tests of their answers.
 
 use fixtures::faults::{Answered, Came, Repeats};
 use fixtures::histories::{Row, id, source_of};
@@ -10,7 +10,8 @@ use std::alloc::{AllocError, Allocator, Global};
 use std::borrow::CowSlice;
 use std::collections::HashMap;
 
-/// A history, the names of commits in it, the commit to describe, how, and what is wanted.
+/// A history, the names of its commits, the commit to describe, the options, and the expected
+/// answer.
 #[derive(Clone, Copy)]
 pub struct Case(
     pub &'static [Row<'static>],
@@ -20,29 +21,29 @@ pub struct Case(
     pub Want,
 );
 
-/// How a commit is described.
+/// How to describe a commit.
 #[derive(Clone, Copy)]
 pub struct How {
     pub max_candidates: usize,
     pub fallback_to_oid: bool,
     pub first_parent: bool,
-    /// The commit that the source fails for; 0 where it fails for none.
+    /// The commit for which the source fails; 0 if it never fails.
     pub fails_for: u8,
 }
 
 #[derive(Clone, Copy)]
 pub enum Want {
     Nothing,
-    /// The source lacks the commit.
+    /// The source does not have the commit.
     Missing,
-    /// The parents of this one could not be had.
+    /// Loading the parents of this commit failed.
     Lost(u8),
-    /// Nothing is asked of the answer but that it comes.
+    /// Any answer.
     Anything,
-    /// The id alone, after so many commits; how many left the queue, and which are held then.
+    /// The id alone, after this many commits; how many left the queue, and which are held then.
     Unnamed(u32, u128, &'static [u8]),
-    /// A name with its depth, the number of commits seen; how many left the queue, and which are held
-    /// then.
+    /// A name with its depth and the number of commits seen; how many left the queue, and which are
+    /// held then.
     Named(&'static str, u32, u32, u128, &'static [u8]),
 }
 
@@ -88,7 +89,7 @@ pub const LINE: &[Row<'static>] = &[
     Row(3, 3, None, &[2]),
 ];
 
-/// A merge, whose two parents have one parent.
+/// A merge whose two parents have one parent.
 pub const FORK: &[Row<'static>] = &[
     Row(1, 1, None, &[]),
     Row(2, 9, None, &[1]),
@@ -120,7 +121,7 @@ pub fn options_of<A: Allocator + Copy>(
     })
 }
 
-/// Whether a name is this one, and borrowed as the names that were handed in.
+/// Tests whether a name is this one, borrowed from the given names.
 fn is_name<A: Allocator>(found: &Option<CowSlice<'static, u8, A>>, name: &str) -> bool {
     match found {
         Some(CowSlice::Borrowed(found)) => *found == name.as_bytes(),
@@ -128,7 +129,7 @@ fn is_name<A: Allocator>(found: &Option<CowSlice<'static, u8, A>>, name: &str) -
     }
 }
 
-/// Whether an outcome is of a commit, and says what is wanted.
+/// Tests whether an outcome is that of a commit, and the expected one.
 pub fn says<A: Allocator>(outcome: &Outcome<'static, A>, start: u8, want: Want) -> bool {
     let (named, depth, seen) = match want {
         Want::Unnamed(seen, _, _) => (outcome.name.is_none(), 0, seen),
@@ -139,7 +140,7 @@ pub fn says<A: Allocator>(outcome: &Outcome<'static, A>, start: u8, want: Want) 
     named && outcome.id == id(start) && outcome.depth == depth && outcome.commits_seen == seen
 }
 
-/// Whether of all digits just these are held.
+/// Tests whether exactly these digits are held.
 fn are_held<S: Find, A: Allocator + Copy>(graph: &Graph<S, u32, A>, digits: &[u8]) -> bool {
     for digit in 1..16u8 {
         if graph.contains(&id(digit)) != digits.contains(&digit) {
@@ -149,10 +150,10 @@ fn are_held<S: Find, A: Allocator + Copy>(graph: &Graph<S, u32, A>, digits: &[u8
     true
 }
 
-/// Whether so many commits left the queue, and these digits are held.
+/// Tests whether this many commits left the queue, and these digits are held.
 fn leaves<S: Find, A: Allocator + Copy>(graph: &Graph<S, u32, A>, pops: u128, want: Want) -> bool {
     match want {
-        // Where no walk is made the graph stays as it was.
+        // Without a walk the graph is unchanged.
         Want::Unnamed(_, wanted, held) | Want::Named(_, _, _, wanted, held) => {
             pops == wanted && (pops == 0 || are_held(graph, held))
         }
@@ -160,7 +161,7 @@ fn leaves<S: Find, A: Allocator + Copy>(graph: &Graph<S, u32, A>, pops: u128, wa
     }
 }
 
-/// What came of a call that was to answer what is wanted.
+/// Compares the answer of a call with the expected one.
 fn verdict<S: Find, A: Allocator + Copy>(
     found: &Result<(Option<Outcome<'static, A>>, u128), Message>,
     graph: &Graph<S, u32, A>,
@@ -185,7 +186,7 @@ fn verdict<S: Find, A: Allocator + Copy>(
     }
 }
 
-/// Makes the call of a case, and compares its answer with the one that is wanted.
+/// Makes the call of a case, and compares its answer with the expected one.
 fn answered<S: Find, A: Allocator + Copy>(
     alloc: A,
     graph: &mut Graph<S, u32, A>,
@@ -197,7 +198,7 @@ fn answered<S: Find, A: Allocator + Copy>(
     Ok(verdict(&found, graph, start, want))
 }
 
-/// What comes of the call of a case.
+/// Makes the call of a case and returns its result.
 fn came<S: Find, A: Allocator + Copy>(
     alloc: A,
     graph: &mut Graph<S, u32, A>,
@@ -207,7 +208,7 @@ fn came<S: Find, A: Allocator + Copy>(
     Ok(came_of(answered, graph))
 }
 
-/// What came of a call that was answered so.
+/// Returns the result of a call with this answer.
 pub fn came_of<S: Find, A: Allocator + Copy>(answered: Answered, graph: &Graph<S, u32, A>) -> Came {
     Came {
         answered,
@@ -216,7 +217,7 @@ pub fn came_of<S: Find, A: Allocator + Copy>(answered: Answered, graph: &Graph<S
     }
 }
 
-/// What comes of the call of a case twice.
+/// Makes the call of a case twice and returns both results.
 fn came_twice<S: Find, A: Allocator + Copy>(
     alloc: A,
     graph: &mut Graph<S, u32, A>,
@@ -249,7 +250,7 @@ impl Repeats for Case {
 
 type FailingGraph = Graph<Failing<MemorySource>, u32>;
 
-/// Describes another commit with one name more.
+/// Describes another commit with one more name.
 fn describe_another(
     alloc: Global,
     graph: &mut FailingGraph,
@@ -263,7 +264,7 @@ fn describe_another(
     Ok(())
 }
 
-/// Whether a case has the answer that is wanted, on a fresh graph and on one that another call left.
+/// Tests whether a case has the expected answer, on a new graph and on one that another call left.
 fn is_described_on(
     alloc: Global,
     graph: &mut FailingGraph,
@@ -282,7 +283,7 @@ fn is_described(alloc: Global, case: &Case) -> Result<bool, AllocError> {
     is_described_on(alloc, &mut graph, case)
 }
 
-/// The number of the first case that is not answered so.
+/// Returns the index of the first case with another answer.
 pub fn first_wrong(alloc: Global, cases: &[Case]) -> Result<Option<usize>, AllocError> {
     for (i, case) in cases.iter().enumerate() {
         if !is_described(alloc, case)? {

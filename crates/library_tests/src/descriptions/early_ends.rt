@@ -1,5 +1,6 @@
-//! Rows of git-describe where the walk ends before the history does: at a name below which nothing is left, or where
-//! there is no room for one more candidate (`--candidates`, at most 32 here); and the depth that is completed then.
+//! Rows of git-describe whose walk ends before the history does: at a name below which nothing is
+//! left, or when there is no room for one more candidate (`--candidates`, at most 32 here). The
+//! depth is completed then.
 
 use super::cases::{Case, FORK, How, LINE, ONE_CANDIDATE, PLAIN, Want, first_wrong, says};
 use fixtures::histories::{Row, id};
@@ -10,7 +11,7 @@ use std::alloc::{AllocError, Global};
 use std::borrow::CowSlice;
 use std::test::Fail;
 
-/// The second parent of [4] of the fork can't be had.
+/// The source fails for the second parent of [4] in the fork.
 const FAILS_FOR_THE_SECOND_PARENT: How = How {
     max_candidates: 10,
     fallback_to_oid: true,
@@ -18,7 +19,7 @@ const FAILS_FOR_THE_SECOND_PARENT: How = How {
     fails_for: 3,
 };
 
-/// The root of the line can't be had.
+/// The source fails for the root of the line.
 const FAILS_FOR_THE_ROOT: How = How {
     max_candidates: 10,
     fallback_to_oid: false,
@@ -42,7 +43,7 @@ const LISTED_TWICE: &[Row<'static>] = &[
 ];
 
 pub static CASES: [Case; 4] = [
-    // The walk ends at the name: what is behind it is not looked up.
+    // The walk ends at the name. What comes after it is not looked up.
     Case(
         LINE,
         &[(2, "v")],
@@ -50,7 +51,7 @@ pub static CASES: [Case; 4] = [
         PLAIN,
         Want::Named("v", 1, 2, 2, &[2, 3]),
     ),
-    // The depth is completed where the named commit is older than its parent.
+    // The depth is completed if the named commit is older than its parent.
     Case(
         SKEWED,
         &[(2, "v")],
@@ -58,7 +59,7 @@ pub static CASES: [Case; 4] = [
         PLAIN,
         Want::Named("v", 2, 3, 3, &[1, 2, 3]),
     ),
-    // The second name is given up for want of room, and popped again.
+    // The second name is given up, since there is no room, and popped again.
     Case(
         FORK,
         &[(2, "A"), (3, "B")],
@@ -94,7 +95,8 @@ static FAILING: [Case; 3] = [
     ),
 ];
 
-/// A commit with the parents 1 to 40, all of which are roots, the greater the newer.
+/// Makes a source with a commit that has the parents 1 to 40. All are roots; a greater number is
+/// newer.
 fn forty_parents(alloc: Global) -> Result<MemorySource, AllocError> {
     let mut source = MemorySource::new(alloc);
     let mut parents = Vec::new(alloc);
@@ -118,7 +120,7 @@ fn add(source: &mut MemorySource, id: ObjectId, parents: Vec<ObjectId>, time: u8
     );
 }
 
-/// Names of all forty, of which the smaller one is that of the older ones.
+/// Makes options with the names of all forty: `a` for the eight oldest, `newer` for the others.
 fn forty_names(alloc: Global) -> Result<Options<'static>, AllocError> {
     let mut options = Options::new(alloc);
     options.max_candidates = usize::MAX;
@@ -131,7 +133,8 @@ fn forty_names(alloc: Global) -> Result<Options<'static>, AllocError> {
     Ok(options)
 }
 
-/// Whether 32 of forty names are weighed where more may be: the newest ones, all of which are as far.
+/// Tests whether 32 of forty names are weighed if more are allowed: the newest ones, all of one
+/// depth.
 fn weighs(alloc: Global, graph: &mut Graph<MemorySource, u32>, options: Options<'static>) -> bool {
     let want = Want::Named("newer", 40, 41, 42, &[]);
     match &counted(alloc, &id(15), graph, options) {

@@ -1,4 +1,5 @@
-//! What is described as text and as bytes, as git-describe prints it (`--long`, `--abbrev`, `--dirty`), and copies.
+//! Descriptions as text and as bytes, as git-describe prints them (`--long`, `--abbrev`,
+//! `--dirty`), and copies.
 
 use super::cases::{FIRST_PARENT, Want, names_of, options_of, says};
 use fixtures::histories::id;
@@ -10,8 +11,8 @@ use std::borrow::CowSlice;
 use std::collections::HashMap;
 use std::test::Fail;
 
-/// The name, the depth, whether the long form is asked for, the number of digits and the suffix of what
-/// is described, its text, and the bytes that are written.
+/// The name, the depth, whether the long form is chosen, the number of digits and the suffix; the
+/// text, and the bytes that are written.
 #[derive(Clone, Copy)]
 struct Printed(
     Option<&'static [u8]>,
@@ -86,7 +87,7 @@ static PRINTED: [Printed; 9] = [
 
 const DIGITS: &str = "0123456789abcdeffedcba987654321076543210";
 
-/// What is described by a name or by its digits, as it can be printed.
+/// Makes the format of a description by a name or by digits.
 fn format_of(alloc: Global, id: ObjectId, row: &Printed) -> Result<Format<'static>, AllocError> {
     let Printed(name, depth, long, hex_len, suffix, _, _) = *row;
     let outcome = Outcome {
@@ -104,13 +105,13 @@ fn format_of(alloc: Global, id: ObjectId, row: &Printed) -> Result<Format<'stati
     Ok(format)
 }
 
-/// Whether these bytes are written of what is described.
+/// Tests whether a format writes these bytes.
 fn writes(alloc: Global, format: &Format<'static>, bytes: &[u8]) -> bool {
     let mut written = Vec::new(alloc);
     format.write_to(&mut written).is_ok() && written.as_slice() == bytes
 }
 
-/// Whether a copy of what is described is equal.
+/// Tests whether a copy of a format is equal.
 fn is_copied(format: &Format<'static>) -> bool {
     match &format.clone() {
         Ok(copy) => *copy == *format,
@@ -118,7 +119,7 @@ fn is_copied(format: &Format<'static>) -> bool {
     }
 }
 
-/// Whether what is described is printed as its row says, written with its bytes, and its copy is equal.
+/// Tests whether a format is printed and written as its row says, and its copy is equal.
 fn is_of(alloc: Global, format: &Format<'static>, row: &Printed) -> Result<bool, AllocError> {
     Ok(writes(alloc, format, row.6) && is_copied(format) && prints(alloc, format, row.5)?)
 }
@@ -130,7 +131,7 @@ fn is_printed(alloc: Global, row: &Printed) -> Result<bool, AllocError> {
     }
 }
 
-/// The text of the first row that is not printed so, or not written with its bytes.
+/// Returns the text of the first row that is printed or written otherwise.
 fn first_miswritten(alloc: Global) -> Result<Option<&'static str>, AllocError> {
     for row in &PRINTED {
         if !is_printed(alloc, row)? {
@@ -140,7 +141,7 @@ fn first_miswritten(alloc: Global) -> Result<Option<&'static str>, AllocError> {
     Ok(None)
 }
 
-/// Whether a copy of options has all of their fields.
+/// Tests whether a copy of options has all of their fields.
 fn are_options_copied(options: &Options<'static>) -> bool {
     match &options.clone() {
         Ok(copy) => {
@@ -153,7 +154,7 @@ fn are_options_copied(options: &Options<'static>) -> bool {
     }
 }
 
-/// Whether a copy of an outcome, of v1 two commits before [3], has all of its fields.
+/// Tests whether a copy of an outcome, v1 two commits before [3], has all of its fields.
 fn is_outcome_copied(outcome: &Outcome<'static>) -> bool {
     match &outcome.clone() {
         Ok(copy) => {

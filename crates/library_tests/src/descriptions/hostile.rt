@@ -1,11 +1,11 @@
-//! The rows of descriptions where each look-up fails in turn, and each request for memory.
+//! The rows of `describe`, while each look-up and each allocation fails in turn.
 
 use super::{early_ends, rows, ties};
 use fixtures::faults::first_lost;
 use std::alloc::{AllocError, Global};
 use std::test::Fail;
 
-/// Whether each row survives them.
+/// Tests whether each row survives these failures.
 fn survive(alloc: Global) -> Result<bool, AllocError> {
     Ok(
         first_lost(alloc, &rows::CASES)?.is_none()

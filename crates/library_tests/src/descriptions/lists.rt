@@ -1,5 +1,5 @@
-//! Lists of descriptions on one graph, over a failing source, and with memory refused in turn: one query of the list is
-//! refused, and the others are answered.
+//! Lists of descriptions on one graph, over a failing source, and with failing allocations. One
+//! query of the list fails, and the others are answered.
 
 use super::cases::{LINE, PLAIN, Want, came_of, options_of, says};
 use fixtures::faults::{Answered, Came, Repeats, survives};
@@ -29,7 +29,7 @@ fn queries_of<A: Allocator + Copy>(alloc: A) -> Result<Vec<Query<'static, A>, A>
     Ok(queries)
 }
 
-/// How a query was answered.
+/// Returns how a query was answered.
 fn answered<A: Allocator>(answer: &Answer<'static, A>, digit: u8, want: Want) -> Answered {
     match answer {
         Answer::Described(Some(outcome)) if says(outcome, digit, want) => Answered::AsWanted,
@@ -39,7 +39,7 @@ fn answered<A: Allocator>(answer: &Answer<'static, A>, digit: u8, want: Want) ->
     }
 }
 
-/// How a list was answered of which at most one query may be refused.
+/// Returns how a list was answered. At most one query may fail.
 fn all_answered<A: Allocator>(answers: &[Answer<'static, A>]) -> Answered {
     let mut all = Answered::AsWanted;
     for (answer, (digit, want)) in answers.iter().zip(&LISTED) {
@@ -52,7 +52,7 @@ fn all_answered<A: Allocator>(answers: &[Answer<'static, A>]) -> Answered {
     }
 }
 
-/// What comes of a list, which may be refused as a whole, too.
+/// Makes a list and returns its result. The list may also fail as a whole.
 fn came<S: Find, A: Allocator + Copy>(
     alloc: A,
     graph: &mut Graph<S, u32, A>,
@@ -65,7 +65,7 @@ fn came<S: Find, A: Allocator + Copy>(
     came_of(answered, graph)
 }
 
-/// The list.
+/// The list of queries.
 struct Listed;
 
 impl Repeats for Listed {

@@ -1,6 +1,6 @@
-//! Rows of git-describe: the nearest name, along all parents or first parents; a start that has one; no name, and the
-//! id in its place (`--always`); no candidates (`--candidates=0`); a start or a parent that the source lacks; times at
-//! both ends; a cycle.
+//! Rows of git-describe: the nearest name, along all parents or first parents; a start that has a
+//! name; no name, and the id in its place (`--always`); no candidates (`--candidates=0`); a start
+//! or a parent that the source does not have; the least and greatest times; a cycle.
 
 use super::cases::{
     ALWAYS, Case, FIRST_PARENT, FORK, LINE, NO_CANDIDATE, PLAIN, Want, first_wrong,
@@ -8,7 +8,7 @@ use super::cases::{
 use fixtures::histories::Row;
 use std::test::Fail;
 
-/// The older name is nearer: it is met last.
+/// The older name is nearer, and met last.
 const OLDER_IS_NEARER: &[Row<'static>] = &[
     Row(1, 1, None, &[]),
     Row(2, 8, None, &[1]),

@@ -1,10 +1,10 @@
-//! Rows of git-describe where two named commits are equally far: the smaller name is taken.
+//! Rows of git-describe with two named commits of the same depth: the smaller name wins.
 
 use super::cases::{Case, PLAIN, Want, first_wrong};
 use fixtures::histories::Row;
 use std::test::Fail;
 
-/// Two named roots of one time.
+/// Two named roots with the same date.
 const TIED: &[Row<'static>] = &[
     Row(2, 5, None, &[]),
     Row(3, 5, None, &[]),
@@ -18,7 +18,7 @@ const TIED_TURNED: &[Row<'static>] = &[
 ];
 
 pub static CASES: [Case; 3] = [
-    // Of two names at one depth it is the smaller one, whichever commit is met first.
+    // Of two names of the same depth the smaller one wins, whichever commit is met first.
     Case(
         TIED,
         &[(2, "b"), (3, "a")],
