@@ -127,7 +127,7 @@ class Fault(Refused):
     """
 
     def __init__(self, number: int, start: int, length: int) -> None:
-        super().__init__(f"the text is refused by fault {number}, in {length} bytes from {start} on")
+        super().__init__(f"the revision has fault {number}, in {length} bytes from byte {start}")
         self.number = number
         self.start = start
         self.length = length

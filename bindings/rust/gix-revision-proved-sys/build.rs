@@ -1,4 +1,5 @@
-//! Says where the library lies: in the folder that GIX_REVISION_LIB_DIR names, where it is set, as an archive; else as pkg-config says.
+//! Finds the library: the archive in the folder GIX_REVISION_LIB_DIR if that is set, otherwise the
+//! shared library that pkg-config finds.
 
 use std::env;
 use std::process::Command;
@@ -14,7 +15,7 @@ fn main() {
         .args(["--libs-only-L", "gix_revision"])
         .output();
     let Some(said) = said.ok().filter(|it| it.status.success()) else {
-        panic!("neither GIX_REVISION_LIB_DIR nor pkg-config says where gix_revision lies");
+        panic!("gix_revision not found: set GIX_REVISION_LIB_DIR, or PKG_CONFIG_PATH for pkg-config");
     };
     for word in String::from_utf8_lossy(&said.stdout).split_whitespace() {
         println!(
