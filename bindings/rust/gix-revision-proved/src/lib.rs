@@ -97,7 +97,7 @@ impl fmt::Display for Error {
                 length,
             } => write!(
                 f,
-                "the text is refused by fault {number}, in {length} bytes from {start} on"
+                "the revision has fault {number}, in {length} bytes from byte {start}"
             ),
         }
     }
