@@ -15,12 +15,18 @@ IsUpTo h n id = Has h id × (generation_of h id ≤ n)
 abbrev pub AreLevelled : History → Type 0
 AreLevelled h = (a : ObjectId) → All (IsUpTo h (generation_of h a)) (parents_in (entry_at h a))
 
--- What is noted about generation numbers is true of the history h. If it is `NeverRise`, no parent
+-- What is known about generation numbers is true of the history h. If it is `NeverRise`, no parent
 -- is missing from h, and so a new commit is nobody's parent.
-abbrev pub AreNoted : Generations → History → Type 0
-AreNoted Unknown h = ⊤
-AreNoted Absent h = HasNoGenerations h
-AreNoted NeverRise h = AreLevelled h
+abbrev pub AreRight : Generations → History → Type 0
+AreRight Unknown h = ⊤
+AreRight Absent h = HasNoGenerations h
+AreRight NeverRise h = AreLevelled h
+
+-- What a source in memory with the history h notes about generation numbers is right. If no commit
+-- has one, then this is noted.
+pub record AreNoted (known : Generations) (h : History) : Type 0 where
+  pub right : AreRight known h
+  pub absent : HasNoGenerations h → known ≡ Absent
 
 -- What is noted is true of every history that has one commit e more than h.
 abbrev pub AreNotedWith : Generations → History → Entry → Type 0

@@ -17,6 +17,7 @@ mod memory;
 
 use crate::numbers::{self, Number};
 use crate::past::Past;
+use crate::seed::Seed;
 pub use commit::{Commit, FullCommit};
 pub use find::{Find, FindFault, Generations, SourceCommit};
 use gix_base::hash::ObjectId;
@@ -152,7 +153,22 @@ impl<S: Find, T: Held, A: Allocator> Model for Graph<S, T, A> {
 
 impl<S: Find, T: Held, A: Allocator> Graph<S, T, A> {
     /// Creates an empty graph over `source`, in the memory of `alloc`. This allocates nothing yet.
+    ///
+    /// Its hash maps have the default seed. If strangers choose the ids, use [`Graph::with_seed`].
     pub fn new(alloc: A, source: S) -> Self
+    where
+        A: Copy,
+        ensures source { result.source ≡ source }
+        ensures empty { (id : ObjectId) → held_at result id ≡ None }
+        ensures len { held_len result ≡ 0 }
+    {
+        Graph::with_seed(alloc, source, Seed::default())
+    }
+
+    /// Creates an empty graph over `source`, whose hash maps are seeded with `seed`.
+    ///
+    /// This allocates nothing yet. No answer depends on the seed.
+    pub fn with_seed(alloc: A, source: S, seed: Seed) -> Self
     where
         A: Copy,
         ensures source { result.source ≡ source }
@@ -162,10 +178,15 @@ impl<S: Find, T: Held, A: Allocator> Graph<S, T, A> {
         Graph {
             source,
             nodes: Vec::new(alloc),
-            past: Past::new(alloc),
+            past: Past::new(alloc, seed),
             edges: Vec::new(alloc),
             turn: 1,
         }
+    }
+
+    /// Returns the seed of the graph's hash maps, for further maps over the same ids.
+    pub fn seed(&self) -> Seed {
+        self.past.seed()
     }
 
     /// Returns the source of the commits.

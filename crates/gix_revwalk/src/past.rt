@@ -18,10 +18,10 @@ ghost use Rattle.gix_revwalk.specs.Pasts.{home_in, told_in, spot_in, link_id, Sa
 
 use crate::graph::Row;
 use crate::numbers::Number;
+use crate::seed::Seed;
 use gix_base::hash::ObjectId;
 use std::alloc::{AllocError, Allocator};
 use std::collections::HashMap;
-use std::hash::{BuildHasherDefault, FoldHasher};
 use std::marker::Model;
 
 /// What is remembered about one id.
@@ -87,7 +87,7 @@ pub(crate) fn is_same(a: &ObjectId, b: &ObjectId) -> bool
 #[derive(Drop)]
 pub(crate) struct Past<A: Allocator> {
     memories: Vec<Memory, A>,
-    index: HashMap<ObjectId, Number, BuildHasherDefault<FoldHasher>, A>,
+    index: HashMap<ObjectId, Number, Seed, A>,
     parents: Vec<ObjectId, A>,
     /// A guess at the spot of each parent, as far as these were looked up.
     guesses: Vec<usize, A>,
@@ -105,14 +105,14 @@ impl<A: Allocator> Model for Past<A> {
 }
 
 impl<A: Allocator + Copy> Past<A> {
-    /// Creates an empty memory.
-    pub(crate) fn new(alloc: A) -> Self
+    /// Creates an empty memory, whose index is seeded with `seed`.
+    pub(crate) fn new(alloc: A, seed: Seed) -> Self
         ensures homes { (q : ObjectId) → home_in result q ≡ None }
         ensures told { (q : ObjectId) → told_in result q ≡ None }
     {
         Past {
             memories: Vec::new(alloc),
-            index: HashMap::new(alloc),
+            index: HashMap::with_hasher(alloc, seed),
             parents: Vec::new(alloc),
             guesses: Vec::new(alloc),
         }
@@ -120,6 +120,11 @@ impl<A: Allocator + Copy> Past<A> {
 }
 
 impl<A: Allocator> Past<A> {
+    /// Returns the seed of the index.
+    pub(crate) fn seed(&self) -> Seed {
+        *self.index.hasher()
+    }
+
     /// Returns the spot of an id; `None` if the id is not remembered.
     #[inline(always)]
     fn spot(&self, id: &ObjectId, guess: usize) -> Option<usize>
