@@ -1,5 +1,5 @@
 -- Lists of extra edges.
-use Rattle.std.proofs.Common.{◌≡◌, ℕ, suc, ◌+◌, ◌-◌, ◌%◌, ◌^◌, ◌<◌, ◌≤◌, inl, inr, List, [], ◌∷◌, ◌++◌, map, Bool, nat_lt, true, false, refl, sym, ap, ◌∙◌, arith, append_assoc}
+use Rattle.std.proofs.Common.{◌≡◌, ℕ, suc, ◌+◌, ◌-◌, ◌%◌, ◌^◌, ◌<◌, ◌≤◌, inl, inr, List, [], ◌∷◌, ◌++◌, length, map, Bool, nat_lt, true, false, refl, sym, ap, ◌∙◌, arith, append_assoc}
 use Rattle.std.proofs.lemmas.Bool.{cases_lt}
 use Rattle.std.proofs.lemmas.Bool.Decides.{nat_tests}
 use Rattle.std.specs.List.{list_all}
@@ -21,6 +21,10 @@ module _ (s : List ℕ) (l : Layout) (k n w : ℕ) (below : k < n) (is : w ≡ e
       let t : nat_lt (edge_word s l k) (2 ^ 31) ≡ true = rw (← is) (grind (arith, nat_tests)) in
       let m : edge_word s l k ≡ w % 2 ^ 31 = rw (← is) (omega arith) in
       rw (e, t) (ap (λ p. p ∷ edge_list s l (k + 1) (n - (k + 1))) m)
+
+  -- the place after a list is the same from any of its numbers but the last
+  pub end-passed : w < 2 ^ 31 → k + 1 + length (edge_list s l (k + 1) (n - (k + 1))) ≡ k + length (edge_list s l k (n - k))
+  end-passed low = rw (more-edges low) (omega arith)
 
   module _ (f : ℕ → Bool) where
     -- one of a list does not pass

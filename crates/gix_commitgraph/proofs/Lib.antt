@@ -3,6 +3,7 @@ pub mod Order
 pub mod Fanned
 pub mod Edges
 pub mod History
+pub mod Few
 pub mod Falling
 pub mod Refusals
 pub mod Joins

@@ -7,7 +7,7 @@ use Rattle.gix_commitgraph.specs.FileRefused.{IsWrong, IsMisshapen, IsLacking}
 use Rattle.gix_commitgraph.specs.declared.commit_graph.layout.Chunk.{Chunk}
 use Rattle.gix_commitgraph.specs.declared.commit_graph.layout.Layout.{Layout}
 use Rattle.gix_commitgraph.specs.declared.commit_graph.fault.OpenFault.{OpenFault}
-use Rattle.gix_commitgraph.specs.declared.commit_graph.fault.OpenFault.TheVariants.{TooShort, Signature, Version, Hash, BaseGraphs, NoChunkId, Repeated, ChunkPlace, TableEnd, NoFanout, NoIds, NoRows, ChunkSize, Fanout, IdOrder, IdPlace, Parent, EdgeParent, EdgeEnd}
+use Rattle.gix_commitgraph.specs.declared.commit_graph.fault.OpenFault.TheVariants.{TooShort, Signature, Version, Hash, BaseGraphs, NoChunkId, Repeated, ChunkPlace, TableEnd, NoFanout, NoIds, NoRows, ChunkSize, Fanout, IdOrder, IdPlace, Parent, EdgeParent, EdgeEnd, EdgeOrder}
 
 -- ---- one chunk
 
@@ -67,6 +67,7 @@ misshapen-refutes s IdPlace m g = m
 misshapen-refutes s Parent m g = m
 misshapen-refutes s EdgeParent m g = m
 misshapen-refutes s EdgeEnd m g = m
+misshapen-refutes s EdgeOrder m g = m
 
 pub wrong-refutes : (s : List ℕ) (e : OpenFault) → IsWrong s (layout_of s) e → IsCommitGraph s → ⊥
 wrong-refutes s Fanout w g = w.2 (g.sound.fans w.0 w.1)
@@ -75,6 +76,7 @@ wrong-refutes s IdOrder w g = w.2 (g.sound.rises w.0 w.1)
 wrong-refutes s Parent w g = w.2 (g.sound.parents w.0 w.1)
 wrong-refutes s EdgeParent w g = w.2 (g.sound.edges w.0 w.1)
 wrong-refutes s EdgeEnd w g = let h = g.sound.ended w.0 in let b = w.1 in omega arith
+wrong-refutes s EdgeOrder (i, j, less, here, w) g = w (g.sound.lists i j less here)
 wrong-refutes s TooShort w g = w
 wrong-refutes s Signature w g = w
 wrong-refutes s Version w g = w

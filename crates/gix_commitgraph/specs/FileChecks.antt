@@ -7,7 +7,7 @@ use Rattle.std.specs.declared.cmp.Ordering.{Ordering}
 use Rattle.std.specs.declared.cmp.Ordering.TheVariants.{Less}
 use Rattle.gix_base.specs.declared.hash.ObjectId.{ObjectId}
 use Rattle.gix_commitgraph.specs.FileBytes.{word}
-use Rattle.gix_commitgraph.specs.FileCommits.{id_of, row_word, edge_word}
+use Rattle.gix_commitgraph.specs.FileCommits.{id_of, row_word, edge_word, edge_list}
 use Rattle.gix_commitgraph.specs.declared.commit_graph.layout.Layout.{Layout}
 
 -- How the ids a and b compare, byte by byte.
@@ -59,6 +59,23 @@ module _ (s : List ℕ) (l : Layout) where
   abbrev pub NamesCommit : ℕ → Type 0
   NamesCommit k = edge_word s l k % 2 ^ 31 < l.count
 
+  -- The commit at position i has a list in EDGE.
+  abbrev pub HasList : ℕ → Type 0
+  HasList i = 2 ^ 31 ≤ row_word s l i 24
+
+  -- The place in EDGE at which the list of the commit at position i begins, if it has one.
+  abbrev pub list_start : ℕ → ℕ
+  list_start i = row_word s l i 24 - 2 ^ 31
+
+  -- The place in EDGE after the last number of the list of the commit at position i, if it has one.
+  abbrev pub list_end : ℕ → ℕ
+  list_end i = list_start i + length (edge_list s l (list_start i) (l.edge_count - list_start i))
+
+  -- If the commits at positions i and j both have a list in EDGE, the list of i ends before that of
+  -- j begins.
+  abbrev pub EndsBefore : ℕ → ℕ → Type 0
+  EndsBefore i j = HasList i → HasList j → list_end i ≤ list_start j
+
   pub record IsSound : Type 0 where
     pub fits : Fits s l
     pub fans : (b : ℕ) → b < 256 → Fans b
@@ -68,3 +85,5 @@ module _ (s : List ℕ) (l : Layout) where
     pub edges : (k : ℕ) → k < l.edge_count → NamesCommit k
     -- The last number of EDGE ends a list.
     pub ended : 0 < l.edge_count → 2 ^ 31 ≤ edge_word s l (l.edge_count - 1)
+    -- The lists in EDGE are in the order of their commits, and no two overlap.
+    pub lists : (i j : ℕ) → i < j → j < l.count → EndsBefore i j

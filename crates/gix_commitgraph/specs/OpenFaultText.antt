@@ -1,7 +1,7 @@
 -- The text that a fault of opening a file prints.
 use Rattle.std.specs.Prelude.{ℕ, List, codes}
 use Rattle.gix_commitgraph.specs.declared.commit_graph.fault.OpenFault.{OpenFault}
-use Rattle.gix_commitgraph.specs.declared.commit_graph.fault.OpenFault.TheVariants.{TooShort, Signature, Version, Hash, BaseGraphs, NoChunkId, Repeated, ChunkPlace, TableEnd, NoFanout, NoIds, NoRows, ChunkSize, Fanout, IdOrder, IdPlace, Parent, EdgeParent, EdgeEnd}
+use Rattle.gix_commitgraph.specs.declared.commit_graph.fault.OpenFault.TheVariants.{TooShort, Signature, Version, Hash, BaseGraphs, NoChunkId, Repeated, ChunkPlace, TableEnd, NoFanout, NoIds, NoRows, ChunkSize, Fanout, IdOrder, IdPlace, Parent, EdgeParent, EdgeEnd, EdgeOrder}
 
 abbrev pub open_fault_text : OpenFault → List ℕ
 open_fault_text TooShort = codes "the file is too short"
@@ -23,3 +23,4 @@ open_fault_text IdPlace = codes "an id outside its fanout"
 open_fault_text Parent = codes "a parent that is no commit of the file"
 open_fault_text EdgeParent = codes "an extra edge to no commit of the file"
 open_fault_text EdgeEnd = codes "extra edges without an end"
+open_fault_text EdgeOrder = codes "lists of extra edges that overlap or are out of order"

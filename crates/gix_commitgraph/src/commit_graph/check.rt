@@ -1,8 +1,9 @@
 //! Checks the commits of a file when it is opened.
 
-ghost use Rattle.std.specs.Prelude.{◌≡◌, ℕ, ◌+◌, ◌-◌, ◌*◌, ◌%◌, ◌^◌, ◌≤◌, ◌<◌, length, OnOk, IfErr};
-ghost use Rattle.gix_commitgraph.specs.FileCommits.{id_of, row_word, edge_word};
-ghost use Rattle.gix_commitgraph.specs.FileChecks.{Fits, Fans, fan, fan_below, first_byte, compare_ids, IsFanned, Rises, HasParents, NamesCommit, IsSound};
+ghost use Rattle.std.specs.Prelude.{◌≡◌, ℕ, ◌+◌, ◌-◌, ◌*◌, ◌%◌, ◌^◌, ◌≤◌, ◌<◌, length, OnOk, IfErr, IfOk};
+ghost use Rattle.gix_commitgraph.specs.FileCommits.{id_of, row_word, edge_word, edge_list};
+ghost use Rattle.gix_commitgraph.specs.FileChecks.{Fits, Fans, fan, fan_below, first_byte, compare_ids, IsFanned, Rises, HasParents, NamesCommit, EndsBefore, IsSound};
+ghost use Rattle.gix_commitgraph.specs.FileLists.{IsFree};
 ghost use Rattle.gix_commitgraph.specs.FileRefused.{IsWrong};
 
 use crate::commit_graph::bytes::{id_at, word_at};
@@ -157,6 +158,56 @@ fn check_end(bytes: &[u8], l: Layout) -> Result<(), OpenFault>
     Ok(())
 }
 
+/// Returns the place in `EDGE` after the list that begins at `start`.
+fn list_end(bytes: &[u8], l: Layout, start: usize) -> usize
+    requires fits { Fits bytes.now l }
+    requires inside { start ≤ l.edge_count }
+    ensures { result ≡ start + length (edge_list bytes.now l start (l.edge_count - start)) }
+{
+    for k in start..l.edge_count {
+        if word_at(bytes, l.edges + 4 * k) >= HIGH {
+            return k + 1;
+        }
+    }
+    l.edge_count
+}
+
+/// Checks that the list of the commit at position `i`, if it has one, begins at place `free` of
+/// `EDGE` or later. Returns the place after the list, or `free` if there is none.
+fn check_list(bytes: &[u8], l: Layout, i: usize, free: usize) -> Result<usize, OpenFault>
+    requires fits { Fits bytes.now l }
+    requires here { i < l.count }
+    requires parents { HasParents bytes.now l i }
+    requires free { IsFree bytes.now l i free }
+    ensures sound { OnOk result ((j : ℕ) → j < i → EndsBefore bytes.now l j i) }
+    ensures next { IfOk result (IsFree bytes.now l (i + 1)) }
+    ensures wrong { IfErr result (IsWrong bytes.now l) }
+{
+    let second = word_at(bytes, l.rows + 36 * i + 24);
+    if second < HIGH {
+        return Ok(free);
+    }
+    if second - HIGH < free {
+        return Err(OpenFault::EdgeOrder);
+    }
+    Ok(list_end(bytes, l, second - HIGH))
+}
+
+/// Checks that the lists in `EDGE` are in the order of their commits, and that no two overlap.
+/// Reads each number of `EDGE` at most once.
+fn check_lists(bytes: &[u8], l: Layout) -> Result<(), OpenFault>
+    requires fits { Fits bytes.now l }
+    requires parents { (i : ℕ) → i < l.count → HasParents bytes.now l i }
+    ensures sound { OnOk result ((i j : ℕ) → i < j → j < l.count → EndsBefore bytes.now l i j) }
+    ensures wrong { IfErr result (IsWrong bytes.now l) }
+{
+    let mut free = 0;
+    for i in 0..l.count {
+        free = check_list(bytes, l, i, free)?;
+    }
+    Ok(())
+}
+
 /// Checks the fanout table, the ids, the parents and `EDGE`.
 pub(crate) fn check(bytes: &[u8], l: Layout) -> Result<(), OpenFault>
     requires { Fits bytes.now l }
@@ -168,5 +219,6 @@ pub(crate) fn check(bytes: &[u8], l: Layout) -> Result<(), OpenFault>
     check_order(bytes, l)?;
     check_all_parents(bytes, l)?;
     check_edges(bytes, l)?;
-    check_end(bytes, l)
+    check_end(bytes, l)?;
+    check_lists(bytes, l)
 }

@@ -46,6 +46,8 @@ pub enum OpenFault {
     EdgeParent,
     /// The last number of `EDGE` does not end a list.
     EdgeEnd,
+    /// Two lists in `EDGE` overlap, or are not in the order of their commits.
+    EdgeOrder,
 }
 
 impl fmt::Display for OpenFault {
@@ -74,6 +76,7 @@ impl fmt::Display for OpenFault {
             OpenFault::Parent => "a parent that is no commit of the file",
             OpenFault::EdgeParent => "an extra edge to no commit of the file",
             OpenFault::EdgeEnd => "extra edges without an end",
+            OpenFault::EdgeOrder => "lists of extra edges that overlap or are out of order",
         })
     }
 }

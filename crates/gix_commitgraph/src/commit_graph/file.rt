@@ -1,6 +1,6 @@
 //! A commit-graph file as a source of commits.
 
-ghost use Rattle.std.specs.Prelude.{◌≡◌, ◌↔◌, ◌<◌, ◌^◌, length, slice_get, IsOk, IfOk, IfErr, OnOk, IsTrue, is_some};
+ghost use Rattle.std.specs.Prelude.{◌≡◌, ◌↔◌, ◌+◌, ◌*◌, ◌<◌, ◌≤◌, ◌^◌, length, slice_get, IsOk, IfOk, IfErr, OnOk, IsTrue, is_some};
 ghost use Rattle.std.specs.Option.{option_map};
 ghost use Rattle.std.specs.List.Sorted.{IsStrictlySortedBy};
 ghost use Rattle.gix_revwalk.specs.Held.{entry_of};
@@ -12,6 +12,7 @@ ghost use Rattle.gix_commitgraph.specs.FileFormat.{IsCommitGraph};
 ghost use Rattle.gix_commitgraph.specs.FileIds.{ids_in, IsFirstFrom};
 ghost use Rattle.gix_commitgraph.specs.FileHash.{HashIsRight};
 ghost use Rattle.gix_commitgraph.specs.FileLevels.{LevelsFall, IsLevelled};
+ghost use Rattle.gix_commitgraph.specs.FileParents.{parent_count};
 ghost use Rattle.gix_commitgraph.specs.FileRefused.{IsRefused};
 
 use crate::commit_graph::bytes::id_at;
@@ -70,8 +71,9 @@ impl<B: AsSlice<u8> + Drop> CommitGraph<B> {
     ///
     /// Succeeds exactly if the bytes are a well-formed file (gitformat-commit-graph, "File Layout")
     /// of version 1 with SHA-1 ids and without base graphs. Such a file is the only one of its
-    /// repository, or the first of a chain. Every commit is checked here, so later look-ups meet no
-    /// malformed row. [`CommitGraph::hash_is_right`] compares the trailing hash;
+    /// repository, or the first of a chain. Its lists of extra edges are in the order of their
+    /// commits, and no two overlap, as git writes them. Every commit is checked here, so later
+    /// look-ups meet no malformed row. [`CommitGraph::hash_is_right`] compares the trailing hash;
     /// [`CommitGraph::levels_fall`] checks the topological levels.
     ///
     /// # Errors
@@ -124,6 +126,18 @@ impl<B: AsSlice<u8> + Drop> CommitGraph<B> {
         ensures { result ≡ length (history_in self.now) }
     {
         self.layout.count
+    }
+
+    /// Guarantees that the commits have few parents. Does nothing else.
+    ///
+    /// All commits together have at most two parents for each commit, and one more for each entry
+    /// of `EDGE`. That is at most a third of the number of bytes.
+    pub fn parents_are_few(&self)
+        ensures entries { parent_count (history_in self.now)
+            ≤ 2 * length (history_in self.now) + (layout_of self.now).edge_count }
+        ensures bytes { 3 * parent_count (history_in self.now) ≤ length self.now }
+    {
+        let _bytes = &self.bytes;
     }
 
     /// Returns the id of the commit at `position`, or `None` past the last one.

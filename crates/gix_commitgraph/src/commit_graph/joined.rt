@@ -1,8 +1,9 @@
 //! A commit-graph file, if there is one, and a source of the commits that it does not have.
 
-ghost use Rattle.std.specs.Prelude.{◌≡◌, ◌++◌, None, Some, is_some, IfErr, IfOk, OnErr, OnOk, if◌then◌else◌};
+ghost use Rattle.std.specs.Prelude.{◌≡◌, ◌++◌, None, Some, is_some, IfErr, IfOk, IsTrue, OnErr, OnOk, if◌then◌else◌};
 ghost use Rattle.std.specs.Option.{option_map};
-ghost use Rattle.gix_revwalk.specs.Generations.{HasNoGenerations};
+ghost use Rattle.gix_revwalk.specs.Generations.{AreSo, HasNoGenerations};
+ghost use Rattle.gix_revwalk.specs.declared.graph.find.Generations.TheVariants.{Absent, NeverRise};
 ghost use Rattle.gix_revwalk.specs.Held.{entry_of};
 ghost use Rattle.gix_revwalk.specs.History.{IsAcyclic, GenerationsNeverRise, entry_at, same_id};
 ghost use Rattle.gix_revwalk.specs.Memory.{SaysWhy};
@@ -11,6 +12,7 @@ ghost use Rattle.gix_base.specs.declared.hash.ObjectId.{ObjectId};
 
 use crate::commit_graph::levelled::LevelledGraph;
 use gix_base::hash::ObjectId;
+use gix_revwalk::Seed;
 use gix_revwalk::graph::{
     Find, FindFault, Generations, Insert, InsertError, MemorySource, SourceCommit,
 };
@@ -90,18 +92,46 @@ impl<S: Find, B: AsSlice<u8> + Drop> Joined<S, B> {
             None => Ok(None),
         }
     }
+
+    /// Returns what is known about the generation numbers of all commits together, if `newer` is
+    /// known about those of the newer commits.
+    fn generations_with(&self, newer: Generations) -> Generations
+        requires { AreSo newer (S.history self.now.newer) }
+        ensures so { AreSo result (in_file self.now.file ++ S.history self.now.newer) }
+        ensures known { IsTrue (is_some self.now.file) → newer ≡ Absent → result ≡ NeverRise }
+    {
+        self.premises();
+        match (&self.file, newer) {
+            (None, known) => known,
+            (Some(_), Generations::Absent) => Generations::NeverRise,
+            (Some(_), _) => Generations::Unknown,
+        }
+    }
 }
 
 impl<A: Allocator + Copy> Joined<MemorySource<A>> {
     /// Makes a source of the commits of `file`, if there is one, without newer commits.
+    ///
+    /// The hash map of the newer commits has the default seed. If strangers choose their ids, use
+    /// [`Joined::with_seed`].
     pub fn new(alloc: A, file: Option<LevelledGraph>) -> Self
+        ensures file { result.file ≡ file }
+        ensures empty { (id : ObjectId) → entry_at result.newer id ≡ None }
+        ensures commits { in_file result.file ++ result.newer ≡ in_file file }
+    {
+        Joined::with_seed(alloc, file, Seed::default())
+    }
+
+    /// Makes a source of the commits of `file`, if there is one, without newer commits. The hash
+    /// map of newer commits is seeded with `seed`.
+    pub fn with_seed(alloc: A, file: Option<LevelledGraph>, seed: Seed) -> Self
         ensures file { result.file ≡ file }
         ensures empty { (id : ObjectId) → entry_at result.newer id ≡ None }
         ensures commits { in_file result.file ++ result.newer ≡ in_file file }
     {
         Joined {
             file,
-            newer: MemorySource::new(alloc),
+            newer: MemorySource::with_seed(alloc, seed),
         }
     }
 }
@@ -167,12 +197,7 @@ impl<S: Find, B: AsSlice<u8> + Drop> Find for Joined<S, B> {
     }
 
     fn generations(&self) -> Generations {
-        self.premises();
-        match (&self.file, self.newer.generations()) {
-            (None, known) => known,
-            (Some(_), Generations::Absent) => Generations::NeverRise,
-            (Some(_), _) => Generations::Unknown,
-        }
+        self.generations_with(self.newer.generations())
     }
 }
 
@@ -194,8 +219,12 @@ impl<M: Allocator, B: AsSlice<u8> + Drop> Find for &Joined<MemorySource<M>, B> {
         0
     }
 
-    fn generations(&self) -> Generations {
-        (**self).generations()
+    fn generations(&self) -> Generations
+        ensures so { AreSo result (in_file self.now.now.file ++ self.now.now.newer) }
+        ensures known { IsTrue (is_some self.now.now.file) → HasNoGenerations self.now.now.newer
+            → result ≡ NeverRise }
+    {
+        self.generations_with(self.newer.generations())
     }
 }
 
