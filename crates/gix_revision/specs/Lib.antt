@@ -80,6 +80,7 @@ pub use Rattle.gix_commitgraph.specs.FileChecks
 pub use Rattle.gix_commitgraph.specs.FileFormat
 pub use Rattle.gix_commitgraph.specs.FileRefused
 pub use Rattle.gix_commitgraph.specs.FileIds
+pub use Rattle.gix_commitgraph.specs.FileParents
 pub use Rattle.gix_commitgraph.specs.FileLevels
 pub use Rattle.gix_commitgraph.specs.FileHash
 pub use Rattle.gix_commitgraph.specs.NewerCommits

@@ -11,6 +11,8 @@
 //! implements [`graph::Find`], and can be used for many calls. A commit-graph file is such a
 //! source.
 //!
+//! If strangers choose the ids, give graphs, sources and names a random [`Seed`].
+//!
 //! This crate only re-exports. Each part is proved in a crate of its own.
 //!
 //! # Premises
@@ -49,6 +51,7 @@ pub use gix_describe::describe;
 pub use gix_merge_base::merge_base;
 pub use gix_revwalk::graph::Graph;
 pub use gix_revwalk::queue::PriorityQueue;
+pub use gix_revwalk::seed::Seed;
 pub use gix_revwalk::{graph, queue};
 pub use gix_spec::spec;
 pub use gix_spec::spec::Spec;

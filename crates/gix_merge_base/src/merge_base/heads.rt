@@ -21,6 +21,7 @@ use crate::merge_base::error::Error;
 use crate::merge_base::flags::Flags;
 use crate::merge_base::order::in_order;
 use gix_base::hash::ObjectId;
+use gix_revwalk::Seed;
 use gix_revwalk::graph::{Commit, Find, Graph};
 use gix_revwalk::seen::Seen;
 use std::alloc::{AllocError, Allocator};
@@ -35,12 +36,13 @@ fn all_are(ids: &[ObjectId], id: ObjectId) -> bool
 /// Returns each of `first` and `others` once, in the order of first places.
 fn distinct<A: Allocator + Copy>(
     alloc: A,
+    seed: Seed,
     first: ObjectId,
     others: &[ObjectId],
 ) -> Result<Vec<ObjectId, A>, AllocError>
     ensures { IfOk result (λ heads. heads.items ≡ firsts (first ∷ others.now)) }
 {
-    let mut heads = Seen::new(alloc);
+    let mut heads = Seen::new(alloc, seed);
     heads.add(first)?;
     heads.add_all(others)?;
     Ok(heads.into_vec())
@@ -115,7 +117,7 @@ fn bases_of_heads<S: Find, A: Allocator + Copy>(
     ensures loads { LoadsFrom (S.history graph.old.source) (first ∷ others.now) graph.old graph.new }
     ensures after { AfterCall S.history S.fault_count graph.old graph.new result }
 {
-    let heads = distinct(alloc, first, others)?;
+    let heads = distinct(alloc, graph.seed(), first, others)?;
     let known = in_order(alloc, &heads, graph)?;
     if known.len() < heads.len() {
         return Ok(Vec::new(alloc));

@@ -26,6 +26,7 @@ use crate::merge_base::gen_then_time::GenThenTime;
 use crate::merge_base::hand::{Walk, mark_of};
 use bitflags::Flags as BitFlags;
 use gix_base::hash::ObjectId;
+use gix_revwalk::Seed;
 use gix_revwalk::graph::{Commit, Find, Graph};
 use gix_revwalk::numbers::{self, Mark, Number};
 use gix_revwalk::seen::Seen;
@@ -35,10 +36,14 @@ use std::alloc::{AllocError, Allocator};
 const MET: Flags = Flags::STALE;
 
 /// Returns each id once, in the order of first places.
-fn gather<A: Allocator + Copy>(alloc: A, ids: &[ObjectId]) -> Result<Vec<ObjectId, A>, AllocError>
+fn gather<A: Allocator + Copy>(
+    alloc: A,
+    seed: Seed,
+    ids: &[ObjectId],
+) -> Result<Vec<ObjectId, A>, AllocError>
     ensures { IfOk result (λ v. v.items ≡ firsts ids.now) }
 {
-    let mut seen = Seen::new(alloc);
+    let mut seen = Seen::new(alloc, seed);
     seen.add_all(ids)?;
     Ok(seen.into_vec())
 }
@@ -285,7 +290,7 @@ pub fn reduce<S: Find, A: Allocator + Copy>(
         ≡ count_after (is_source_fault result) (S.fault_count graph.old.source) }
     ensures held { KeepsHeld graph.old graph.new }
 {
-    let mut left = gather(alloc, ids)?;
+    let mut left = gather(alloc, graph.seed(), ids)?;
     let numbers = list(alloc, &left, graph)?;
     let mut walk = Walk::new(alloc, numbers.len());
     meet_parents(alloc, &numbers, &mut walk, graph)?;
