@@ -93,13 +93,17 @@ typedef struct gix_history gix_history;
 /*
  * Makes a history without commits.
  *
+ * `seed` is for its hash tables; no answer depends on it. If strangers choose
+ * the ids, pass a random number: who knows the seed can make calls slow with
+ * ids whose hashes collide. Otherwise pass any number, such as 0.
+ *
  * The old value of *out is not freed.
  *
  * Returns:
  *   GIX_OK             *out is the new history.
  *   GIX_OUT_OF_MEMORY
  */
-int32_t gix_history_new(gix_history **out);
+int32_t gix_history_new(uint64_t seed, gix_history **out);
 
 /*
  * Makes a history of the commits in git's commit-graph file.
@@ -110,8 +114,8 @@ int32_t gix_history_new(gix_history **out);
  *
  * The history has the commits of the file with their generation numbers, and
  * all their parents. Add newer commits with gix_history_insert. The bytes are
- * copied, and an index of the ids takes about 50 bytes a commit more. The old
- * value of *out is not freed.
+ * copied, and an index of the ids takes about 50 bytes a commit more. `seed` is
+ * that of gix_history_new. The old value of *out is not freed.
  *
  * Returns:
  *   GIX_OK             *out is the new history.
@@ -120,7 +124,7 @@ int32_t gix_history_new(gix_history **out);
  *                      a level that is not greater than its parents'.
  *   GIX_OUT_OF_MEMORY
  */
-int32_t gix_history_open(const uint8_t *bytes, size_t bytes_len,
+int32_t gix_history_open(const uint8_t *bytes, size_t bytes_len, uint64_t seed,
                          gix_history **out);
 
 /*

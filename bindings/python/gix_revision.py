@@ -195,6 +195,11 @@ def _answered(code: int) -> bool:
     raise _REFUSALS[code]()
 
 
+def _seed() -> ctypes.c_uint64:
+    """Returns a random seed for the hash tables of a history."""
+    return ctypes.c_uint64(int.from_bytes(os.urandom(8), "little"))
+
+
 class History:
     """Commits, ref names for revisions, and what earlier queries have cached.
 
@@ -203,7 +208,7 @@ class History:
 
     def __init__(self) -> None:
         self._at = _HANDLE()
-        _answered(_library.gix_history_new(ctypes.byref(self._at)))
+        _answered(_library.gix_history_new(_seed(), ctypes.byref(self._at)))
 
     @classmethod
     def open(cls, file: bytes) -> History:
@@ -213,7 +218,7 @@ class History:
         """
         history = cls.__new__(cls)
         history._at = _HANDLE()
-        _answered(_library.gix_history_open(file, len(file), ctypes.byref(history._at)))
+        _answered(_library.gix_history_open(file, len(file), _seed(), ctypes.byref(history._at)))
         return history
 
     def close(self) -> None:

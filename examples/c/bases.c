@@ -38,7 +38,7 @@ int main(int argc, char **argv) {
     gix_id ids[2], bases[64];
     size_t count = 0;
     char line[4096];
-    if (argc != 3 || !read_id(argv[1], &ids[0]) || !read_id(argv[2], &ids[1]) || gix_history_new(&history)) return 2;
+    if (argc != 3 || !read_id(argv[1], &ids[0]) || !read_id(argv[2], &ids[1]) || gix_history_new(0, &history)) return 2;
     while (fgets(line, sizeof line, stdin)) if (put(history, line)) return 2;
     int32_t code = gix_history_merge_bases(history, &ids[0], &ids[1], 1, bases, 64, &count);
     for (size_t i = 0; i < count && i < 64; i++, putchar('\n')) for (int j = 0; j < 20; j++) printf("%02x", bases[i].bytes[j]);

@@ -100,7 +100,7 @@ static void rounds(void) {
     gix_history *history = NULL;
     gix_id after = id_of(0), out[3];
     size_t count = 99;
-    EXPECT(gix_history_new(&history) == GIX_OK);
+    EXPECT(gix_history_new(0, &history) == GIX_OK);
     EXPECT(gix_history_missing(history, &after, 0, out, 3, &count) == GIX_OK && count == 0);
     EXPECT(put(history, 0x44, 0x33, 0x22, 4) == GIX_OK);
     EXPECT(put(history, 0x55, 0x22, 0x33, 5) == GIX_OK);
@@ -208,15 +208,15 @@ static void opened(void) {
     size_t count = 99;
     write_file(file);
     for (size_t len = 0; len < sizeof file; len++)
-        EXPECT(gix_history_open(file, len, &history) == GIX_NO_GRAPH);
+        EXPECT(gix_history_open(file, len, 0, &history) == GIX_NO_GRAPH);
     file[ROWS_OF_FIVE + 36 * 3 + 23] = 5;
-    EXPECT(gix_history_open(file, sizeof file, &history) == GIX_NO_GRAPH);
+    EXPECT(gix_history_open(file, sizeof file, 0, &history) == GIX_NO_GRAPH);
     write_file(file);
     write_number(file + ROWS_OF_FIVE + 36 * 3 + 28, 2 << 2);
-    EXPECT(gix_history_open(file, sizeof file, &history) == GIX_NO_LEVELS && history == NULL);
+    EXPECT(gix_history_open(file, sizeof file, 0, &history) == GIX_NO_LEVELS && history == NULL);
 
     write_file(file);
-    EXPECT(gix_history_open(file, sizeof file, &history) == GIX_OK);
+    EXPECT(gix_history_open(file, sizeof file, 0, &history) == GIX_OK);
     memset(file, 0xEE, sizeof file);
     EXPECT(gix_history_missing(history, &four, 0, out, 3, &count) == GIX_OK && count == 0);
     EXPECT(put(history, 0x55, 0x11, 0, 5) == GIX_ALREADY_THERE);
@@ -238,7 +238,7 @@ static void opened(void) {
 
 int main(void) {
     gix_history *history = NULL;
-    EXPECT(gix_history_new(&history) == GIX_OK);
+    EXPECT(gix_history_new(0, &history) == GIX_OK);
     fill(history);
     bases(history);
     ancestors(history);

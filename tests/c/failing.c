@@ -102,7 +102,7 @@ static void opened(long turn) {
     uint8_t file[FILE_OF_FIVE];
     size_t count = 0;
     write_file(file);
-    UNTIL(GIX_OK, gix_history_open(file, sizeof file, &history));
+    UNTIL(GIX_OK, gix_history_open(file, sizeof file, 0, &history));
     UNTIL(GIX_OK, put(history, 0x66, 0x55, 0, 6));
     UNTIL(GIX_OK, gix_history_merge_bases(history, &four, &six, 1, out, 4, &count));
     EXPECT(count == 2 && is_id(&out[0], 0x22) && is_id(&out[1], 0x33));
@@ -116,7 +116,7 @@ int main(void) {
         turn++;
         before = refused;
         left = turn;
-        UNTIL(GIX_OK, gix_history_new(&history));
+        UNTIL(GIX_OK, gix_history_new(0, &history));
         calls(history, turn);
         gix_history_free(history);
         opened(turn);

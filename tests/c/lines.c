@@ -52,7 +52,7 @@ static gix_history *open_file(const char *path) {
         exit(2);
     size_t len = fread(bytes, 1, sizeof bytes, file);
     fclose(file);
-    if (gix_history_open(bytes, len, &history) != GIX_OK)
+    if (gix_history_open(bytes, len, 0, &history) != GIX_OK)
         exit(3);
     return history;
 }
@@ -63,7 +63,7 @@ int main(int argc, char **argv) {
     if (argc > 1)
         history = open_file(argv[1]);
     else
-        EXPECT(gix_history_new(&history) == GIX_OK);
+        EXPECT(gix_history_new(0, &history) == GIX_OK);
     while (fgets(line, sizeof line, stdin)) {
         gix_id ids[16], out[64];
         size_t count = 0;

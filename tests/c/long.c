@@ -38,7 +38,7 @@ static void ask(gix_history *history, uint32_t first, uint32_t other, uint32_t b
 
 int main(void) {
     gix_history *history = NULL;
-    EXPECT(gix_history_new(&history) == GIX_OK);
+    EXPECT(gix_history_new(0, &history) == GIX_OK);
     lap("");
     for (uint32_t i = 0; i < COMMITS; i++) {
         gix_id id = numbered(i), parents[2];

@@ -69,7 +69,7 @@ static void ask(gix_history *history, const gix_id *first, const gix_id *other) 
 }
 
 static void insert_all(gix_history **history, const commit *commits, size_t count) {
-    expect(gix_history_new(history) == GIX_OK, "out of memory");
+    expect(gix_history_new(0, history) == GIX_OK, "out of memory");
     for (size_t i = 0; i < count; i++)
         expect(gix_history_insert(*history, &commits[i].id, commits[i].parents, commits[i].parents_len, commits[i].time, false, 0) == GIX_OK,
                "cannot insert a commit");
@@ -107,7 +107,7 @@ int main(int argc, char **argv) {
     uint8_t *bytes = argc == 4 ? bytes_of(argv[3], &len) : NULL;
     double start = now();
     if (bytes)
-        expect(gix_history_open(bytes, len, &history) == GIX_OK, "cannot open the commit-graph file");
+        expect(gix_history_open(bytes, len, 0, &history) == GIX_OK, "cannot open the commit-graph file");
     else
         insert_all(&history, commits, count);
     double filled = now();

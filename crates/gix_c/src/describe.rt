@@ -13,6 +13,7 @@ ghost use Rattle.gix_c.specs.Descriptions.{AreOptions, HasDescription, IsDescrib
 
 use crate::handle::Handle;
 use crate::status::{NO_COMMIT, NONE, OK, OUT_OF_MEMORY, TOO_MANY};
+use gix_revision::Seed;
 use gix_revision::describe::{Names, Options, Outcome, describe};
 use gix_revision::error::Message;
 use gix_revision::graph::Graph;
@@ -52,12 +53,12 @@ fn add_name<'a>(map: &mut Names<'a>, name: &Name<'a>) -> Result<(), AllocError>
     Ok(())
 }
 
-/// Collects the first name of each commit.
-fn first_names<'a>(alloc: Global, names: &[Name<'a>]) -> Result<Names<'a>, AllocError>
+/// Collects the first name of each commit, in a map that is seeded with `seed`.
+fn first_names<'a>(alloc: Global, seed: Seed, names: &[Name<'a>]) -> Result<Names<'a>, AllocError>
     ensures { IfOk result (λ map. (q : ObjectId)
         → name_at (names_of map.entries) q ≡ name_at (names_given names.now) q) }
 {
-    let mut map = HashMap::new(alloc);
+    let mut map = HashMap::with_hasher(alloc, seed);
     for name in names {
         add_name(&mut map, name)?;
     }
@@ -65,10 +66,15 @@ fn first_names<'a>(alloc: Global, names: &[Name<'a>]) -> Result<Names<'a>, Alloc
 }
 
 /// Makes the options of `describe`.
-fn options_of<'a>(alloc: Global, names: &[Name<'a>], how: &How) -> Result<Options<'a>, AllocError>
+fn options_of<'a>(
+    alloc: Global,
+    seed: Seed,
+    names: &[Name<'a>],
+    how: &How,
+) -> Result<Options<'a>, AllocError>
     ensures { IfOk result (AreOptions (names_given names.now) how.now) }
 {
-    let name_by_oid = first_names(alloc, names)?;
+    let name_by_oid = first_names(alloc, seed, names)?;
     Ok(Options {
         name_by_oid,
         max_candidates: how.max_candidates,
@@ -143,10 +149,12 @@ pub extern "C" fn gix_history_describe(
         ((result ≡ NO_COMMIT) ⊎ ((result ≡ TOO_MANY) ⊎ (result ≡ OUT_OF_MEMORY))) }
     ensures kept { history.new.value ≡ history.old.value }
 {
-    let Ok(options) = options_of(alloc, names, how) else {
+    let graph = &history.get_mut().graph;
+    let seed = graph.seed();
+    let Ok(options) = options_of(alloc, seed, names, how) else {
         return OUT_OF_MEMORY;
     };
-    let mut marks = Graph::new(alloc, history.get_mut().graph.source());
+    let mut marks = Graph::with_seed(alloc, graph.source(), seed);
     let found = match describe(alloc, &ObjectId(*commit), &mut marks, options) {
         Ok(found) => found,
         // A source in memory does not fail.

@@ -17,18 +17,20 @@ use crate::ids::ids_of;
 use crate::loose::Loose;
 use crate::place::Place;
 use crate::status::{ALREADY_THERE, OK, OUT_OF_MEMORY};
+use gix_revision::Seed;
 use gix_revision::graph::{InsertError, SourceCommit};
 use gix_revision::hash::ObjectId;
 use std::alloc::Global;
 
-/// Makes a history without commits, which `*out` then owns.
+/// Makes a history without commits, which `*out` then owns. Its hash maps are seeded with `seed`.
 ///
 /// What `*out` owned before is not freed.
 #[unsafe(no_mangle)]
-pub extern "C" fn gix_history_new(alloc: Global, out: &mut Place) -> i32
+pub extern "C" fn gix_history_new(alloc: Global, seed: u64, out: &mut Place) -> i32
     ensures { ByCode result (IsNew out.new.value) ⊥ ((result ≡ OUT_OF_MEMORY) × (out.new ≡ out.old)) }
 {
-    let Ok(place) = Place::holding(alloc, History::new(alloc)) else {
+    let history = History::new(alloc, Seed::new(seed));
+    let Ok(place) = Place::holding(alloc, history) else {
         return OUT_OF_MEMORY;
     };
     *out = place;

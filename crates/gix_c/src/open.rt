@@ -13,13 +13,15 @@ use crate::file::{Unopened, read_file};
 use crate::history::History;
 use crate::place::Place;
 use crate::status::{NO_GRAPH, NO_LEVELS, OK, OUT_OF_MEMORY};
+use gix_revision::Seed;
 use std::alloc::Global;
 
-/// Makes a history over the bytes of a commit-graph file, which `*out` then owns.
+/// Makes a history over the bytes of a commit-graph file, which `*out` then owns. Its hash maps are
+/// seeded with `seed`.
 ///
 /// What `*out` owned before is not freed.
 #[unsafe(no_mangle)]
-pub extern "C" fn gix_history_open(alloc: Global, bytes: &[u8], out: &mut Place) -> i32
+pub extern "C" fn gix_history_open(alloc: Global, bytes: &[u8], seed: u64, out: &mut Place) -> i32
     ensures opened { ByCode result (IsOpened bytes.now out.new.value) ⊥ (out.new ≡ out.old) }
 
     // The premises of merge bases.
@@ -43,7 +45,7 @@ pub extern "C" fn gix_history_open(alloc: Global, bytes: &[u8], out: &mut Place)
         Err(Unopened::NoLevels) => return NO_LEVELS,
         Err(Unopened::OutOfMemory) => return OUT_OF_MEMORY,
     };
-    let Ok(history) = History::over(alloc, file) else {
+    let Ok(history) = History::over(alloc, file, Seed::new(seed)) else {
         return OUT_OF_MEMORY;
     };
     let Ok(place) = Place::holding(alloc, history) else {

@@ -70,10 +70,11 @@ pub struct gix_fault {
 }
 
 extern "C" {
-    pub fn gix_history_new(out: *mut *mut gix_history) -> i32;
+    pub fn gix_history_new(seed: u64, out: *mut *mut gix_history) -> i32;
     pub fn gix_history_open(
         bytes: *const u8,
         bytes_len: usize,
+        seed: u64,
         out: *mut *mut gix_history,
     ) -> i32;
     pub fn gix_history_free(history: *mut gix_history);

@@ -37,7 +37,9 @@
 //! ```
 
 use gix_revision_proved_sys as sys;
+use std::collections::hash_map::RandomState;
 use std::fmt;
+use std::hash::{BuildHasher, Hasher};
 use std::ptr::{self, NonNull};
 
 /// The 20 bytes of an id.
@@ -220,6 +222,11 @@ impl Span {
     }
 }
 
+/// Returns a random seed for the hash tables of a history.
+fn random_seed() -> u64 {
+    RandomState::new().build_hasher().finish()
+}
+
 /// Commits, ref names for revisions, and what earlier queries have cached.
 pub struct History(NonNull<sys::gix_history>);
 
@@ -230,7 +237,7 @@ impl History {
     /// Makes a history without commits.
     pub fn new() -> Result<History, Error> {
         let mut at = ptr::null_mut();
-        answered(unsafe { sys::gix_history_new(&mut at) })?;
+        answered(unsafe { sys::gix_history_new(random_seed(), &mut at) })?;
         NonNull::new(at).map(History).ok_or(Error::OutOfMemory)
     }
 
@@ -243,7 +250,7 @@ impl History {
     /// [`Error::NoGraph`] and [`Error::NoLevels`].
     pub fn open(bytes: &[u8]) -> Result<History, Error> {
         let mut at = ptr::null_mut();
-        answered(unsafe { sys::gix_history_open(bytes.as_ptr(), bytes.len(), &mut at) })?;
+        answered(unsafe { sys::gix_history_open(bytes.as_ptr(), bytes.len(), random_seed(), &mut at) })?;
         NonNull::new(at).map(History).ok_or(Error::OutOfMemory)
     }
 

@@ -13,8 +13,8 @@ use Rattle.gix_c.proofs.describe.gix_history_describe.Goals as goal
 pub returns-in-Ok-printed-clause-described : goal.returns-in-Ok-printed-clause-described
 returns-in-Ok-printed-clause-described c =
     let o = c.in-Some.outcome in
-    let lent : c.new-marks.result.source.now ≡ c.args.history.now.value.graph.source = rw c.new-marks.ensures.source (c.source.ensures ∙ ap (λ (v : History). v.graph.source) c.get_mut.ensures.value) in
-    let same : joined c.new-marks.result.source.now ≡ commits_of c.args.history.now = ap joined lent in
+    let lent : c.with_seed-marks.result.source.now ≡ c.args.history.now.value.graph.source = rw c.with_seed-marks.ensures.source (c.source.ensures ∙ ap (λ (v : History). v.graph.source) c.get_mut-graph.ensures.value) in
+    let same : joined c.with_seed-marks.result.source.now ≡ commits_of c.args.history.now = ap joined lent in
     let id = rw c.in-Some.is at c.in-Ok-describe.ensures.kept in
     record {
       description = description_of o;
@@ -25,21 +25,21 @@ returns-in-Ok-printed-clause-described c =
 
 pub returns-clause-described : goal.returns-clause-described
 returns-clause-described c =
-    let lent : c.new-marks.result.source.now ≡ c.args.history.now.value.graph.source = rw c.new-marks.ensures.source (c.source.ensures ∙ ap (λ (v : History). v.graph.source) c.get_mut.ensures.value) in
-    let same : joined c.new-marks.result.source.now ≡ commits_of c.args.history.now = ap joined lent in
+    let lent : c.with_seed-marks.result.source.now ≡ c.args.history.now.value.graph.source = rw c.with_seed-marks.ensures.source (c.source.ensures ∙ ap (λ (v : History). v.graph.source) c.get_mut-graph.ensures.value) in
+    let same : joined c.with_seed-marks.result.source.now ≡ commits_of c.args.history.now = ap joined lent in
     described-so _ (commits_of c.args.history.now) (id_of c.args.commit.now) (names_given c.args.names.now) c.args.how.now c.in-Ok.options _ None same c.in-Ok.ensures
     (ap (option_map description_of) c.in-None.is) c.in-Ok-describe.ensures.described
 
 pub returns-in-Err-MissingStart-clause-no_commit : goal.returns-in-Err-MissingStart-clause-no_commit
 returns-in-Err-MissingStart-clause-no_commit c = λ _.
-    let lent : c.new-marks.result.source.now ≡ c.args.history.now.value.graph.source = rw c.new-marks.ensures.source (c.source.ensures ∙ ap (λ (v : History). v.graph.source) c.get_mut.ensures.value) in
-    let same : joined c.new-marks.result.source.now ≡ commits_of c.args.history.now = ap joined lent in
+    let lent : c.with_seed-marks.result.source.now ≡ c.args.history.now.value.graph.source = rw c.with_seed-marks.ensures.source (c.source.ensures ∙ ap (λ (v : History). v.graph.source) c.get_mut-graph.ensures.value) in
+    let same : joined c.with_seed-marks.result.source.now ≡ commits_of c.args.history.now = ap joined lent in
     let why = rw c.in-Err-MissingStart.field-0-is at c.in-Err-MissingStart.ensures.refused in
     lacked c.in-Ok.options.first_parent _ (commits_of c.args.history.now) (id_of c.args.commit.now) same why.2
 
 pub returns-in-Err-CounterFull-clause-too_many : goal.returns-in-Err-CounterFull-clause-too_many
 returns-in-Err-CounterFull-clause-too_many c = λ _.
-    let lent : c.new-marks.result.source.now ≡ c.args.history.now.value.graph.source = rw c.new-marks.ensures.source (c.source.ensures ∙ ap (λ (v : History). v.graph.source) c.get_mut.ensures.value) in
-    let same : joined c.new-marks.result.source.now ≡ commits_of c.args.history.now = ap joined lent in
+    let lent : c.with_seed-marks.result.source.now ≡ c.args.history.now.value.graph.source = rw c.with_seed-marks.ensures.source (c.source.ensures ∙ ap (λ (v : History). v.graph.source) c.get_mut-graph.ensures.value) in
+    let same : joined c.with_seed-marks.result.source.now ≡ commits_of c.args.history.now = ap joined lent in
     let why = rw c.in-Err-CounterFull.field-0-is at c.in-Err-CounterFull.ensures.refused in
     many-reached c.in-Ok.options.first_parent c.args.how.now.first_parent _ (commits_of c.args.history.now) (id_of c.args.commit.now) same c.in-Ok.ensures.first_parent why.1

@@ -11,6 +11,6 @@ returns c =
     let put = c.in-Ok.ensures in (
       put.0,
       put.1,
-      subst (λ (v : History). (id : ObjectId) → entry_at (commits_in v) id ≡ None) (sym put.2) c.new.ensures.empty,
-      subst (λ (v : History). Remembers (commits_in v) v.named.items) (sym put.2) c.new.ensures.noted,
+      subst (λ (v : History). (id : ObjectId) → entry_at (commits_in v) id ≡ None) (sym put.2) c.new-history.ensures.empty,
+      subst (λ (v : History). Remembers (commits_in v) v.named.items) (sym put.2) c.new-history.ensures.noted,
     )
