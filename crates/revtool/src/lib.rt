@@ -21,6 +21,7 @@ mod session;
 mod stop;
 
 use answers::Outcome;
+pub use gix_revision::Seed;
 use gix_revision::commit_graph::LevelledGraph;
 pub use graph_file::{FileFault, open_graph, read_graph};
 pub use request::{HELP, Request, VERSION};
@@ -58,15 +59,25 @@ pub fn run<R: Read, W: Write, E: Write, A: Allocator + Copy>(
     ensures untouched { Keeps (E.contents faults.old) (E.contents faults.new)
         ⊎ Keeps (W.contents output.old) (W.contents output.new) }
 {
-    run_over(alloc, refusals, None, input, output, faults)
+    run_over(
+        alloc,
+        refusals,
+        Seed::default(),
+        None,
+        input,
+        output,
+        faults,
+    )
 }
 
 /// Answers like [`run`]; the history also has the commits of `file`, if there is one.
 ///
-/// A `commit` line for a commit that the file has is unreadable.
+/// A `commit` line for a commit that the file has is unreadable. All hash maps over ids are seeded
+/// with `seed`; no answer depends on it.
 pub fn run_over<R: Read, W: Write, E: Write, A: Allocator + Copy>(
     alloc: A,
     refusals: Global,
+    seed: Seed,
     file: Option<LevelledGraph>,
     input: &mut R,
     output: &mut W,
@@ -79,7 +90,7 @@ pub fn run_over<R: Read, W: Write, E: Write, A: Allocator + Copy>(
     ensures untouched { Keeps (E.contents faults.old) (E.contents faults.new)
         ⊎ Keeps (W.contents output.old) (W.contents output.new) }
 {
-    match answer_input(alloc, refusals, file, input, output) {
+    match answer_input(alloc, refusals, seed, file, input, output) {
         Ok(Outcome::Answered) => 0,
         Ok(Outcome::Refused) => 1,
         Err(stop) => {
@@ -93,6 +104,7 @@ pub fn run_over<R: Read, W: Write, E: Write, A: Allocator + Copy>(
 fn answer_input<R: Read, W: Write, A: Allocator + Copy>(
     alloc: A,
     refusals: Global,
+    seed: Seed,
     file: Option<LevelledGraph>,
     input: &mut R,
     output: &mut W,
@@ -102,6 +114,6 @@ fn answer_input<R: Read, W: Write, A: Allocator + Copy>(
         → Keeps (W.contents output.old) (W.contents output.new)) }
 {
     let text = input::read_all(alloc, input)?;
-    let session = session::read_lines(alloc, file, &text)?;
+    let session = session::read_lines(alloc, seed, file, &text)?;
     answers::answer_all(alloc, refusals, session, output)
 }

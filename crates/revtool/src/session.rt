@@ -4,6 +4,7 @@ use crate::commits::Commits;
 use crate::fields::LineFault;
 use crate::lines::{Command, Line, commit_id, read_line};
 use crate::stop::Stop;
+use gix_revision::Seed;
 use gix_revision::commit_graph::LevelledGraph;
 use gix_revision::describe::Options;
 use gix_revision::graph::Insert;
@@ -26,17 +27,20 @@ pub(crate) struct Session<'t, A: Allocator> {
     /// The ids of all commits of the text; empty if no line has a revision to resolve.
     pub(crate) ids: BTreeSet<ObjectId, A>,
     pub(crate) commands: Vec<Command<'t, A>, A>,
+    /// The seed of all hash maps over ids.
+    pub(crate) seed: Seed,
 }
 
 impl<'t, A: Allocator + Copy> Session<'t, A> {
     // Makes the session of a text without lines.
-    fn new(alloc: A, file: Option<LevelledGraph>) -> Session<'t, A> {
+    fn new(alloc: A, seed: Seed, file: Option<LevelledGraph>) -> Session<'t, A> {
         Session {
-            source: Commits::new(alloc, file),
-            options: Options::new(alloc),
+            source: Commits::with_seed(alloc, file, seed),
+            options: Options::with_seed(alloc, seed),
             names: BTreeMap::new(alloc),
             ids: BTreeSet::new(alloc),
             commands: Vec::new(alloc),
+            seed,
         }
     }
 }
@@ -47,10 +51,11 @@ impl<'t, A: Allocator + Copy> Session<'t, A> {
 /// unreadable, too.
 pub(crate) fn read_lines<'t, A: Allocator + Copy>(
     alloc: A,
+    seed: Seed,
     file: Option<LevelledGraph>,
     text: &'t [u8],
 ) -> Result<Session<'t, A>, Stop> {
-    let mut session = Session::new(alloc, file);
+    let mut session = Session::new(alloc, seed, file);
     add_lines(alloc, text, &mut session)?;
     // Other commands do not need the set of ids, which is large.
     if session.commands.iter().any(|command| command.is_resolved()) {

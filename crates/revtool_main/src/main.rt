@@ -2,11 +2,12 @@
 //! line names one.
 #![tactic(auto)]
 
-use revtool::{FileFault, HELP, Request, VERSION, read_graph, run, run_over};
+use revtool::{FileFault, HELP, Request, Seed, VERSION, read_graph, run_over};
 use std::env;
 use std::fs::{File, OpenFile};
 use std::io::{self, Write};
 use std::process::ExitCode;
+use std::random::RandomSource;
 use std::string::String;
 
 /// Is the status of a wrong command line.
@@ -32,11 +33,22 @@ fn print(rt: &HostRuntime, text: &str) -> u8 {
     }
 }
 
+/// Returns a random seed; the default one if the system has no random bytes.
+fn seed(rt: &HostRuntime) -> Seed {
+    let mut bytes = [0; 8];
+    match rt.fill_bytes(&mut bytes) {
+        Ok(()) => Seed::new(u64::from_le_bytes(bytes)),
+        Err(_) => Seed::default(),
+    }
+}
+
 /// Answers without a file, and returns the status.
 fn answer(rt: &HostRuntime) -> u8 {
-    run(
+    run_over(
         rt.alloc(),
         rt.alloc(),
+        seed(rt),
+        None,
         &mut rt.stdin(),
         &mut rt.stdout(),
         &mut rt.stderr(),
@@ -51,6 +63,7 @@ fn answer_over(rt: &HostRuntime, path: &str) -> Result<u8, FileFault> {
     Ok(run_over(
         rt.alloc(),
         rt.alloc(),
+        seed(rt),
         Some(graph),
         &mut rt.stdin(),
         &mut rt.stdout(),

@@ -7,7 +7,7 @@ use crate::rows::{Row, row_of};
 use fixtures::graph_files::{file, levelled};
 use fixtures::printed::prints;
 use refusing::Refusing;
-use revtool::{FileFault, Request, open_graph, read_graph, run_over};
+use revtool::{FileFault, Request, Seed, open_graph, read_graph, run_over};
 use std::alloc::{AllocError, Allocator, Global};
 use std::io;
 use std::string::String;
@@ -38,6 +38,7 @@ fn run_with<A: Allocator + Copy>(to: Global, alloc: A, text: &[u8]) -> Run {
     let status = run_over(
         alloc,
         to,
+        Seed::default(),
         levelled(to),
         &mut input,
         &mut output,

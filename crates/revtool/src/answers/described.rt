@@ -3,6 +3,7 @@
 use crate::answers::Outcome;
 use crate::commits::Commits;
 use crate::manner::Manner;
+use gix_revision::Seed;
 use gix_revision::describe::{self, Format, Names, Options, describe};
 use gix_revision::error::Message;
 use gix_revision::graph::Graph;
@@ -21,10 +22,10 @@ pub(super) struct Descriptions<'s, 't, A: Allocator> {
 }
 
 impl<'s, 't, A: Allocator + Copy> Descriptions<'s, 't, A> {
-    /// Makes an empty graph over a source. Nothing is allocated yet.
-    pub(super) fn new(alloc: A, source: &'s Commits<A>) -> Self {
+    /// Makes an empty graph over a source, seeded with `seed`. Nothing is allocated yet.
+    pub(super) fn new(alloc: A, source: &'s Commits<A>, seed: Seed) -> Self {
         Descriptions {
-            graph: Graph::new(alloc, source),
+            graph: Graph::with_seed(alloc, source, seed),
             names: None,
         }
     }
@@ -80,7 +81,8 @@ impl<'s, 't, A: Allocator + Copy> Descriptions<'s, 't, A> {
         let Some(mut outcome) = describe(alloc, commit, &mut self.graph, options)? else {
             return Ok(None);
         };
-        let names = mem::replace(&mut outcome.name_by_oid, Names::new(alloc));
+        let empty = Names::with_hasher(alloc, self.graph.seed());
+        let names = mem::replace(&mut outcome.name_by_oid, empty);
         self.names = Some(names);
         Ok(Some(outcome))
     }
