@@ -38,7 +38,7 @@ static SWAPPED: [(usize, usize); 10] = [
 ];
 
 /// The file with one byte spoiled.
-static SPOILED: [Spoiled; 20] = [
+static SPOILED: [Spoiled; 21] = [
     Spoiled(6, 255, OpenFault::TooShort),
     Spoiled(0, 0, OpenFault::Signature),
     Spoiled(4, 2, OpenFault::Version),
@@ -63,6 +63,8 @@ static SPOILED: [Spoiled; 20] = [
     Spoiled(0x4b4 + 23, 5, OpenFault::Parent),
     Spoiled(0x57c + 3, 5, OpenFault::EdgeParent),
     Spoiled(0x57c + 4, 0, OpenFault::EdgeEnd),
+    // The first commit has the list of the last one.
+    Spoiled(0x4b4 + 24, 0x80, OpenFault::EdgeOrder),
 ];
 
 type File<'b> = CommitGraph<&'b [u8]>;

@@ -1,10 +1,12 @@
 //! Graphs: each call once, failing look-ups, and failing allocations.
 
 use fixtures::faults::{Answered, Came, Repeats, survives};
-use fixtures::histories::{Row, agrees, id, source_of};
+use fixtures::histories::{CRISS_CROSS, Row, agrees, id, source_of};
 use fixtures::sources::{Counting, Failing, Turn};
 use gix_revision::graph::{Commit, Error, Find, FindFault, Graph, MemorySource};
 use gix_revision::hash::ObjectId;
+use gix_revision::merge_base::{Flags, merge_base};
+use refusing::Refusing;
 use std::alloc::{AllocError, Allocator, Global};
 use std::mem::replace;
 use std::test::Fail;
@@ -233,5 +235,43 @@ fn first_uncounted(alloc: Global) -> Result<Option<u8>, AllocError> {
 fn refused_look_ups_and_memory_leave_the_graph(rt: HostRuntime) -> Result<(), Fail> {
     assert_eq!(rt; first_uncounted(rt.alloc())?, None);
     assert!(rt; survives(rt.alloc(), &Takes, 3, 3)?);
+    Ok(())
+}
+
+type CountedMemory<'r> = &'r Refusing<Global>;
+
+type MarkedGraph<'r> = Graph<MemorySource, Commit<Flags, CountedMemory<'r>>, CountedMemory<'r>>;
+
+/// Walks over a graph and clears it. Returns how many requests for memory that takes, or `None` if
+/// it fails.
+fn requests_of<'r>(alloc: CountedMemory<'r>, graph: &mut MarkedGraph<'r>) -> Option<u64> {
+    let before = alloc.requests_left();
+    merge_base(alloc, id(4), &[id(5)], graph).ok()?;
+    graph.clear();
+    before.checked_sub(alloc.requests_left())
+}
+
+/// Tests whether a graph that is walked and cleared by turns makes as many requests in each later
+/// turn as in the second one. A list that kept what a walk added would make more, now and then.
+fn stays_small<'r>(alloc: CountedMemory<'r>, graph: &mut MarkedGraph<'r>) -> bool {
+    let first = requests_of(alloc, graph);
+    let second = requests_of(alloc, graph);
+    for _ in 0..40u64 {
+        if requests_of(alloc, graph) != second {
+            return false;
+        }
+    }
+    first > second && second.is_some()
+}
+
+fn stays_small_when_cleared(alloc: Global) -> Result<bool, AllocError> {
+    let memory = Refusing::new(alloc, 1_000_000);
+    let mut graph = Graph::new(&memory, source_of(alloc, &CRISS_CROSS)?);
+    Ok(stays_small(&memory, &mut graph))
+}
+
+#[test]
+fn a_cleared_graph_gives_its_room_to_the_next_walk(rt: HostRuntime) -> Result<(), Fail> {
+    assert!(rt; stays_small_when_cleared(rt.alloc())?);
     Ok(())
 }

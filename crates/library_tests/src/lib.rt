@@ -7,6 +7,8 @@ mod commit_graphs;
 #[cfg(test)]
 mod dates;
 #[cfg(test)]
+mod deep;
+#[cfg(test)]
 mod descriptions;
 #[cfg(test)]
 mod errors;

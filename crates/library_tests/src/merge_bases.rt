@@ -3,7 +3,7 @@
 use crate::questions::Call::{Ancestor, Bases, Counted, Octopus, Paint, Reduce};
 use crate::questions::{Call, Question, is_refused_with};
 use bitflags::Flags as BitFlags;
-use fixtures::faults::{first_lost, first_wrong};
+use fixtures::faults::{LookUps, first_lost, first_miscounted, first_wrong};
 use fixtures::histories::{CRISS_CROSS, OLD_PATH, OLDER_CHILD, Row, id, source_of};
 use fixtures::printed::prints;
 use fixtures::sources::Turn;
@@ -50,6 +50,19 @@ const LEVELLED: [Row<'static>; 9] = [
     Row(7, 7, Some(7), &[6]),
     Row(8, 8, Some(8), &[7]),
     Row(9, 9, Some(6), &[5]),
+];
+
+/// A chain of nine commits without generation numbers.
+const PLAIN: [Row<'static>; 9] = [
+    Row(1, 1, None, &[]),
+    Row(2, 2, None, &[1]),
+    Row(3, 3, None, &[2]),
+    Row(4, 4, None, &[3]),
+    Row(5, 5, None, &[4]),
+    Row(6, 6, None, &[5]),
+    Row(7, 7, None, &[6]),
+    Row(8, 8, None, &[7]),
+    Row(9, 9, None, &[8]),
 ];
 
 /// Only 1, 2 and 5 have generation numbers, as if a commit-graph file lacks the newest commits.
@@ -103,16 +116,22 @@ static WORKED: [Question; 19] = [
     Question(Ancestor, &CRISS_CROSS, 4, &[4], &[4]),
 ];
 
-/// Whether the other commit reaches the first, by the lists of parents. Nothing far below the first
-/// is looked up.
-static NEAR: [Question; 6] = [
-    Question(Ancestor, &LEVELLED, 6, &[8], &[6]),
-    Question(Ancestor, &LEVELLED, 9, &[8], &[]),
-    Question(Ancestor, &LEVELLED, 6, &[9], &[]),
-    Question(Ancestor, &LEVELLED, 5, &[9], &[5]),
-    // The first is above the other, with and without a generation number.
-    Question(Ancestor, &LEVELLED, 8, &[1], &[]),
-    Question(Ancestor, &PARTLY_LEVELLED, 4, &[5], &[]),
+/// Whether the other commit reaches the first, by the lists of parents.
+static NEAR: [LookUps<Question>; 9] = [
+    // Both, and what is between them.
+    LookUps(Question(Ancestor, &LEVELLED, 6, &[8], &[6]), 3),
+    LookUps(Question(Ancestor, &LEVELLED, 5, &[9], &[5]), 2),
+    // Both, and what is below the other one, down to the first commit below the generation of the
+    // first: to 5, whose generation is less than 6.
+    LookUps(Question(Ancestor, &LEVELLED, 9, &[8], &[]), 5),
+    LookUps(Question(Ancestor, &LEVELLED, 6, &[9], &[]), 3),
+    // Both alone: the first is above the other, with and without a generation number.
+    LookUps(Question(Ancestor, &LEVELLED, 8, &[1], &[]), 2),
+    LookUps(Question(Ancestor, &PARTLY_LEVELLED, 4, &[5], &[]), 2),
+    // Without generation numbers the walk ends once it meets the first.
+    LookUps(Question(Ancestor, &PLAIN, 8, &[9], &[8]), 2),
+    LookUps(Question(Ancestor, &PLAIN, 7, &[9], &[7]), 3),
+    LookUps(Question(Ancestor, &PARTLY_LEVELLED, 3, &[4], &[3]), 2),
 ];
 
 /// Whether the other commit reaches the first, if the walk is long or there is a cycle.
@@ -151,7 +170,7 @@ fn bases_of_worked_histories(rt: HostRuntime) -> Result<(), Fail> {
 }
 
 fn are_reached(alloc: Global) -> Result<bool, AllocError> {
-    Ok(first_wrong(alloc, &NEAR, 5)?.is_none() && first_wrong(alloc, &FAR, 8)?.is_none())
+    Ok(first_miscounted(alloc, &NEAR)?.is_none() && first_wrong(alloc, &FAR, 8)?.is_none())
 }
 
 #[test]

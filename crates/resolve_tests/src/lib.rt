@@ -5,9 +5,13 @@
 #[cfg(test)]
 mod listing;
 #[cfg(test)]
+mod near;
+#[cfg(test)]
 mod reaching;
 #[cfg(test)]
 mod resolving;
+#[cfg(test)]
+mod sides;
 #[cfg(test)]
 mod texts;
 #[cfg(test)]

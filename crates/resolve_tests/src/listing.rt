@@ -9,10 +9,11 @@
 //!   3---5
 //! ```
 
-use crate::reaching::{BRANCHES, RISING};
-use fixtures::faults::{Answered, Asks, first_lost, first_wrong};
-use fixtures::histories::{CRISS_CROSS, Row, are, id, source_of};
-use gix_resolve::{ListError, commits, commits_early, count_commits, page};
+use crate::near::are_counted;
+use crate::reaching::RISING;
+use fixtures::faults::{Answered, Asks, LookUps, first_lost, first_wrong};
+use fixtures::histories::{BRANCHES, CRISS_CROSS, Row, are, id, source_of};
+use gix_resolve::{ListError, commits, commits_early, commits_newest_first, count_commits, page};
 use gix_revision::graph::{Commit, Find, Graph, MemorySource};
 use gix_revision::hash::ObjectId;
 use gix_revision::merge_base::Flags;
@@ -37,6 +38,8 @@ enum Part {
     Whole,
     /// The whole list, by the walk that may end early.
     Early,
+    /// The whole list by that walk, newest first.
+    Newest,
     /// The first commits after the id of a digit, or of all commits.
     Page(Option<u8>, usize),
     /// How many commits there are.
@@ -70,7 +73,7 @@ const LATE: [Row<'static>; 3] = [
     Row(3, 3, Some(6), &[1]),
 ];
 
-static WORKED: [Listing; 38] = [
+static WORKED: [Listing; 41] = [
     Listing(Of::Include(5), &CRISS_CROSS, Part::Whole, &[1, 2, 3, 5]),
     Listing(Of::Range(4, 5), &CRISS_CROSS, Part::Whole, &[5]),
     Listing(Of::Merge(4, 5), &CRISS_CROSS, Part::Whole, &[4, 5]),
@@ -104,6 +107,10 @@ static WORKED: [Listing; 38] = [
     Listing(Of::Range(2, 3), &RISING, Part::Early, &[3]),
     Listing(Of::Range(2, 3), &LATE, Part::Early, &[3]),
     Listing(Of::Merge(2, 3), &LATE, Part::Early, &[2, 3]),
+    // The newest first.
+    Listing(Of::Include(5), &CRISS_CROSS, Part::Newest, &[5, 2, 3, 1]),
+    Listing(Of::Exclude(5), &CRISS_CROSS, Part::Newest, &[]),
+    Listing(Of::Range(2, 3), &RISING, Part::Newest, &[3]),
     // Pages.
     Listing(
         Of::Include(5),
@@ -136,14 +143,39 @@ static WORKED: [Listing; 38] = [
     Listing(Of::ExcludeParents(9), &CRISS_CROSS, Part::Count, &[]),
 ];
 
-/// Two near commits with generation numbers. Only what is between them is looked up.
-static NEAR: [Listing; 6] = [
-    Listing(Of::Range(4, 6), &BRANCHES, Part::Early, &[5, 6]),
-    Listing(Of::Range(6, 4), &BRANCHES, Part::Early, &[]),
-    Listing(Of::Range(4, 6), &BRANCHES, Part::Count, &[5, 6]),
-    Listing(Of::Merge(4, 6), &BRANCHES, Part::Early, &[5, 6]),
-    Listing(Of::Merge(6, 4), &BRANCHES, Part::Early, &[5, 6]),
-    Listing(Of::Merge(6, 5), &BRANCHES, Part::Count, &[6]),
+/// Two near commits with generation numbers. The early walk looks up both and what is between them,
+/// and from two branches also where these meet. The plain walk looks up all that the ids reach.
+static NEAR: [LookUps<Listing>; 13] = [
+    LookUps(Listing(Of::Range(4, 6), &BRANCHES, Part::Early, &[5, 6]), 3),
+    LookUps(Listing(Of::Range(6, 4), &BRANCHES, Part::Early, &[]), 3),
+    LookUps(Listing(Of::Merge(4, 6), &BRANCHES, Part::Early, &[5, 6]), 3),
+    LookUps(Listing(Of::Merge(6, 4), &BRANCHES, Part::Early, &[5, 6]), 3),
+    LookUps(
+        Listing(Of::Range(4, 6), &BRANCHES, Part::Newest, &[6, 5]),
+        3,
+    ),
+    LookUps(
+        Listing(Of::Merge(6, 4), &BRANCHES, Part::Newest, &[6, 5]),
+        3,
+    ),
+    LookUps(Listing(Of::Range(4, 6), &BRANCHES, Part::Count, &[5, 6]), 3),
+    LookUps(Listing(Of::Merge(6, 5), &BRANCHES, Part::Count, &[6]), 2),
+    // All commits but the root.
+    LookUps(
+        Listing(Of::Range(8, 6), &BRANCHES, Part::Newest, &[6, 5, 4, 3]),
+        7,
+    ),
+    // The two commits and all below them.
+    LookUps(Listing(Of::Range(4, 6), &BRANCHES, Part::Whole, &[5, 6]), 6),
+    LookUps(Listing(Of::Merge(6, 4), &BRANCHES, Part::Whole, &[5, 6]), 6),
+    LookUps(
+        Listing(Of::Range(4, 6), &BRANCHES, Part::Page(None, 1), &[5]),
+        6,
+    ),
+    LookUps(
+        Listing(Of::Include(4), &BRANCHES, Part::Early, &[1, 2, 3, 4]),
+        4,
+    ),
 ];
 
 fn spec_of(of: Of) -> Spec {
@@ -173,6 +205,7 @@ fn is_right<S: Find, A: Allocator + Copy>(
     match call.2 {
         Part::Whole => Ok(are(&commits(alloc, &spec, graph)?, call.3)),
         Part::Early => Ok(are(&commits_early(alloc, &spec, graph)?, call.3)),
+        Part::Newest => Ok(are(&commits_newest_first(alloc, &spec, graph)?, call.3)),
         Part::Page(after, limit) => {
             let after = after.map(|digit| id(digit));
             Ok(are(&page(alloc, &spec, graph, after, limit)?, call.3))
@@ -276,7 +309,7 @@ fn specs_list_their_commits_in_rising_order(rt: HostRuntime) -> Result<(), Fail>
 
 #[test]
 fn lists_end_early_where_the_source_knows_of_generations(rt: HostRuntime) -> Result<(), Fail> {
-    assert_eq!(rt; first_wrong(rt.alloc(), &NEAR, 3)?, None);
+    assert!(rt; are_counted(rt.alloc(), &NEAR)?);
     Ok(())
 }
 

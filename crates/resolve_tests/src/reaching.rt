@@ -1,9 +1,12 @@
 //! What some commits reach and others do not, listed and counted, and commits in order, over small
 //! histories; also with failing look-ups and failing allocations.
 
-use fixtures::faults::{Answered, Asks, first_lost, first_wrong};
-use fixtures::histories::{CRISS_CROSS, Row, are, id, ids};
-use gix_resolve::{ListError, ahead_behind, count_reachable, newest_first, reachable};
+use crate::near::are_counted;
+use fixtures::faults::{Answered, Asks, LookUps, first_lost, first_wrong};
+use fixtures::histories::{BRANCHES, CRISS_CROSS, Row, are, id, ids};
+use gix_resolve::{
+    ListError, ahead_behind, count_reachable, newest_first, reachable, reachable_newest_first,
+};
 use gix_revision::graph::{Commit, Find, Graph};
 use gix_revision::hash::ObjectId;
 use gix_revision::merge_base::Flags;
@@ -15,6 +18,8 @@ use std::test::Fail;
 enum Call {
     /// The ids, and their number.
     Reachable,
+    /// The ids, newest first.
+    ReachableNewest,
     /// Both counts, for the first ids of each side.
     AheadBehind,
     /// The first side alone, in order.
@@ -31,24 +36,6 @@ struct Reaching(
     &'static [u8],
 );
 
-/// Two branches, with generation numbers:
-///
-/// ```text
-/// 1---2---3---4---5---6
-///      \
-///       7---8
-/// ```
-pub(crate) const BRANCHES: [Row<'static>; 8] = [
-    Row(1, 1, Some(1), &[]),
-    Row(2, 2, Some(2), &[1]),
-    Row(3, 3, Some(3), &[2]),
-    Row(4, 4, Some(4), &[3]),
-    Row(5, 5, Some(5), &[4]),
-    Row(6, 6, Some(6), &[5]),
-    Row(7, 7, Some(3), &[2]),
-    Row(8, 8, Some(4), &[7]),
-];
-
 /// The parent 1 has a greater generation than its child 2.
 pub(crate) const RISING: [Row<'static>; 3] = [
     Row(1, 1, Some(5), &[]),
@@ -56,7 +43,7 @@ pub(crate) const RISING: [Row<'static>; 3] = [
     Row(3, 3, Some(6), &[1]),
 ];
 
-static WORKED: [Reaching; 22] = [
+static WORKED: [Reaching; 24] = [
     Reaching(Call::Reachable, &CRISS_CROSS, &[4], &[], &[1, 2, 3, 4]),
     Reaching(Call::Reachable, &CRISS_CROSS, &[5, 4], &[3, 2], &[4, 5]),
     Reaching(Call::Reachable, &CRISS_CROSS, &[4], &[2], &[3, 4]),
@@ -68,6 +55,14 @@ static WORKED: [Reaching; 22] = [
     Reaching(Call::Reachable, &BRANCHES, &[3], &[6], &[]),
     // A generation number rises. What the other side reaches below it may be listed.
     Reaching(Call::Reachable, &RISING, &[3], &[2], &[1, 3]),
+    Reaching(
+        Call::ReachableNewest,
+        &CRISS_CROSS,
+        &[5, 4],
+        &[3],
+        &[4, 5, 2],
+    ),
+    Reaching(Call::ReachableNewest, &RISING, &[3], &[2], &[3, 1]),
     Reaching(Call::AheadBehind, &CRISS_CROSS, &[4], &[5], &[1, 1]),
     Reaching(Call::AheadBehind, &CRISS_CROSS, &[5], &[2], &[2, 0]),
     Reaching(Call::AheadBehind, &CRISS_CROSS, &[2], &[5], &[0, 2]),
@@ -95,11 +90,34 @@ static WORKED: [Reaching; 22] = [
     Reaching(Call::Newest, &BRANCHES, &[9], &[], &[]),
 ];
 
-/// Three near commits. Only what is between them is looked up.
-static NEAR: [Reaching; 3] = [
-    Reaching(Call::Reachable, &BRANCHES, &[6], &[4], &[5, 6]),
-    Reaching(Call::Reachable, &BRANCHES, &[4], &[6], &[]),
-    Reaching(Call::AheadBehind, &BRANCHES, &[5], &[6], &[0, 1]),
+/// Near commits. A walk looks up these and what is between them; from two branches, also where
+/// these meet.
+static NEAR: [LookUps<Reaching>; 6] = [
+    LookUps(Reaching(Call::Reachable, &BRANCHES, &[6], &[4], &[5, 6]), 3),
+    LookUps(Reaching(Call::Reachable, &BRANCHES, &[4], &[6], &[]), 3),
+    LookUps(
+        Reaching(Call::ReachableNewest, &BRANCHES, &[6], &[4], &[6, 5]),
+        3,
+    ),
+    LookUps(
+        Reaching(Call::AheadBehind, &BRANCHES, &[5], &[6], &[0, 1]),
+        2,
+    ),
+    // All commits but the root.
+    LookUps(
+        Reaching(
+            Call::ReachableNewest,
+            &BRANCHES,
+            &[6, 8],
+            &[3],
+            &[6, 5, 8, 4, 7],
+        ),
+        7,
+    ),
+    LookUps(
+        Reaching(Call::AheadBehind, &BRANCHES, &[6], &[8], &[4, 2]),
+        7,
+    ),
 ];
 
 /// Tests whether these are the ids, and this many are counted.
@@ -140,6 +158,12 @@ fn is_right<S: Find, A: Allocator + Copy>(
 ) -> Result<bool, ListError> {
     match call.0 {
         Call::Reachable => are_reached(alloc, graph, sides, call.4),
+        Call::ReachableNewest => {
+            Ok(are(
+                &reachable_newest_first(alloc, sides.0, sides.1, graph)?,
+                call.4,
+            ))
+        }
         Call::AheadBehind => are_counts(alloc, graph, sides, call.4),
         Call::Newest => Ok(are(&newest_first(alloc, sides.0, graph)?, call.4)),
     }
@@ -175,7 +199,7 @@ fn commits_are_reached_counted_and_put_in_order(rt: HostRuntime) -> Result<(), F
 
 #[test]
 fn walks_end_early_where_generations_are_known(rt: HostRuntime) -> Result<(), Fail> {
-    assert_eq!(rt; first_wrong(rt.alloc(), &NEAR, 3)?, None);
+    assert!(rt; are_counted(rt.alloc(), &NEAR)?);
     Ok(())
 }
 

@@ -4,6 +4,7 @@ use fixtures::faults::{Answered, Came, Repeats};
 use fixtures::histories::{Row, id, source_of};
 use fixtures::sources::{Failing, Turn};
 use gix_base::error::Message;
+use gix_revision::Seed;
 use gix_revision::describe::{Names, Options, Outcome, counted, describe};
 use gix_revision::graph::{Find, FindFault, Graph, MemorySource};
 use std::alloc::{AllocError, Allocator, Global};
@@ -101,7 +102,7 @@ pub fn names_of<A: Allocator + Copy>(
     alloc: A,
     names: &[(u8, &'static str)],
 ) -> Result<Names<'static, A>, AllocError> {
-    let mut all = HashMap::new(alloc);
+    let mut all = HashMap::with_hasher(alloc, Seed::default());
     for (digit, name) in names {
         all.insert(id(*digit), CowSlice::Borrowed(name.as_bytes()))?;
     }

@@ -5,6 +5,7 @@ use super::cases::{FIRST_PARENT, Want, names_of, options_of, says};
 use fixtures::histories::id;
 use fixtures::printed::prints;
 use gix_base::hash::ObjectId;
+use gix_revision::Seed;
 use gix_revision::describe::{Format, Names, Options, Outcome};
 use std::alloc::{AllocError, Global};
 use std::borrow::CowSlice;
@@ -94,7 +95,7 @@ fn format_of(alloc: Global, id: ObjectId, row: &Printed) -> Result<Format<'stati
         name: name.map(|name| CowSlice::Borrowed(name)),
         id,
         depth,
-        name_by_oid: HashMap::new(alloc),
+        name_by_oid: HashMap::with_hasher(alloc, Seed::default()),
         commits_seen: 3,
     };
     let mut format = outcome.into_format(hex_len);
