@@ -147,8 +147,8 @@ def _declare(name: str, *types: object) -> None:
 
 _HANDLE, _SIZE = ctypes.c_void_p, ctypes.c_size_t
 _ID, _COUNT, _BYTES = ctypes.POINTER(_Id), ctypes.POINTER(ctypes.c_size_t), ctypes.c_char_p
-_declare("new", ctypes.POINTER(_HANDLE))
-_declare("open", _BYTES, _SIZE, ctypes.POINTER(_HANDLE))
+_declare("new", ctypes.c_uint64, ctypes.POINTER(_HANDLE))
+_declare("open", _BYTES, _SIZE, ctypes.c_uint64, ctypes.POINTER(_HANDLE))
 _declare("free", _HANDLE)
 _declare("insert", _HANDLE, _ID, _ID, _SIZE, ctypes.c_int64, ctypes.c_bool, ctypes.c_uint32)
 _declare("merge_bases", _HANDLE, _ID, _ID, _SIZE, _ID, _SIZE, _COUNT)
@@ -195,9 +195,9 @@ def _answered(code: int) -> bool:
     raise _REFUSALS[code]()
 
 
-def _seed() -> ctypes.c_uint64:
+def _seed() -> int:
     """Returns a random seed for the hash tables of a history."""
-    return ctypes.c_uint64(int.from_bytes(os.urandom(8), "little"))
+    return int.from_bytes(os.urandom(8), "little")
 
 
 class History:
