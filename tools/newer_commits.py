@@ -1,4 +1,3 @@
-#!/usr/bin/env -S python3 -BIS
 """Prints as lines for bin/revtool the commits that some commits reach and a commit-graph file lacks: tools/newer_commits.py FILE GIT..,
 where the ids of the commits come on standard input, and GIT.. are the words that begin a command of git about the repository.
 
