@@ -10,8 +10,9 @@ docs/PROVED.md says what it promises.
         history.merge_bases("22" * 20, ["11" * 20])
 
 An id is passed as its 20 bytes or its 40 hex digits, and returned as hex digits. The environment
-variable GIX_REVISION_LIBRARY has the path of libgix_revision.so. Without it the system looks for
-the library. Every call can raise MemoryError.
+variable GIX_REVISION_LIBRARY has the path of libgix_revision.so. Without it the library beside this
+file is used, as in an installed wheel, or else the one that the system finds. Every call can raise
+MemoryError.
 
 Premises: some answers are promised only for a history with these properties. They concern only the
 commits that the arguments of the call can reach. Without them a call is still safe. A method that
@@ -136,7 +137,16 @@ class Fault(Refused):
 _NONE = 1
 _REFUSALS = {-2: AlreadyThere, -4: NoCommit, -5: TooMany, -6: NoKind, -7: NoGraph, -8: NoLevels}
 
-_library = ctypes.CDLL(os.environ.get("GIX_REVISION_LIBRARY", "libgix_revision.so.0"))
+_NAME = "libgix_revision.so.1"
+
+
+def _path() -> str:
+    """Returns the path of the library, or its name if the system has to look for it."""
+    beside = os.path.join(os.path.dirname(os.path.abspath(__file__)), _NAME)
+    return os.environ.get("GIX_REVISION_LIBRARY") or (beside if os.path.exists(beside) else _NAME)
+
+
+_library = ctypes.CDLL(_path())
 
 
 def _declare(name: str, *types: object) -> None:

@@ -1,12 +1,15 @@
-//! Finds the library: the archive in the folder GIX_REVISION_LIB_DIR if that is set, otherwise the
-//! shared library that pkg-config finds.
+//! Finds the library. Links the archive in the folder GIX_REVISION_LIB_DIR if that is set, otherwise
+//! the archive in the folder `lib` of this crate if it is there and fits the target. Otherwise links
+//! the shared library that pkg-config finds.
 
 use std::env;
+use std::path::Path;
 use std::process::Command;
 
 fn main() {
     println!("cargo:rerun-if-env-changed=GIX_REVISION_LIB_DIR");
-    if let Ok(folder) = env::var("GIX_REVISION_LIB_DIR") {
+    println!("cargo:rerun-if-changed=build.rs");
+    if let Some(folder) = env::var("GIX_REVISION_LIB_DIR").ok().or_else(packaged) {
         println!("cargo:rustc-link-search=native={folder}");
         println!("cargo:rustc-link-lib=static=gix_revision");
         return;
@@ -24,4 +27,11 @@ fn main() {
         );
     }
     println!("cargo:rustc-link-lib=gix_revision");
+}
+
+/// Returns the folder of the archive that a packaged crate has, if it fits the target.
+fn packaged() -> Option<String> {
+    let folder = format!("{}/lib", env::var("CARGO_MANIFEST_DIR").ok()?);
+    let fits = env::var("TARGET").ok()? == "x86_64-unknown-linux-gnu";
+    (fits && Path::new(&folder).join("libgix_revision.a").exists()).then_some(folder)
 }
