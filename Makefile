@@ -14,16 +14,19 @@ check: ## run the full check: all proofs, mutants and tests
 install: ## build, then install below PREFIX (DESTDIR is put in front)
 	DESTDIR='$(DESTDIR)' tools/install '$(PREFIX)'
 
+package: ## build, then put packages that need no toolchain into dist/
+	tools/package
+
 uninstall: ## remove what install has put below PREFIX
 	DESTDIR='$(DESTDIR)' tools/install --uninstall '$(PREFIX)'
 
 bench: ## measure the speed, beside git's
 	tools/bench
 
-clean: ## remove what was proved and built
-	rm -rf crates/*/out
+clean: ## remove what was proved and built, and the packages
+	rm -rf crates/*/out dist
 
 help: ## print the targets
 	@sed -nE 's/^([a-z]+): ## (.*)/make \1\t\2/p' Makefile | expand -t 16
 
-.PHONY: all try check install uninstall bench clean help
+.PHONY: all try check install package uninstall bench clean help

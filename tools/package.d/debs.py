@@ -1,0 +1,166 @@
+"""Writes the three packages for Debian and its kin: debs.py PREFIX FOLDER
+
+- gix-revision-proved has the programs, their manual pages and the completion.
+- libgix-revision1 has the shared library; the number is that of its soname.
+- libgix-revision-dev has the header, the archive, the file for pkg-config, and documents.
+
+No package has a script that runs when it is installed.
+"""
+
+from __future__ import annotations
+
+import hashlib
+import os
+import re
+import sys
+import textwrap
+from email.utils import formatdate
+from typing import NamedTuple
+
+from archives import EPOCH, File, ar_of, bytes_of, files_below, folders_of, glibc_of, gzip_of, tar_of, write, xz_of
+from documents import documents, origin
+
+VERSION = os.environ["VERSION"]
+MAJOR = VERSION.split(".")[0]
+SONAME = f"libgix_revision.so.{MAJOR}"
+LIBRARY = f"libgix-revision{MAJOR}"
+MAINTAINER = "The gix_revision developers <maintainers@users.noreply.baeftolk.example>"
+# Where Debian has libraries, so that several architectures can be installed.
+FOLDER = "usr/lib/x86_64-linux-gnu"
+
+WHAT = """\
+ gix_revision finds merge bases, describes commits by their tags, and resolves
+ revisions such as main~2 and v1.0..topic. Each answer comes from a call with a
+ machine-checked proof.
+ .
+"""
+
+# What lintian reports and is wanted so, by package, with the reason.
+OVERRIDES = {
+    "gix-revision-proved": """\
+# The program is byte for byte the one that was proved and built.
+gix-revision-proved: unstripped-binary-or-object [usr/libexec/gix_revision/bin/revtool]
+# It is not compiled from C.
+gix-revision-proved: hardening-no-fortify-functions [usr/libexec/gix_revision/bin/revtool]
+""",
+}
+
+
+class Package(NamedTuple):
+    """A package: its fields of control, its files, and the other files of its control archive."""
+
+    name: str
+    section: str
+    depends: str
+    summary: str
+    text: str
+    files: list[File]
+    control: list[File] = []
+    multi_arch: str = ""
+
+
+def programs(prefix: str) -> Package:
+    files = []
+    for it in files_below(prefix):
+        if it.path.startswith("share/man/"):
+            files.append(File(f"usr/{it.path}.gz", gzip_of(it.data)))
+        elif it.path.startswith(("bin/", "libexec/", "share/bash-completion/")):
+            files.append(it.at(f"usr/{it.path}"))
+    text = " The package has the programs: git-proved, which git runs as `git proved`,\n revtool and from-git.\n"
+    depends = f"{libc(f'{prefix}/libexec/gix_revision/bin/revtool')}, git, python3:any"
+    return Package("gix-revision-proved", "vcs", depends, "merge bases, descriptions and revisions of git, proved", text, files)
+
+
+def library(prefix: str) -> Package:
+    path = f"{prefix}/lib/{SONAME}"
+    exported = sorted(set(re.findall(r"\bgix_history_\w+(?=\()", bytes_of("include/gix_revision.h").decode())))
+    symbols = f"{SONAME} {LIBRARY} #MINVER#\n* Build-Depends-Package: libgix-revision-dev\n"
+    symbols += "".join(f" {it}@Base {VERSION}\n" for it in exported)
+    control = [
+        File("shlibs", f"libgix_revision {MAJOR} {LIBRARY} (>= {VERSION})\n".encode()),
+        File("symbols", symbols.encode()),
+        File("triggers", b"activate-noawait ldconfig\n"),
+    ]
+    files = [File(f"{FOLDER}/{SONAME}", bytes_of(path))]
+    text = " The package has the shared library.\n"
+    return Package(LIBRARY, "libs", libc(path), "proved answers about git histories: library", text, files, control, "same")
+
+
+def development(prefix: str) -> Package:
+    described = bytes_of(f"{prefix}/lib/pkgconfig/gix_revision.pc").replace(b"/lib\n", b"/lib/x86_64-linux-gnu\n")
+    files = [
+        File("usr/include/gix_revision.h", bytes_of(f"{prefix}/include/gix_revision.h")),
+        File(f"{FOLDER}/libgix_revision.a", bytes_of(f"{prefix}/lib/libgix_revision.a")),
+        File(f"{FOLDER}/libgix_revision.so", SONAME.encode(), is_link=True),
+        File(f"{FOLDER}/pkgconfig/gix_revision.pc", described),
+        *documents("usr/share/doc/libgix-revision-dev"),
+    ]
+    summary, depends = "proved answers about git histories: files for development", f"{LIBRARY} (= {VERSION})"
+    text = " The package has the C header, the static library, the file for pkg-config and\n the documents.\n"
+    return Package("libgix-revision-dev", "libdevel", depends, summary, text, files, [], "same")
+
+
+def libc(path: str) -> str:
+    """Returns what a package with this program or shared library depends on."""
+    major, minor = glibc_of(path)
+    return f"libc6 (>= {major}.{minor})"
+
+
+def copyright_of(prefix: str) -> bytes:
+    """Returns the file `copyright`, with the license of this project and those of the toolchain's crates."""
+    mit = bytes_of("LICENSE-MIT").decode()
+    third = bytes_of(f"{prefix}/share/licenses/gix_revision/THIRD-PARTY").decode()
+    return f"""The programs and the library gix_revision are licensed under the MIT license or
+the Apache license, version 2.0, at your choice. On Debian systems, the file
+/usr/share/common-licenses/Apache-2.0 has the latter.
+
+{mit}
+
+The compiled code also contains parts of crates of the Rattle toolchain. These
+are their licenses.
+
+{third}""".encode()
+
+
+def changelog() -> bytes:
+    change = textwrap.fill(origin(), 78, initial_indent="  * ", subsequent_indent="    ")
+    head, foot = f"gix-revision-proved ({VERSION}) unstable; urgency=medium", f" -- {MAINTAINER}  {formatdate(EPOCH)}"
+    return gzip_of(f"{head}\n\n{change}\n\n{foot}\n".encode())
+
+
+def with_documents(package: Package, prefix: str) -> list[File]:
+    """Returns the files of a package, with those that each package has."""
+    folder = f"usr/share/doc/{package.name}"
+    files = [*package.files, File(f"{folder}/copyright", copyright_of(prefix)), File(f"{folder}/changelog.gz", changelog())]
+    if package.name in OVERRIDES:
+        files.append(File(f"usr/share/lintian/overrides/{package.name}", OVERRIDES[package.name].encode()))
+    return files
+
+
+def control_of(package: Package, files: list[File]) -> bytes:
+    # In KiB, with a block for each folder and each link, as dpkg-gencontrol counts.
+    size = sum(1 if it.is_link else -(-len(it.data) // 1024) for it in files) + len(folders_of(files))
+    lines = [f"Package: {package.name}"]
+    if package.name != "gix-revision-proved":
+        lines.append("Source: gix-revision-proved")
+    lines += [f"Version: {VERSION}", "Architecture: amd64", f"Maintainer: {MAINTAINER}", f"Installed-Size: {size}"]
+    lines += [f"Depends: {package.depends}", f"Section: {package.section}", "Priority: optional"]
+    if package.multi_arch:
+        lines.append(f"Multi-Arch: {package.multi_arch}")
+    return ("\n".join(lines) + f"\nDescription: {package.summary}\n{WHAT}{package.text}").encode()
+
+
+def deb_of(package: Package, prefix: str) -> bytes:
+    files = with_documents(package, prefix)
+    sums = "".join(f"{hashlib.md5(it.data).hexdigest()}  {it.path}\n" for it in sorted(files) if not it.is_link)
+    control = [File("control", control_of(package, files)), File("md5sums", sums.encode()), *package.control]
+    members = [("debian-binary", b"2.0\n"), ("control.tar.xz", xz_of(tar_of(control, "."))), ("data.tar.xz", xz_of(tar_of(files, ".")))]
+    return ar_of(members)
+
+
+def main(prefix: str, folder: str) -> None:
+    for package in (programs(prefix), library(prefix), development(prefix)):
+        write(f"{folder}/{package.name}_{VERSION}_amd64.deb", deb_of(package, prefix))
+
+
+main(*sys.argv[1:])

@@ -1,0 +1,64 @@
+"""Writes the wheel, the Python module with the shared library beside it: wheel.py PREFIX FOLDER
+
+It is tagged for the oldest glibc that the library runs on. It has no programs, since these need a later one.
+"""
+
+from __future__ import annotations
+
+import base64
+import hashlib
+import os
+import sys
+
+from archives import File, bytes_of, glibc_of, write, zip_of
+from documents import origin
+
+VERSION = os.environ["VERSION"]
+SONAME = f"libgix_revision.so.{VERSION.split('.')[0]}"
+NAME = f"gix_revision_proved-{VERSION}"
+
+METADATA = f"""Metadata-Version: 2.1
+Name: gix-revision-proved
+Version: {VERSION}
+Summary: Merge bases, commit descriptions and git revisions, each answer proved
+License: MIT OR Apache-2.0
+Platform: Linux, x86-64-v2
+Requires-Python: >=3.10
+Description-Content-Type: text/plain
+
+The module gix_revision answers questions about git histories: merge bases, descriptions of commits,
+and what revisions resolve to. Each answer comes from a call with a machine-checked proof.
+
+{origin()}
+"""
+
+
+def row_of(it: File) -> str:
+    """Returns the row of RECORD about a file."""
+    digest = base64.urlsafe_b64encode(hashlib.sha256(it.data).digest()).rstrip(b"=").decode()
+    return f"{it.path},sha256={digest},{len(it.data)}\n"
+
+
+def contents(prefix: str, tag: str) -> list[File]:
+    info = f"{NAME}.dist-info"
+    described = f"Wheel-Version: 1.0\nGenerator: gix_revision ({VERSION})\nRoot-Is-Purelib: false\nTag: {tag}\n"
+    files = [
+        File("gix_revision/__init__.py", bytes_of("bindings/python/gix_revision.py")),
+        File(f"gix_revision/{SONAME}", bytes_of(f"{prefix}/lib/{SONAME}")),
+        File("gix_revision/py.typed", b""),
+    ]
+    for it in ("LICENSE-APACHE", "LICENSE-MIT", "THIRD-PARTY"):
+        files.append(File(f"{info}/licenses/{it}", bytes_of(f"{prefix}/share/licenses/gix_revision/{it}")))
+    return [*files, File(f"{info}/METADATA", METADATA.encode()), File(f"{info}/WHEEL", described.encode())]
+
+
+def main(prefix: str, folder: str) -> None:
+    major, minor = glibc_of(f"{prefix}/lib/{SONAME}")
+    tag = f"py3-none-manylinux_{major}_{minor}_x86_64"
+    files = contents(prefix, tag)
+    record = f"{NAME}.dist-info/RECORD"
+    rows = "".join(map(row_of, files)) + f"{record},,\n"
+    write(f"{folder}/{NAME}-{tag}.whl", zip_of([*files, File(record, rows.encode())]))
+
+
+main(*sys.argv[1:])
