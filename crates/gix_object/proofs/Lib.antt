@@ -1,0 +1,7 @@
+pub mod Places
+pub mod Numbers
+pub mod Headers
+pub mod Parents
+pub mod OneCommit
+pub mod OneTag
+pub mod Determined

@@ -1,0 +1,9 @@
+pub mod Lines
+pub mod ObjectForm
+pub mod CommitTime
+pub mod CommitForm
+pub mod TagForm
+pub mod Authentic
+pub mod AuthenticErrors
+pub mod ErrorTexts
+pub mod ObjectLaws

@@ -1,0 +1,65 @@
+//! Reads commits whose ids are the hashes of their contents.
+
+ghost use Rattle.std.specs.Prelude.{◌≡◌, Some, IfOk, IfErr};
+ghost use Rattle.gix_revwalk.specs.Held.{entry_of};
+ghost use Rattle.gix_object.specs.Authentic.{IsAuthentic};
+ghost use Rattle.gix_object.specs.AuthenticErrors.{IsRefused};
+ghost use Rattle.gix_object.specs.ErrorTexts.{read_error_text};
+
+use crate::commit::{Commit, ParseError, parse};
+use crate::object::is_authentic;
+use gix_base::hash::ObjectId;
+use gix_base::object::Kind;
+use gix_revwalk::graph::SourceCommit;
+use std::alloc::Allocator;
+use std::fmt;
+use thiserror::Error as StdError;
+
+/// Says why a content is not read as the commit of an id.
+#[derive(Clone, Copy, Debug, PartialEq, Eq, Drop, StdError)]
+pub enum ReadError {
+    /// The content, as that of a commit, has another id.
+    WrongId,
+    /// The content has the id, and [`parse`] returns this error for it.
+    Parse(ParseError),
+}
+
+impl fmt::Display for ReadError {
+    ghost output = { λ e. Some (read_error_text e) };
+
+    fn fmt<W: fmt::Write>(&self, f: &mut fmt::Formatter<W>) -> fmt::Result {
+        match self {
+            ReadError::WrongId => f.write_str("content of the commit has another id"),
+            ReadError::Parse(error) => fmt::Display::fmt(error, f),
+        }
+    }
+}
+
+/// Returns the commit that `content` is, if `id` is the hash of this content.
+///
+/// The commit has no generation number.
+///
+/// # Errors
+///
+/// - [`ReadError::WrongId`]: the content, as that of a commit, has another id.
+/// - [`ReadError::Parse`]: it has the id, and [`parse`] returns this error.
+pub fn read<A: Allocator>(
+    alloc: A,
+    id: ObjectId,
+    content: &[u8],
+) -> Result<SourceCommit<A>, ReadError>
+    ensures read { IfOk result (λ c. IsAuthentic content.now id (entry_of c)) }
+    ensures refused { IfErr result (IsRefused content.now id) }
+{
+    if !is_authentic(id, Kind::Commit, content) {
+        return Err(ReadError::WrongId);
+    }
+    match parse(alloc, content) {
+        Ok(Commit { parents, time }) => Ok(SourceCommit {
+            parents,
+            time,
+            generation: None,
+        }),
+        Err(error) => Err(ReadError::Parse(error)),
+    }
+}

@@ -1,0 +1,46 @@
+//! States laws of objects and of authentic histories, each as the contract of a function.
+
+ghost use Rattle.gix_object.specs.Authentic.{AuthenticAgree, TipsDetermine};
+ghost use Rattle.gix_object.specs.ObjectLaws.{OneCommit, OneCommitError, OneHeader, OneLoose, OneTag, OneTagError, RefusedIsNoCommit, RefusedIsNoTag};
+
+/// States that a content is the content of a commit with one list of parents and one time.
+pub fn one_commit()
+    ensures { OneCommit }
+{}
+
+/// States that a content with an error other than `OutOfMemory` is not the content of a commit, and
+/// that it has one such error.
+pub fn refused_is_no_commit()
+    ensures none { RefusedIsNoCommit }
+    ensures one { OneCommitError }
+{}
+
+/// States that a content is the content of a tag of one object.
+pub fn one_tag()
+    ensures { OneTag }
+{}
+
+/// States that a content with an error is not the content of a tag, and that it has one error.
+pub fn refused_is_no_tag()
+    ensures none { RefusedIsNoTag }
+    ensures one { OneTagError }
+{}
+
+/// States that bytes begin with at most one header, and are at most one loose object.
+pub fn one_loose()
+    ensures header { OneHeader }
+    ensures object { OneLoose }
+{}
+
+/// States that two authentic histories have the same commit under each id that both have, or a
+/// collision is at hand.
+pub fn authentic_agree()
+    ensures { AuthenticAgree }
+{}
+
+/// States that a tip reaches the same commits in two authentic histories, or a collision is at hand.
+///
+/// Both histories must have the tip, and the second must have the parents of all its commits.
+pub fn tips_determine()
+    ensures { TipsDetermine }
+{}

@@ -1,0 +1,17 @@
+//! Reads git's objects from bytes in memory: ids, loose objects, commits and tags.
+//!
+//! A content is passed inflated. [`authentic::read`] returns a commit only if its id is the hash of
+//! its content. The laws of [`laws`] say what this determines.
+#![tactic(auto)]
+
+pub mod authentic;
+mod bytes;
+pub mod commit;
+mod digits;
+mod kinds;
+pub mod laws;
+pub mod loose;
+mod object;
+pub mod tag;
+
+pub use object::{is_authentic, object_id};
