@@ -30,9 +30,9 @@ pub enum ParseError {
     BadTree,
     /// A `parent` line does not have an id, or it has the id of the tree, or nothing follows it.
     BadParent,
-    /// The time, as git reads it, is 2^63 seconds or more.
+    /// The time, as git's walks read it, is 2^63 seconds or more.
     ///
-    /// Git takes these times. It counts negative times down from 2^64, so that the times before 1970
+    /// Git accepts such times. It counts negative times down from 2^64, so that dates before 1970
     /// are among them.
     TimeOutOfRange,
     /// An allocation for the parents failed.
@@ -153,14 +153,15 @@ fn time(text: &[u8]) -> Option<i64>
 
 /// Returns the parents of a commit and the time of its committer, read from the commit's content.
 ///
-/// It reads malformed contents as git's walks do, and passes over everything else in the content.
-/// Parents are listed as often as they have lines. The time is 0 if git finds none, for instance
-/// without a line of the author, or if the committer's line is the last.
+/// Malformed contents are read as git's walks read them: only what parents and time depend on is
+/// checked. A parent is listed as often as it has lines. The time is 0 if git finds none, for
+/// instance if there is no line of the author, or if the committer's line is the last.
 ///
 /// # Errors
 ///
-/// - [`ParseError::BadTree`], [`ParseError::BadParent`]: git rejects the content.
-/// - [`ParseError::TimeOutOfRange`]: the time that git reads is 2^63 seconds or more.
+/// - [`ParseError::BadTree`]: the content does not begin with the line of a tree. Git rejects it.
+/// - [`ParseError::BadParent`]: a parent line is malformed. Git rejects the content.
+/// - [`ParseError::TimeOutOfRange`]: the time is 2^63 seconds or more. Git reads the commit.
 /// - [`ParseError::OutOfMemory`]: an allocation for the parents failed.
 pub fn parse<A: Allocator>(alloc: A, text: &[u8]) -> Result<Commit<A>, ParseError>
     ensures read { IfOk result (λ c. IsCommit text.now c.parents.items c.time) }

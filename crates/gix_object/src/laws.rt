@@ -38,9 +38,10 @@ pub fn authentic_agree()
     ensures { AuthenticAgree }
 {}
 
-/// States that a tip reaches the same commits in two authentic histories, or a collision is at hand.
+/// States that a tip reaches in one authentic history what it reaches in another, or a collision is
+/// at hand.
 ///
-/// Both histories must have the tip, and the second must have the parents of all its commits.
+/// The other history must have the tip, and all parents of its commits.
 pub fn tips_determine()
     ensures { TipsDetermine }
 {}

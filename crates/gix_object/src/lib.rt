@@ -1,7 +1,7 @@
 //! Reads git's objects from bytes in memory: ids, loose objects, commits and tags.
 //!
 //! A content is passed inflated. [`authentic::read`] returns a commit only if its id is the hash of
-//! its content. The laws of [`laws`] say what this determines.
+//! its content; [`laws`] states what such ids determine.
 #![tactic(auto)]
 
 pub mod authentic;

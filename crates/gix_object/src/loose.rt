@@ -16,7 +16,7 @@ pub struct Header {
     pub kind: Kind,
     /// Counts the bytes of the content, as the header says.
     pub size: u64,
-    /// Counts the bytes of the header itself, its last byte 0 included.
+    /// Counts the bytes of the header, with the byte 0 at its end.
     pub len: usize,
 }
 
@@ -60,15 +60,15 @@ fn kind_and_size(text: &[u8]) -> Option<(Kind, u64)>
     }
 }
 
-/// Returns the header that `bytes` begin with: kind, size and its own length.
+/// Returns the header at the front of `bytes`, or `None` if they do not begin with a header.
 ///
-/// A header has at most 28 bytes, so that the first 28 bytes of a loose object are enough. Returns
-/// `None` if `bytes` begin with no header. A header has the kind in lower case, one space, the
-/// size in decimal digits without needless zeros, and a byte 0. Its size is less than 2^64
-/// (gitformat-loose).
+/// A header has the name of the kind, a space, the size in decimal digits without needless zeros,
+/// and a byte 0 (gitformat-loose). It has at most 28 bytes, so that the first 28 bytes of an object
+/// are enough. Sizes of 2^64 and more are refused.
 pub fn parse_header(bytes: &[u8]) -> Option<Header>
     ensures header { MatchOption result
-        ((kind : Kind) → (size : ℕ) → (rest : List ℕ) → size < 2 ^ 64 → ¬ HasHeader bytes.now kind size rest)
+        ((kind : Kind) → (size : ℕ) → (rest : List ℕ) → size < 2 ^ 64
+        → ¬ HasHeader bytes.now kind size rest)
         (λ h. IsHeader bytes.now h.kind h.size h.len) }
     ensures short { IfSome result (λ h. h.len ≤ 28) }
 {
@@ -85,10 +85,10 @@ pub fn parse_header(bytes: &[u8]) -> Option<Header>
     }
 }
 
-/// Returns the kind and the content of a loose object, of which `bytes` are the inflated file.
+/// Returns the kind and the content of a loose object, from its inflated bytes.
 ///
-/// Returns `None` if `bytes` begin with no header ([`parse_header`]), or if the content has another size than the
-/// header says.
+/// Returns `None` if `bytes` do not begin with a header ([`parse_header`]), or if the content has
+/// another size than the header says.
 pub fn parse(bytes: &[u8]) -> Option<(Kind, &[u8])>
     ensures { MatchOption result
         ((kind : Kind) → (content : List ℕ) → ¬ IsLoose bytes.now kind content)

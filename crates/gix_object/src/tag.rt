@@ -12,7 +12,7 @@ use gix_base::object::Kind;
 use std::fmt;
 use thiserror::Error as StdError;
 
-/// Is what git takes from a tag to peel it: the object that it names.
+/// Is what git reads from a tag to peel it: the object that the tag names.
 #[derive(Clone, Copy, Debug, PartialEq, Eq)]
 pub struct Tag {
     pub target: ObjectId,
@@ -89,13 +89,13 @@ fn has_name(text: &[u8]) -> bool
 
 /// Returns the object that a tag names, read from the tag's content.
 ///
-/// It passes over everything after the name of the tag.
+/// Malformed contents are read as git reads them. Nothing is checked after the line of the name.
 ///
 /// # Errors
 ///
 /// Git rejects the content in each case, too.
 ///
-/// - [`ParseError::BadObject`]: the content has fewer than 64 bytes, or no `object` line.
+/// - [`ParseError::BadObject`]: no `object` line is first, or there are fewer than 64 bytes.
 /// - [`ParseError::BadType`]: no `type` line follows, or its type has 20 bytes or more.
 /// - [`ParseError::UnknownType`]: the type is not one of the four.
 /// - [`ParseError::NoName`]: no `tag` line follows.
