@@ -1,0 +1,4 @@
+pub mod Same
+pub mod SameBases
+pub mod SameDescriptions
+pub mod Holds

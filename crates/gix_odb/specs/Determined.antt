@@ -1,0 +1,49 @@
+-- What ids determine: the answers are the same over each history that is authentic and closed.
+use Rattle.std.specs.Prelude.{◌⊎◌, ◌↔◌, ℕ, ◌∷◌, [], List, Bool, IsTrue, Option}
+use Rattle.gix_base.specs.declared.hash.ObjectId.{ObjectId}
+use Rattle.gix_revwalk.specs.History.{History, Has, IsAncestor, is_one_of}
+use Rattle.gix_merge_base.specs.Bases.{AreBases}
+use Rattle.gix_merge_base.specs.Octopus.{AreOctopusBases, IsOctopusBase}
+use Rattle.gix_describe.specs.Described.{Names, Description, IsDescribed}
+use Rattle.gix_object.specs.Authentic.{Contents, AreAuthentic, IsClosed, HaveCollision}
+
+-- Histories h and k both have each of ids.
+abbrev pub BothHave : History → History → List ObjectId → Type 0
+BothHave h k ids = (id : ObjectId) → IsTrue (is_one_of ids id) → Has h id × Has k id
+
+-- Let two histories be authentic and closed. Then the statement S holds of them, or a collision is
+-- at hand.
+abbrev pub HoldsOrCollides : (History → History → Type 0) → Type 0
+HoldsOrCollides S =
+    (contents others : Contents) (h k : History) → AreAuthentic contents h → AreAuthentic others k
+    → IsClosed h → IsClosed k → S h k ⊎ HaveCollision contents others
+
+-- Each commit that both histories have reaches the same commits in both.
+abbrev pub AncestryIsDetermined : Type 0
+AncestryIsDetermined = HoldsOrCollides (λ h k.
+    (a c : ObjectId) → BothHave h k (a ∷ []) → IsAncestor h a c ↔ IsAncestor k a c)
+
+-- The merge bases of f and os are the same in both histories (git-merge-base, "Discussion").
+abbrev pub BasesAreDetermined : Type 0
+BasesAreDetermined = HoldsOrCollides (λ h k.
+    (f : ObjectId) (os ids : List ObjectId) → BothHave h k (f ∷ os)
+    → AreBases h f os ids ↔ AreBases k f os ids)
+
+-- The octopus bases of f and os are the same in both histories (git-merge-base, "--octopus").
+abbrev pub OctopusBasesAreDetermined : Type 0
+OctopusBasesAreDetermined = HoldsOrCollides (λ h k.
+    (f : ObjectId) (os ids : List ObjectId) → BothHave h k (f ∷ os)
+    → AreOctopusBases h f os ids ↔ AreOctopusBases k f os ids)
+
+-- The octopus base of f and os is the same in both histories (git-merge-base, "--octopus").
+abbrev pub OctopusBaseIsDetermined : Type 0
+OctopusBaseIsDetermined = HoldsOrCollides (λ h k.
+    (f : ObjectId) (os : List ObjectId) (r : Option ObjectId) → BothHave h k (f ∷ os)
+    → IsOctopusBase h f os r ↔ IsOctopusBase k f os r)
+
+-- By the same names, r describes s in one history exactly if it does in the other (git-describe,
+-- "Description").
+abbrev pub DescriptionsAreDetermined : Type 0
+DescriptionsAreDetermined = HoldsOrCollides (λ h k.
+    (s : ObjectId) (names : Names) (cap : ℕ) (fallback : Bool) (r : Option Description) → BothHave h k (s ∷ [])
+    → IsDescribed h s names cap fallback r ↔ IsDescribed k s names cap fallback r)

@@ -1,0 +1,30 @@
+//! States that answers are determined by ids, each law as the contract of a function.
+//!
+//! Each law is about two histories in which every id is the hash of the commit's content, and which
+//! have all parents of their commits. If both have the ids of a question, the answers are the same,
+//! or two contents with one id are at hand.
+
+ghost use Rattle.gix_odb.specs.Determined.{AncestryIsDetermined, BasesAreDetermined};
+ghost use Rattle.gix_odb.specs.Determined.{OctopusBasesAreDetermined, OctopusBaseIsDetermined};
+ghost use Rattle.gix_odb.specs.Determined.{DescriptionsAreDetermined};
+
+/// States that ids determine which commits they reach.
+pub fn ancestry_is_determined()
+    ensures { AncestryIsDetermined }
+{}
+
+/// States that ids determine their merge bases.
+pub fn bases_are_determined()
+    ensures { BasesAreDetermined }
+{}
+
+/// States that ids determine their octopus bases, and which of these is the octopus base.
+pub fn octopus_bases_are_determined()
+    ensures all { OctopusBasesAreDetermined }
+    ensures one { OctopusBaseIsDetermined }
+{}
+
+/// States that the id of a commit determines its descriptions by the same names.
+pub fn descriptions_are_determined()
+    ensures { DescriptionsAreDetermined }
+{}
