@@ -1,12 +1,12 @@
 -- The count of queued entries whose commit is not stale, over one more entry and over one less, and that of
 -- ids which are not stale.
-use Rattle.std.proofs.Common.{◌≡◌, ℕ, Bool, true, false, cond, refl, ap, sym, subst, ◌∙◌, List, [], ◌∷◌, ◌++◌, length, not, ◌+◌, ◌-◌, arith, IsTrue}
+use Rattle.std.proofs.Common.{◌≡◌, ℕ, Bool, true, false, cond, refl, ap, sym, subst, ◌∙◌, List, [], ◌∷◌, ◌++◌, length, not, ◌||◌, ◌+◌, ◌-◌, arith, IsTrue}
 use Rattle.std.specs.List.{sum_by}
 use Rattle.std.specs.List.Sorted.{IsPermutation}
-use Rattle.std.proofs.lemmas.List.Sums.{sum_by-cons}
-use Rattle.std.proofs.lemmas.List.Sorted.{IsPermutation-sym, IsPermutation-to_front, sum_by_pushed, sum_by_popped}
+use Rattle.std.proofs.lemmas.List.Sums.{sum_by-cons, sum_by-append, sum_by_push}
+use Rattle.std.proofs.lemmas.List.Sorted.{sum_by_pushed, sum_by_popped}
 use Rattle.gix_base.specs.declared.hash.ObjectId.{ObjectId}
-use Rattle.gix_revwalk.specs.History.{same_id}
+use Rattle.gix_revwalk.specs.History.{same_id, is_one_of}
 use Rattle.gix_revwalk.proofs.Ids.{same_id-true, same_id-itself}
 use Rattle.gix_merge_base.specs.Marks.{MarkSet, level}
 use Rattle.gix_merge_base.specs.Counting.{times, unstale, Counts, CountsUnmet}
@@ -59,9 +59,45 @@ times_more n n' id q q' queued perm old c =
           omega arith
     ] refl (queued c)
 
-pub times_pushed : (n n' : ObjectId → ℕ) (id : ObjectId) (ids : List ObjectId) → ((c : ObjectId) → n' c ≡ cond (same_id id c) (n id + 1) (n c)) → ((c : ObjectId) → n c ≡ times c ids)
-    → (c : ObjectId) → n' c ≡ times c (ids ++ id ∷ [])
-times_pushed n n' id ids queued old = times_more n n' id ids (ids ++ id ∷ []) queued (IsPermutation-sym (ids ++ id ∷ []) (id ∷ ids) (IsPermutation-to_front ids id)) old
+-- the same without a list: id counts once more
+pub times_one : (n n' : ObjectId → ℕ) (id : ObjectId) → ((c : ObjectId) → n' c ≡ cond (same_id id c) (n id + 1) (n c)) → (c : ObjectId) → n' c ≡ n c + times c (id ∷ [])
+times_one n n' id queued c =
+    let alone = sum_by-cons (λ x. level (same_id c x)) id [] in
+    let rest : times c [] ≡ 0 = refl in
+    elim (same_id id c) as (λ s. same_id id c ≡ s → n' c ≡ cond s (n id + 1) (n c) → n' c ≡ n c + times c (id ∷ [])) [
+      | true ↦ λ same is.
+          let eq = same_id-true id c same in
+          let at : n c ≡ n id = ap n (sym eq) in
+          let one : level (same_id c id) ≡ 1 = ap (λ z. level (same_id c z)) eq ∙ ap level (same_id-itself c) in
+          omega arith
+      | false ↦ λ apart is.
+          let none : level (same_id c id) ≡ 0 = ap level (same_id-turned c id apart) in
+          omega arith
+    ] refl (queued c)
+
+-- those of one list, and then those of another
+pub times_then : (n0 n1 n2 : ObjectId → ℕ) (xs ys zs : List ObjectId) → ((c : ObjectId) → n1 c ≡ n0 c + times c xs) → ((c : ObjectId) → n2 c ≡ n1 c + times c ys) → zs ≡ xs ++ ys
+    → (c : ObjectId) → n2 c ≡ n0 c + times c zs
+times_then n0 n1 n2 xs ys zs first next is c =
+    let a = first c in
+    let b = next c in
+    let s = sum_by-append (λ x. level (same_id c x)) xs ys in
+    let e : times c zs ≡ times c (xs ++ ys) = ap (times c) is in
+    omega arith
+
+-- what does not stand in a list
+times_none : (c : ObjectId) (q : List ObjectId) → is_one_of q c ≡ false → times c q ≡ 0
+times_none c [] out = refl
+times_none c (x ∷ xs) out =
+    let b = sum_by-cons (λ y. level (same_id c y)) x xs in
+    let off = or_none (same_id c x) (is_one_of xs c) out in
+    let l : level (same_id c x) ≡ 0 = ap level off.0 in
+    let r = times_none c xs off.1 in
+    omega arith
+  where
+    or_none : (a d : Bool) → (a || d) ≡ false → (a ≡ false) × (d ≡ false)
+    or_none false d e = (refl, e)
+    or_none true d e = cc
 
 -- a commit gets marks
 module _ (m m' : ObjectId → MarkSet) (id : ObjectId) (w : MarkSet) (marks : (c : ObjectId) → m' c ≡ cond (same_id id c) w (m c)) where
@@ -160,6 +196,10 @@ counts_popped m m' n n' q q' id o marks queued perm k =
           ] refl (queued c);
     }
 
+-- one more id, which is stale or not
+pub unstale_next : (m : ObjectId → MarkSet) (xs : List ObjectId) (id : ObjectId) (b : Bool) → (m id).stale ≡ b → unstale m (xs ++ id ∷ []) ≡ unstale m xs + level (not b)
+unstale_next m xs id b is = sum_by_push (λ x. level (not (m x).stale)) xs id ∙ ap (λ z. unstale m xs + level (not z)) is
+
 -- the same marks and counts
 pub counts_same : (m m' : ObjectId → MarkSet) (n n' : ObjectId → ℕ) (q q' : List ObjectId) (o : ℕ) → ((c : ObjectId) → m' c ≡ m c) → ((c : ObjectId) → n' c ≡ n c) → q' ≡ q → Counts m n q o → Counts m' n' q' o
 counts_same m m' n n' q q' o marks queued is k = rw is record {
@@ -197,6 +237,22 @@ pub unmet_same : (m m' : ObjectId → MarkSet) (n n' : ObjectId → ℕ) (ids : 
 unmet_same m m' n n' ids o marks queued k = record {
   unstale = k.unstale ∙ sym (same_sum (λ x. level (not (m x).stale)) (λ x. level (not (m' x).stale)) (λ c. ap (λ (z : MarkSet). level (not z.stale)) (marks c)) ids);
   times = λ c out. queued c ∙ k.times c (sym (ap (λ (z : MarkSet). z.stale) (marks c)) ∙ out);
+}
+
+-- each queued commit is stale, and each of ids then counts once more
+pub unmet_painted : (m m' : ObjectId → MarkSet) (n n' : ObjectId → ℕ) (q ids : List ObjectId) (o left : ℕ) → Counts m n q o → ((c : ObjectId) → IsTrue (is_one_of q c) → IsTrue (m c).stale)
+    → ((c : ObjectId) → m' c ≡ m c) → ((c : ObjectId) → n' c ≡ n c + times c ids) → left ≡ unstale m' ids → CountsUnmet m' n' ids left
+unmet_painted m m' n n' q ids o left k stale marks queued count = record {
+  unstale = count;
+  times = λ c out.
+      let here : (m c).stale ≡ false = sym (ap (λ (z : MarkSet). z.stale) (marks c)) ∙ out in
+      let none = times_none c q (elim (is_one_of q c) as (λ b. is_one_of q c ≡ b → b ≡ false) [
+        | false ↦ λ _. refl
+        | true ↦ λ is. let s = stale c is in cc
+      ] refl) in
+      let old = k.times c in
+      let more = queued c in
+      omega arith;
 }
 
 -- nothing is stale yet

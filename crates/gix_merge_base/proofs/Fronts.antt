@@ -1,5 +1,5 @@
 -- Steps over the queued commits of a walk, one after another.
-use Rattle.std.proofs.Common.{◌≡◌, ℕ, Bool, false, refl, ap, sym, subst, ◌∙◌, List, [], ◌∷◌, ◌<◌, None, map, inl}
+use Rattle.std.proofs.Common.{◌≡◌, ℕ, Bool, false, refl, ap, sym, subst, ◌∙◌, List, [], ◌∷◌, ◌<◌, None, map, get_or, inl}
 use Rattle.std.specs.List.Sorted.{IsPermutation}
 use Rattle.std.specs.Option.{unwrap_or}
 use Rattle.gix_base.specs.declared.hash.ObjectId.{ObjectId}
@@ -14,9 +14,9 @@ use Rattle.gix_revwalk.specs.declared.graph.commit.Commit.{Commit}
 use Rattle.gix_revwalk.specs.declared.numbers.Number.{Number}
 use Rattle.gix_revwalk.proofs.GraphAfters.{graph_same, graph_as}
 use Rattle.gix_merge_base.specs.Counting.{Counts}
-use Rattle.gix_merge_base.specs.Front.{IsQueued, IsRight, Keeps, HoldsSame, Meets}
+use Rattle.gix_merge_base.specs.Front.{IsQueued, IsRight, Keeps, KeepsNumbers, HoldsSame, Meets}
 use Rattle.gix_merge_base.specs.Marks.{MarkSet, marks_of}
-use Rattle.gix_merge_base.specs.PaintQueue.{marks_at, queued_at, queued_ids, id_at, AreHeld, Keyed, no_mark}
+use Rattle.gix_merge_base.specs.PaintQueue.{marks_at, queued_at, queued_ids, id_at, key_at, AreHeld, Keyed, no_mark}
 use Rattle.gix_merge_base.specs.declared.merge_base.flags.Flags.{Flags}
 use Rattle.gix_merge_base.specs.declared.merge_base.gen_then_time.GenThenTime.{GenThenTime}
 use Rattle.gix_merge_base.specs.declared.merge_base.hand.Front.{Front}
@@ -79,6 +79,22 @@ queued_popped h g f f' key number taken k = record {
 -- over a history that is the same
 pub queued_popped_over : {S T A : Type 0} (h z : History) (g : Graphed S T) (f f' : Front A) (key : GenThenTime) (number : Number) → z ≡ h → IsPermutation f.queue ((key, number) ∷ f'.queue) → IsQueued h g f → IsQueued z g f'
 queued_popped_over h z g f f' key number same taken k = subst (λ y. IsQueued y g f') (sym same) (queued_popped h g f f' key number taken k)
+
+-- numbers that keep their commits, one step after another
+pub numbers_then : {S T : Type 0} (a b c : Graphed S T) → KeepsNumbers a b → KeepsNumbers b c → KeepsNumbers a c
+numbers_then a b c p r ns all = let first = p ns all in let next = r ns first.0 in (next.0, next.1 ∙ first.1)
+
+-- the queue is over the same commits
+queue_kept : {S T : Type 0} (h : History) (m n : Graphed S T) → KeepsNumbers m n → (ps : List (GenThenTime × Number)) → AreHeld m ps → Keyed h m ps → AreHeld n ps × Keyed h n ps × (queued_ids n ps ≡ queued_ids m ps)
+queue_kept h m n keeps [] held keyed = (tt, tt, refl)
+queue_kept h m n keeps (p ∷ ps) held keyed =
+    let one = keeps (p.1 ∷ []) (held.0, tt) in
+    let is : id_at n (place_in p.1) ≡ id_at m (place_in p.1) = ap (λ l. get_or l 0 (id_at m (place_in p.1))) one.1 in
+    let rest = queue_kept h m n keeps ps held.1 keyed.1 in
+    ((one.0.0, rest.0), (keyed.0 ∙ ap (key_at h) (sym is), rest.1), ap (λ z. z ∷ queued_ids n ps) is ∙ ap (λ l. id_at m (place_in p.1) ∷ l) rest.2)
+
+pub queued_kept : {S T A : Type 0} (h : History) (m n : Graphed S T) (f : Front A) → KeepsNumbers m n → IsQueued h m f → IsQueued h n f × (queued_ids n f.queue ≡ queued_ids m f.queue)
+queued_kept h m n f keeps k = let all = queue_kept h m n keeps f.queue k.held k.keyed in (record { held = all.0; keyed = all.1 }, all.2)
 
 -- nothing is queued or marked
 pub right_first : {S A : Type 0} (h : History) (g : Graphed S (Commit Flags A)) (f : Front A) → f.queue ≡ [] → f.open_entries ≡ 0 → ((q : ObjectId) → mark_at g q ≡ None) → IsRight h g f

@@ -135,6 +135,3 @@ met_of_loads {h = h} {f = f} {os = os} {m = m} p q k = elim (p.held q k) as (λ 
 
 pub loads_of_met : {S T : Type 0} (h : History) (f : ObjectId) (os : List ObjectId) (m n : Graphed S T) → ((q : ObjectId) → IsHeld n q → IsHeld m q ⊎ MayBeMet h f os q) → LoadsFrom h (f ∷ os) m n
 loads_of_met h f os m n p = record { held = λ q k. elim (p q k) as (λ _. IsHeld m q ⊎ MayBeMetFrom h (f ∷ os) q) [ inl a ↦ inl a | inr b ↦ inr (met_from h f os q b) ] }
-
-pub loads_of_reached : {S T : Type 0} (h : History) (ids : List ObjectId) (m n : Graphed S T) → ((q : ObjectId) → IsHeld n q → IsHeld m q ⊎ MayBeMetFrom h ids q) → LoadsFrom h ids m n
-loads_of_reached h ids m n p = record { held = p }

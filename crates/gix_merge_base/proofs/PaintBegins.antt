@@ -1,4 +1,4 @@
--- KeyBelow the first pop.
+-- Before the first pop.
 use Rattle.std.proofs.Common.{◌≡◌, ℕ, Bool, true, false, cond, refl, ap, sym, subst, ◌∙◌, List, [], ◌∷◌, ◌++◌, ◌⊎◌, inl, inr, ◌||◌, ◌&&◌, IsTrue, is_some, ◌+◌, ◌≤◌, ◌<◌, length, arith, take, get_or, add-one}
 use Rattle.std.specs.List.{IsDistinct, list_any}
 use Rattle.std.specs.List.Sorted.{IsPermutation}
@@ -136,6 +136,8 @@ walk_begins h f os began held m q b holds =
         one = λ c k. let p = f_one c k in subst (λ z. IsAncestor h f z) p.0 (itself p.1);
         two = λ c k. let p = o_two c k in (c, p.0, itself p.1);
         stale = λ c k. absurd (no_two _ (b.stale c) k);
+        reached = λ c k. absurd (no_two _ (b.stale c) k);
+        begun = λ r p k e. cc;
         both = λ c k. absurd (no_two _ (b.stale c) k);
         queued = λ c k. or_either _ _ (sym (b.inside c) ∙ k);
         settled = λ c. elim ((m c).one || (m c).two) as (λ s. ((m c).one || (m c).two) ≡ s → IsTrue (is_one_of q c) ⊎ Handed h m [] [] c) [

@@ -4,7 +4,7 @@ use Rattle.std.specs.List.Sorted.{IsPermutation}
 use Rattle.std.proofs.lemmas.List.Sorted.{list_any-IsPermutation, length_permutation}
 use Rattle.gix_base.specs.declared.hash.ObjectId.{ObjectId}
 use Rattle.gix_merge_base.specs.declared.merge_base.flags.Flags.{Flags}
-use Rattle.gix_revwalk.specs.History.{History, entry_at, parents_in, Has, IsAncestor, is_one_of, same_id}
+use Rattle.gix_revwalk.specs.History.{History, entry_at, parents_in, Has, is_one_of, same_id}
 use Rattle.gix_merge_base.specs.Keys.{KeyAtMost}
 use Rattle.gix_merge_base.specs.Premises.{KeysFallFrom, NoneRisesFrom}
 use Rattle.gix_merge_base.specs.Bases.{IsCommon, IsMaximal}
@@ -21,7 +21,7 @@ use Rattle.gix_merge_base.specs.Counting.{unstale}
 use Rattle.std.proofs.lemmas.List.Sums.{sum_by-cons}
 use Rattle.std.proofs.Math.Path.{fun_ext}
 use Rattle.gix_revwalk.proofs.Members.{one_of-head, one_of-tail, one_of-cons_cases}
-use Rattle.gix_merge_base.proofs.Painting.{Handed, Painting, popped_keeps, grew, marked_reached, reached_further}
+use Rattle.gix_merge_base.proofs.Painting.{Handed, Painting, popped_keeps, grew, marked_has, marked_reached, reached_further}
 use Rattle.gix_merge_base.proofs.PaintingEnds.{Fresh, Ordered, fresh_keeps, results_best, ordered_keeps, parents_may}
 
 -- between two pops; `held` are the ids that are held, and `began` those at the start
@@ -45,6 +45,8 @@ painting_permuted h f os m q q' results popped perm at =
       one = at.one;
       two = at.two;
       stale = at.stale;
+      reached = at.reached;
+      begun = at.begun;
       both = at.both;
       queued = λ c k. at.queued c (inside c ∙ k);
       settled = λ c. elim (at.settled c) as (λ _. IsTrue (is_one_of q' c) ⊎ Handed h m results popped c) [ inl k ↦ inl (sym (inside c) ∙ k) | inr d ↦ inr d ];
@@ -117,7 +119,7 @@ module _ (h : History) (f : ObjectId) (os : List ObjectId) (began held held' : O
       total_same [] a b k = refl
       total_same (x ∷ xs) a b k = let i = k x in let j = total_same xs a b k in omega arith
 
-total_bound : (ids : List ObjectId) (m : ObjectId → MarkSet) → total ids m ≤ 3 * length ids
+pub total_bound : (ids : List ObjectId) (m : ObjectId → MarkSet) → total ids m ≤ 3 * length ids
 total_bound [] m = omega arith
 total_bound (x ∷ xs) m = let a = level_bound (m x).one in let b = level_bound (m x).two in let d = level_bound (m x).stale in let e = total_bound xs m in omega arith
   where
@@ -155,32 +157,10 @@ pops_fit {S} {A} h f os began held g q results pops w few =
 pub pops_bound : (h : History) (f : ObjectId) (os : List ObjectId) (began held : ObjectId → Type 0) (m : ObjectId → MarkSet) (q results : List ObjectId) (pops : ℕ) → IsWalk h f os began held m q results pops
     → (ids : List ObjectId) → ((p : ObjectId) → Has h p → IsTrue (is_one_of ids p)) → pops + length q ≤ (1 + length os) + 3 * length ids
 pops_bound h f os began held m q results pops w ids all =
-    let s = w.spent ids (λ p k. all p (marked_has p (marked (m p) k))) in
+    let s = w.spent ids (λ p k. all p (marked_has h f os m q results w.popped w.painting p k)) in
     let b = total_bound ids m in
     let e = w.counts in
     omega arith
-  where
-    marked : (a : MarkSet) → 1 ≤ marks_in a → IsTrue a.one ⊎ (IsTrue a.two ⊎ IsTrue a.stale)
-    marked a k = elim a.one as (λ x. 1 ≤ level x + (level a.two + level a.stale) → IsTrue x ⊎ (IsTrue a.two ⊎ IsTrue a.stale)) [
-      | true ↦ λ _. inl refl
-      | false ↦ λ j. inr (elim a.two as (λ x. 1 ≤ 0 + (level x + level a.stale) → IsTrue x ⊎ IsTrue a.stale) [
-        | true ↦ λ _. inl refl
-        | false ↦ λ i. inr (elim a.stale as (λ x. 1 ≤ 0 + (0 + level x) → IsTrue x) [ true ↦ λ _. refl | false ↦ λ u. absurd (omega arith) ] i)
-      ] j)
-    ] k
-
-    last : (a c : ObjectId) → IsAncestor h a c → Has h c
-    last a c (IsAncestor.itself has) = has
-    last a c (IsAncestor.further b c' p e) = e.1
-
-    marked_has : (p : ObjectId) → IsTrue (m p).one ⊎ (IsTrue (m p).two ⊎ IsTrue (m p).stale) → Has h p
-    marked_has p k = elim k as (λ _. Has h p) [
-      | inl a ↦ last f p (w.painting.one p a)
-      | inr b ↦ elim b as (λ _. Has h p) [
-        | inl x ↦ let o = w.painting.two p x in last o.0 p o.2
-        | inr y ↦ (w.painting.stale p y).2.1
-      ]
-    ]
 
 -- the queue has a commit that is not stale
 some_open : (m : ObjectId → MarkSet) (q : List ObjectId) → 1 ≤ unstale m q → (z : ObjectId) × IsTrue (is_one_of q z) × ((m z).stale ≡ false)
@@ -243,6 +223,18 @@ pub step_meets : (h : History) (f : ObjectId) (os : List ObjectId) (began held h
 step_meets h f os began held held' m id q0 q1 results pops w rest takes p k =
     met_next h f os began held held' m id q0 results pops w (list_any-IsPermutation (same_id id) q0 (id ∷ q1) rest ∙ one_of-head id q1) takes p k
 
+-- the ids of a history
+pub length_keys : (h : History) → length (map (λ e. e.0) h) ≡ length h
+length_keys [] = refl
+length_keys (e ∷ h) = let r = length_keys h in omega arith
+
+pub keys_all : (h : History) (p : ObjectId) → Has h p → IsTrue (is_one_of (map (λ e. e.0) h) p)
+keys_all [] p has = cc
+keys_all (e ∷ h) p has = elim (same_id p e.0) as (λ s. IsTrue (is_some (cond s (Some e.1) (entry_at h p))) → IsTrue (s || is_one_of (map (λ e. e.0) h) p)) [
+  | true ↦ λ k. refl
+  | false ↦ λ k. keys_all h p k
+] has
+
 -- pops are left while something is queued
 pub pops_left : (h : History) (f : ObjectId) (os : List ObjectId) (began held : ObjectId → Type 0) (m : ObjectId → MarkSet) (id : ObjectId) (q0 q1 results : List ObjectId) (pops : ℕ)
     → IsWalk h f os began held m q0 results pops → IsPermutation q0 (id ∷ q1) → pops + 1 ≤ (1 + length os) + 3 * length h
@@ -251,14 +243,3 @@ pops_left h f os began held m id q0 q1 results pops w rest =
     let l : length (id ∷ q1) ≡ length q0 = length_permutation q0 (id ∷ q1) rest in
     let k : length (map (λ e. e.0) h) ≡ length h = length_keys h in
     omega arith
-  where
-    length_keys : (h : History) → length (map (λ e. e.0) h) ≡ length h
-    length_keys [] = refl
-    length_keys (e ∷ h) = let r = length_keys h in omega arith
-
-    keys_all : (h : History) (p : ObjectId) → Has h p → IsTrue (is_one_of (map (λ e. e.0) h) p)
-    keys_all [] p has = cc
-    keys_all (e ∷ h) p has = elim (same_id p e.0) as (λ s. IsTrue (is_some (cond s (Some e.1) (entry_at h p))) → IsTrue (s || is_one_of (map (λ e. e.0) h) p)) [
-      | true ↦ λ k. refl
-      | false ↦ λ k. keys_all h p k
-    ] has

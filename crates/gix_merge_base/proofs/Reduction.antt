@@ -1,9 +1,11 @@
 -- The walk of the reduction.
-use Rattle.std.proofs.Common.{◌≡◌, ℕ, Bool, true, false, cond, refl, ap, sym, subst, ◌∙◌, List, [], ◌∷◌, ◌++◌, ◌⊎◌, inl, inr, ◌||◌, not, IsTrue, ◌↔◌, is_some, ◌+◌, ◌*◌, ◌-◌, ◌≤◌, ◌<◌, length, arith, map, Option, Some, None}
-use Rattle.std.specs.List.{IsDistinct, filter}
+use Rattle.std.proofs.Common.{◌≡◌, ℕ, Bool, true, false, cond, refl, ap, sym, subst, ◌∙◌, List, [], ◌∷◌, ◌++◌, ◌⊎◌, inl, inr, ◌||◌, ◌&&◌, not, IsTrue, ◌↔◌, is_some, ◌+◌, ◌*◌, ◌-◌, ◌≤◌, ◌<◌, length, arith, map, Option, Some, None}
+use Rattle.std.specs.List.{IsDistinct, AllByRecursion, filter}
 use Rattle.std.specs.List.Sorted.{IsPermutation}
 use Rattle.std.proofs.lemmas.List.Sorted.{list_any-IsPermutation, length_permutation}
+use Rattle.std.proofs.lemmas.List.{append-nil, append_assoc}
 use Rattle.std.proofs.lemmas.Map.Keys.{IsDistinct-push}
+use Rattle.std.proofs.Math.Path.{fun_ext}
 use Rattle.gix_base.specs.declared.hash.ObjectId.{ObjectId}
 use Rattle.gix_revwalk.specs.History.{History, Entry, entry_at, parents_in, Has, IsEdge, IsAncestor, IsAncestorOfOne, is_one_of, same_id, generation_of}
 use Rattle.gix_merge_base.specs.Premises.{IsAcyclicFrom, GenerationsNeverRiseFrom}
@@ -12,25 +14,17 @@ use Rattle.gix_revwalk.specs.Walks.{parents_of_all, all_added}
 use Rattle.gix_merge_base.specs.Marks.{MarkSet, marks_in, level, met}
 use Rattle.gix_merge_base.specs.PaintSteps.{Hands, total}
 use Rattle.gix_merge_base.specs.Reducing.{firsts, IsIndependent}
-use Rattle.gix_merge_base.specs.ReduceSteps.{Reducing, Unmarked}
-use Rattle.gix_revwalk.proofs.Ids.{same_id-laws}
+use Rattle.gix_merge_base.specs.ReduceSteps.{IsBelow, Reducing, Unmarked}
+use Rattle.gix_revwalk.proofs.Ids.{same_id-laws, same_id-equal}
 use Rattle.gix_revwalk.proofs.Members.{one_of-head, one_of-tail, one_of-cons_cases, one_of-left, one_of-right, one_of-cases, one_of-single, one_of-filter, one_of-filtered}
 use Rattle.gix_revwalk.proofs.Ancestors.{anc-trans, anc-edge}
 use Rattle.gix_merge_base.proofs.Maximal.{parent_of_one, one_with_parent}
-use Rattle.gix_merge_base.proofs.Painting.{last}
+use Rattle.gix_merge_base.proofs.Painting.{Painting, last, which_mark, marked_has}
+use Rattle.gix_merge_base.proofs.PaintWalk.{total_bound, length_keys, keys_all}
 
 still : (x y : Bool) → (IsTrue x → IsTrue y) → y ≡ false → x ≡ false
 still true y k e = let t = k refl in cc
 still false y k e = refl
-
-which_mark : (a : MarkSet) → 1 ≤ marks_in a → IsTrue a.one ⊎ (IsTrue a.two ⊎ IsTrue a.stale)
-which_mark a k = elim a.one as (λ x. 1 ≤ level x + (level a.two + level a.stale) → IsTrue x ⊎ (IsTrue a.two ⊎ IsTrue a.stale)) [
-  | true ↦ λ _. inl refl
-  | false ↦ λ j. inr (elim a.two as (λ x. 1 ≤ 0 + (level x + level a.stale) → IsTrue x ⊎ IsTrue a.stale) [
-    | true ↦ λ _. inl refl
-    | false ↦ λ i. inr (elim a.stale as (λ x. 1 ≤ 0 + (0 + level x) → IsTrue x) [ true ↦ λ _. refl | false ↦ λ u. absurd (omega arith) ] i)
-  ] j)
-] k
 
 level_true : (x y z : Bool) → IsTrue x ⊎ (IsTrue y ⊎ IsTrue z) → 1 ≤ level x + (level y + level z)
 level_true true y z k = omega arith
@@ -54,7 +48,7 @@ unmarked_none m none c k = let e = none c in let a = ap level e.0 in let b = ap 
 -- what holds once the parents of all the ids are met
 pub reduce_begins : (h : History) (ids : List ObjectId) (m m' : ObjectId → MarkSet) (q' : List ObjectId) → Unmarked m → Hands h met (parents_of_all h ids) m [] m' q' → Reducing h ids m' q'
 reduce_begins h ids m m' q' none did = record {
-  sound = λ c k. elim (did.stale c k) as (λ _. (r : ObjectId) × IsTrue (is_one_of ids r) × (p : ObjectId) × IsEdge h r p × IsAncestor h p c) [
+  sound = λ c k. elim (did.stale c k) as (λ _. IsBelow h ids c) [
     | inl x ↦ absurd (unmarked c x)
     | inr y ↦ let r = one_with_parent h ids c y.1 in (r.0, r.1, c, (r.2, y.2), itself y.2)
   ];
@@ -67,12 +61,27 @@ reduce_begins h ids m m' q' none did = record {
     unmarked : (c : ObjectId) → IsTrue (m c).stale → ⊥
     unmarked c k = let e = (none c).2 in cc
 
+-- what a met commit is, between two pops
 abbrev Fate : History → List ObjectId → (ObjectId → MarkSet) → List ObjectId → ObjectId → Type 0
 Fate h ids m2 q2 p = IsTrue (is_one_of q2 p) ⊎ (((r : ObjectId) → IsEdge h p r → IsTrue (m2 r).stale) ⊎ ((r : ObjectId) → IsTrue (is_one_of ids r) → (m2 r).stale ≡ false → generation_of h p < generation_of h r))
 
+-- what holds once painting has ended, if each queued commit is stale: its results can be reduced
+pub reduce_painted : (h : History) (f : ObjectId) (os : List ObjectId) (m : ObjectId → MarkSet) (q results popped : List ObjectId) → Painting h f os m q results popped
+    → ((c : ObjectId) → IsTrue (is_one_of q c) → IsTrue (m c).stale) → Reducing h results m q
+reduce_painted h f os m q results popped at stale = record {
+  sound = at.reached;
+  begun = at.begun;
+  queued = stale;
+  settled = λ c k. elim (at.settled c) as (λ _. Fate h results m q c) [
+    | inl x ↦ inl x
+    | inr handed ↦ inr (inl (λ p e. (handed.gave p e).stale (ap (λ z. z || ((m c).one && (m c).two)) k)))
+  ];
+  has = marked_has h f os m q results popped at;
+}
+
 pub reduce_goes : (h : History) (ids : List ObjectId) (c : ObjectId) (m m2 : ObjectId → MarkSet) (q q2 : List ObjectId) → Reducing h ids m (c ∷ q) → Hands h met (parents_in (entry_at h c)) m q m2 q2 → Reducing h ids m2 q2
 reduce_goes h ids c m m2 q q2 at did = record {
-  sound = λ p k. elim (did.stale p k) as (λ _. (r : ObjectId) × IsTrue (is_one_of ids r) × (p0 : ObjectId) × IsEdge h r p0 × IsAncestor h p0 p) [
+  sound = λ p k. elim (did.stale p k) as (λ _. IsBelow h ids p) [
     | inl x ↦ at.sound p x
     | inr y ↦ let s = at.sound c (at.queued c (one_of-head c q)) in (s.0, s.1, s.2, s.3, further c p s.4 (y.1, y.2))
   ];
@@ -110,6 +119,11 @@ reduce_cuts h ids c m q at under = record {
   ];
   has = at.has;
 }
+
+pub reducing_same : (h : History) (ids ids' : List ObjectId) (m m' : ObjectId → MarkSet) (q q' : List ObjectId) → ids' ≡ ids → ((c : ObjectId) → m' c ≡ m c) → q' ≡ q → Reducing h ids m q → Reducing h ids' m' q'
+reducing_same h ids ids' m m' q q' is same queue at =
+    let marks : m' ≡ m = fun_ext same in
+    subst (λ l. Reducing h l m' q') (sym is) (subst (λ y. Reducing h ids y q') (sym marks) (subst (λ l. Reducing h ids m l) (sym queue) at))
 
 pub reduce_permuted : (h : History) (ids : List ObjectId) (m : ObjectId → MarkSet) (q q' : List ObjectId) → IsPermutation q q' → Reducing h ids m q → Reducing h ids m q'
 reduce_permuted h ids m q q' perm at =
@@ -220,6 +234,35 @@ nothing : IsDistinct same_id []
 unfolding IsDistinct
 nothing = tt
 
+-- an id that stands twice
+not_twice : (xs ps : List ObjectId) (p : ObjectId) → IsTrue (is_one_of xs p) → IsDistinct same_id (xs ++ p ∷ ps) → ⊥
+unfolding IsDistinct
+not_twice [] ps p k d = cc
+not_twice (x ∷ xs) ps p k d = elim (one_of-cons_cases x xs p k) as (λ _. ⊥) [
+  | inl is ↦
+      let off : same_id x p ≡ false = behind (λ y. same_id x y ≡ false) xs d.0 in
+      let on : same_id x p ≡ true = same_id-equal x p (sym is) in
+      cc
+  | inr m ↦ not_twice xs ps p m d.1
+]
+  where
+    behind : (P : ObjectId → Type 0) (ys : List ObjectId) → AllByRecursion P (ys ++ p ∷ ps) → P p
+    behind P [] all = all.0
+    behind P (y ∷ ys) all = behind P ys all.1
+
+-- each id stands once already
+gathered_all : (xs ps : List ObjectId) → IsDistinct same_id (xs ++ ps) → all_added xs ps ≡ xs ++ ps
+gathered_all xs [] d = sym (append-nil xs)
+gathered_all xs (p ∷ ps) d =
+    let moved : (xs ++ p ∷ []) ++ ps ≡ xs ++ p ∷ ps = append_assoc xs (p ∷ []) ps in
+    elim (is_one_of xs p) as (λ b. is_one_of xs p ≡ b → all_added (cond b xs (xs ++ p ∷ [])) ps ≡ xs ++ p ∷ ps) [
+      | true ↦ λ e. absurd (not_twice xs ps p e d)
+      | false ↦ λ e. gathered_all (xs ++ p ∷ []) ps (subst (IsDistinct same_id) (sym moved) d) ∙ moved
+    ] refl
+
+pub firsts_all : (ids : List ObjectId) → IsDistinct same_id ids → firsts ids ≡ ids
+firsts_all ids d = gathered_all [] ids d
+
 pub firsts_once : (ids : List ObjectId) → IsDistinct same_id (firsts ids)
 firsts_once ids = gathered_once [] ids nothing
 
@@ -237,25 +280,6 @@ left_over m ids c = (
 -- how many pops the reduction has left at most
 abbrev pub left_to_meet : History → (ObjectId → MarkSet) → List ObjectId → ℕ
 left_to_meet h m q = length q + (3 * length h - total (map (λ e. e.0) h) m)
-
-total_bound : (ids : List ObjectId) (m : ObjectId → MarkSet) → total ids m ≤ 3 * length ids
-total_bound [] m = omega arith
-total_bound (x ∷ xs) m = let a = level_bound (m x).one in let b = level_bound (m x).two in let d = level_bound (m x).stale in let e = total_bound xs m in omega arith
-  where
-    level_bound : (b : Bool) → level b ≤ 1
-    level_bound true = omega arith
-    level_bound false = omega arith
-
-length_keys : (h : History) → length (map (λ e. e.0) h) ≡ length h
-length_keys [] = refl
-length_keys (e ∷ h) = let r = length_keys h in omega arith
-
-keys_all : (h : History) (p : ObjectId) → Has h p → IsTrue (is_one_of (map (λ e. e.0) h) p)
-keys_all [] p has = cc
-keys_all (e ∷ h) p has = elim (same_id p e.0) as (λ s. IsTrue (is_some (cond s (Some e.1) (entry_at h p))) → IsTrue (s || is_one_of (map (λ e. e.0) h) p)) [
-  | true ↦ λ k. refl
-  | false ↦ λ k. keys_all h p k
-] has
 
 -- a pop takes one away
 pub fewer_cut : (h : History) (m : ObjectId → MarkSet) (c : ObjectId) (q0 q : List ObjectId) → IsPermutation q0 (c ∷ q) → left_to_meet h m q + 1 ≤ left_to_meet h m q0

@@ -14,6 +14,7 @@ use Rattle.gix_merge_base.specs.Keys.{KeyAtMost}
 use Rattle.gix_merge_base.specs.Marks.{MarkSet, joined}
 use Rattle.gix_merge_base.specs.PaintQueue.{marks_at, queued_at, queued_ids, id_of, ids_at, IsIn, AreIn, AreHeld, Keyed}
 use Rattle.gix_merge_base.specs.PaintSteps.{Hands, Begins, Begun, Steps, results_after}
+use Rattle.gix_merge_base.specs.ReduceSteps.{Reducing}
 use Rattle.gix_merge_base.specs.declared.merge_base.flags.Flags.{Flags}
 use Rattle.gix_merge_base.specs.declared.merge_base.hand.Front.{Front}
 
@@ -56,6 +57,10 @@ BegunOn h first others g f = Begun h first others (marks_at g) (queued_ids g f.q
 pub record StepsOn {S A : Type 0} (h : History) (id : ObjectId) (g : Graphed S (Commit Flags A)) (f : Front A) (before : List ObjectId) (g' : Graphed S (Commit Flags A)) (f' : Front A) (after : List ObjectId) : Type 0 where
   pub steps : Steps h id (marks_at g) (queued_ids g f.queue) (marks_at g') (queued_ids g' f'.queue)
   pub results : after ≡ results_after (marks_at g) id before
+
+-- The marks and the queue are those between two pops of the reduction of ids.
+abbrev pub ReducingOn : {S A : Type 0} → History → List ObjectId → Graphed S (Commit Flags A) → Front A → Type 0
+ReducingOn h ids g f = Reducing h ids (marks_at g) (queued_ids g f.queue)
 
 -- If the queue and a count were right before the marks w were handed on, they are right after it.
 pub record Keeps {S A : Type 0} (h : History) (w : MarkSet) (g : Graphed S (Commit Flags A)) (f : Front A) (g' : Graphed S (Commit Flags A)) (f' : Front A) : Type 0 where

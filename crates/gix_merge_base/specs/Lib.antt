@@ -13,6 +13,7 @@ pub mod Keys
 pub mod Premises
 pub mod Candidates
 pub mod Painting
+pub mod Painted
 pub mod PaintSteps
 pub mod Counting
 pub mod PaintQueue

@@ -10,10 +10,14 @@ use Rattle.gix_revwalk.specs.declared.numbers.Number.{Number}
 use Rattle.gix_merge_base.specs.Marks.{MarkSet, marks_in}
 use Rattle.gix_merge_base.specs.PaintQueue.{id_at}
 
+-- Commit c is an ancestor of a parent of one of ids.
+abbrev pub IsBelow : History → List ObjectId → ObjectId → Type 0
+IsBelow h ids c = (r : ObjectId) × IsTrue (is_one_of ids r) × (p : ObjectId) × IsEdge h r p × IsAncestor h p c
+
 -- What holds between two pops of the reduction of ids, for the marks m and the queue q.
 pub record Reducing (h : History) (ids : List ObjectId) (m : ObjectId → MarkSet) (q : List ObjectId) : Type 0 where
   -- a commit that was met is an ancestor of a parent of one of ids
-  pub sound : (c : ObjectId) → IsTrue (m c).stale → (r : ObjectId) × IsTrue (is_one_of ids r) × (p : ObjectId) × IsEdge h r p × IsAncestor h p c
+  pub sound : (c : ObjectId) → IsTrue (m c).stale → IsBelow h ids c
   pub begun : (r p : ObjectId) → IsTrue (is_one_of ids r) → IsEdge h r p → IsTrue (m p).stale
   pub queued : (c : ObjectId) → IsTrue (is_one_of q c) → IsTrue (m c).stale
   -- a commit that was met is queued, or its parents were met, or its generation number is less than

@@ -168,6 +168,7 @@ impl<A: Allocator + Copy> Front<A> {
             → unstale (marks_at graph.old) (queued_ids graph.old self.old.queue) ≡ 0 }
         ensures pops { IfSome result (λ n. Pops (S.history graph.old.source) n
             graph.old self.old graph.new self.new) }
+        ensures stays { IsNone result → (graph.new ≡ graph.old) × (self.new ≡ self.old) }
         ensures same { HoldsSame graph.old graph.new }
     {
         if self.open_entries == 0 {

@@ -9,10 +9,12 @@ ghost use Rattle.gix_revwalk.specs.Graph.{KeepsHeld};
 ghost use Rattle.gix_revwalk.specs.GraphAfter.{GraphAfter};
 ghost use Rattle.gix_revwalk.specs.Faults.{count_after, is_source_fault as is_graph_fault};
 ghost use Rattle.gix_merge_base.specs.Bases.{IsCommon, IsMaximal};
-ghost use Rattle.gix_merge_base.specs.Front.{IsRight, BeginsOn, BegunOn, Meets};
+ghost use Rattle.gix_merge_base.specs.AfterCall.{AfterCall};
+ghost use Rattle.gix_merge_base.specs.Front.{IsRight, BeginsOn, BegunOn, ReducingOn, Meets};
 ghost use Rattle.gix_merge_base.specs.Keys.{InFallingOrder};
 ghost use Rattle.gix_merge_base.specs.Premises.{IsAcyclicFrom, KeysFallFrom, NoneRisesFrom};
 ghost use Rattle.gix_merge_base.specs.Marks.{marks_of};
+ghost use Rattle.gix_merge_base.specs.Painted.{IsPainted};
 ghost use Rattle.gix_merge_base.specs.Painting.{IsUnreached, IsHandedIn, MayBeMet, MayBeTaken};
 ghost use Rattle.gix_merge_base.specs.PaintQueue.{IsHeld};
 ghost use Rattle.gix_merge_base.specs.Refusals.{HasInsertText, is_source_fault};
@@ -73,6 +75,43 @@ fn start<S: Find, A: Allocator + Copy>(
         begin(alloc, *other, Flags::COMMIT2, front, graph)?;
     }
     Ok(())
+}
+
+/// Finds common ancestors and counts the pops, as [`paint`] does. `walk` has an empty queue, and is
+/// left as painting ends, so that the reduction of the results can go on with it.
+pub(crate) fn paint_with<S: Find, A: Allocator + Copy>(
+    alloc: A,
+    first: ObjectId,
+    others: &[ObjectId],
+    walk: &mut Walk<A>,
+    graph: &mut Graph<S, Commit<Flags, A>, A>,
+) -> Result<(Vec<ObjectId, A>, u128), Error>
+    requires empty { walk.old.front.queue ≡ [] }
+    requires none { walk.old.front.open_entries ≡ 0 }
+    ensures painted { IfOk result
+        (λ r. IsPainted (S.history graph.old.source) first others.now r.0.items r.1) }
+    ensures reducing { IfOk result (λ r. ReducingOn (S.history graph.old.source) r.0.items
+        graph.new walk.new.front) }
+    ensures right { OnOk result (IsRight (S.history graph.old.source) graph.new walk.new.front) }
+    ensures reached { (q : ObjectId) → IsHeld graph.new q
+        → IsHeld graph.old q ⊎ MayBeMet (S.history graph.old.source) first others.now q }
+    ensures taken { KeysFallFrom (S.history graph.old.source) (first ∷ others.now)
+        → (q : ObjectId) → IsHeld graph.new q
+        → IsHeld graph.old q ⊎ MayBeTaken (S.history graph.old.source) first others.now q }
+    ensures after { AfterCall S.history S.fault_count graph.old graph.new result }
+{
+    if let Err(error) = start(alloc, first, others, &mut walk.front, graph) {
+        return Err(commit_refused(error));
+    }
+    let mut results = Vec::new(alloc);
+    let mut pops = 0u128;
+    while let Some(number) = walk.front.pop_open(graph) {
+        if let Err(error) = walk.step(alloc, number, &mut results, graph) {
+            return Err(parent_refused(error));
+        }
+        pops += 1;
+    }
+    Ok((results, pops))
 }
 
 /// Finds common ancestors of `first` and a hypothetical merge of `others`, and counts the pops.
@@ -154,16 +193,5 @@ pub fn paint<S: Find, A: Allocator + Copy>(
     ensures held { KeepsHeld graph.old graph.new }
 {
     let mut walk = Walk::new(alloc, 0);
-    if let Err(error) = start(alloc, first, others, &mut walk.front, graph) {
-        return Err(commit_refused(error));
-    }
-    let mut results = Vec::new(alloc);
-    let mut pops = 0u128;
-    while let Some(number) = walk.front.pop_open(graph) {
-        if let Err(error) = walk.step(alloc, number, &mut results, graph) {
-            return Err(parent_refused(error));
-        }
-        pops += 1;
-    }
-    Ok((results, pops))
+    paint_with(alloc, first, others, &mut walk, graph)
 }

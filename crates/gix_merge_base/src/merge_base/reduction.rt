@@ -1,20 +1,20 @@
 //! Reduces ids to those that no other one of them reaches.
 
-ghost use Rattle.std.specs.Prelude.{◌≡◌, ◌++◌, ◌∷◌, [], length, is_some, ◌⊎◌, ◌↔◌, IsTrue, OnOk, IfOk, IfErr};
+ghost use Rattle.std.specs.Prelude.{◌≡◌, ◌+◌, ◌++◌, ◌∷◌, [], length, is_some, ◌⊎◌, ◌↔◌, IsTrue, OnOk, IfOk, IfErr};
 ghost use Rattle.std.specs.List.Sorted.{IsPermutation};
-ghost use Rattle.std.specs.List.{filter};
+ghost use Rattle.std.specs.List.{filter, IsDistinct};
 ghost use Rattle.gix_base.specs.declared.hash.ObjectId.{ObjectId};
 ghost use Rattle.gix_revwalk.specs.Graph.{KeepsHeld};
-ghost use Rattle.gix_revwalk.specs.History.{is_one_of, entry_at};
+ghost use Rattle.gix_revwalk.specs.History.{Has, is_one_of, same_id, entry_at};
 ghost use Rattle.gix_merge_base.specs.Premises.{IsAcyclicFrom, GenerationsNeverRiseFrom};
 ghost use Rattle.gix_revwalk.specs.Walks.{parents_of_all, HoldsMore};
 ghost use Rattle.gix_revwalk.specs.Faults.{count_after};
 ghost use Rattle.gix_merge_base.specs.AfterCall.{AfterCall, LoadsFrom};
 ghost use Rattle.gix_merge_base.specs.Painting.{MayBeMetFrom};
-ghost use Rattle.gix_merge_base.specs.Front.{IsQueued, CountsLeft};
+ghost use Rattle.gix_merge_base.specs.Front.{IsQueued, IsRight, CountsLeft, ReducingOn, KeepsNumbers};
 ghost use Rattle.gix_merge_base.specs.Marks.{met};
 ghost use Rattle.gix_merge_base.specs.PaintQueue.{marks_at, queued_at, queued_ids, ids_at, AreIn, IsHeld};
-ghost use Rattle.gix_merge_base.specs.Counting.{times, CountsUnmet};
+ghost use Rattle.gix_merge_base.specs.Counting.{times, unstale, CountsUnmet};
 ghost use Rattle.gix_merge_base.specs.PaintSteps.{Hands};
 ghost use Rattle.gix_merge_base.specs.Reducing.{firsts, IsIndependent, SomeOf};
 ghost use Rattle.gix_merge_base.specs.ReduceSteps.{Unmarked, IsOrder, AreMetBefore, IsLeft, Reducing, Reduced};
@@ -60,9 +60,9 @@ fn list_one<S: Find, A: Allocator + Copy>(
         ≡ ids_at graph.old numbers.old.items
         ++ filter (λ p. is_some (entry_at (S.history graph.old.source) p)) (id ∷ []))) }
     ensures marks { OnOk result ((c : ObjectId) → marks_at graph.new c ≡ marks_at graph.old c) }
-    ensures counted { OnOk result (AreIn graph.old numbers.old.items
-        → ((c : ObjectId) → queued_at graph.old c ≡ times c (ids_at graph.old numbers.old.items))
-        → (c : ObjectId) → queued_at graph.new c ≡ times c (ids_at graph.new numbers.new.items)) }
+    ensures counted { OnOk result ((c : ObjectId) → queued_at graph.new c ≡ queued_at graph.old c
+        + times c (filter (λ p. is_some (entry_at (S.history graph.old.source) p)) (id ∷ []))) }
+    ensures numbers { OnOk result (KeepsNumbers graph.old graph.new) }
     ensures holds { HoldsMore (S.history graph.old.source) (id ∷ []) graph.old graph.new }
     ensures after { AfterCall S.history S.fault_count graph.old graph.new result }
 {
@@ -84,8 +84,32 @@ fn list_one<S: Find, A: Allocator + Copy>(
     Ok(())
 }
 
-/// Begins a walk, and returns the numbers of the ids that the source has, in order. Each counts as
-/// queued once, so that handing marks on also counts the ids that were not met.
+/// Returns the numbers of the ids that the source has, in order. Each counts as queued once more,
+/// so that handing marks on also counts the ids that were not met.
+fn numbers_of<S: Find, A: Allocator + Copy>(
+    alloc: A,
+    ids: &[ObjectId],
+    graph: &mut Graph<S, Commit<Flags, A>, A>,
+) -> Result<Vec<Number, A>, Error>
+    ensures inside { IfOk result (λ ns. AreIn graph.new ns.items) }
+    ensures ids { IfOk result (λ ns. ids_at graph.new ns.items
+        ≡ filter (λ p. is_some (entry_at (S.history graph.old.source) p)) ids.now) }
+    ensures marks { OnOk result ((c : ObjectId) → marks_at graph.new c ≡ marks_at graph.old c) }
+    ensures counted { OnOk result ((c : ObjectId) → queued_at graph.new c ≡ queued_at graph.old c
+        + times c (filter (λ p. is_some (entry_at (S.history graph.old.source) p)) ids.now)) }
+    ensures numbers { OnOk result (KeepsNumbers graph.old graph.new) }
+    ensures loads { LoadsFrom (S.history graph.old.source) ids.now graph.old graph.new }
+    ensures after { AfterCall S.history S.fault_count graph.old graph.new result }
+{
+    let mut numbers = Vec::new(alloc);
+    for id in ids {
+        list_one(alloc, *id, &mut numbers, graph)?;
+    }
+    Ok(numbers)
+}
+
+/// Begins a walk, and returns the numbers of the ids that the source has, in order, each of which
+/// counts as queued once.
 fn list<S: Find, A: Allocator + Copy>(
     alloc: A,
     ids: &[ObjectId],
@@ -101,11 +125,7 @@ fn list<S: Find, A: Allocator + Copy>(
     ensures after { AfterCall S.history S.fault_count graph.old graph.new result }
 {
     numbers::begin_walk(graph);
-    let mut numbers = Vec::new(alloc);
-    for id in ids {
-        list_one(alloc, *id, &mut numbers, graph)?;
-    }
-    Ok(numbers)
+    numbers_of(alloc, ids, graph)
 }
 
 /// Meets the parents of each of the commits.
@@ -231,6 +251,23 @@ fn meet<S: Find, A: Allocator + Copy>(
     Ok(())
 }
 
+/// Counts the commits that were not met.
+fn count_unmet<S: Find, A: Allocator + Copy>(
+    numbers: &[Number],
+    graph: &Graph<S, Commit<Flags, A>, A>,
+) -> usize
+    requires { AreIn graph.now numbers.now }
+    ensures { result ≡ unstale (marks_at graph.now) (ids_at graph.now numbers.now) }
+{
+    let mut unmet = 0usize;
+    for number in numbers {
+        if !mark_of(graph, *number).marks.is_stale() {
+            unmet += 1;
+        }
+    }
+    unmet
+}
+
 /// Tests whether an id was met.
 fn is_met<S: Find, A: Allocator + Copy>(
     id: &ObjectId,
@@ -242,6 +279,41 @@ fn is_met<S: Find, A: Allocator + Copy>(
         Some(number) => mark_of(graph, number).marks.is_stale(),
         None => false,
     }
+}
+
+/// Returns those of the results of painting that no other one of them reaches.
+///
+/// The call goes on with painting's walk. Stale commits count as met, and the queued ones are
+/// followed next.
+pub(crate) fn reduce_painted<S: Find, A: Allocator + Copy>(
+    alloc: A,
+    mut painted: Vec<ObjectId, A>,
+    walk: &mut Walk<A>,
+    graph: &mut Graph<S, Commit<Flags, A>, A>,
+) -> Result<Vec<ObjectId, A>, Error>
+    requires once { IsDistinct same_id painted.items }
+    requires has { (c : ObjectId) → IsTrue (is_one_of painted.items c)
+        → Has (S.history graph.old.source) c }
+    requires reducing { ReducingOn (S.history graph.old.source) painted.items
+        graph.old walk.old.front }
+    requires right { IsRight (S.history graph.old.source) graph.old walk.old.front }
+    ensures independent { IsAcyclicFrom (S.history graph.old.source) painted.items
+        → GenerationsNeverRiseFrom (S.history graph.old.source) painted.items
+        → IfOk result (λ left. (c : ObjectId) → IsTrue (is_one_of left.items c)
+        ↔ IsIndependent (S.history graph.old.source) painted.items c) }
+    ensures kept { IsAcyclicFrom (S.history graph.old.source) painted.items
+        → IfOk result (λ left. (c : ObjectId)
+        → IsIndependent (S.history graph.old.source) painted.items c
+        → IsTrue (is_one_of left.items c)) }
+    ensures some { IfOk result (λ left. SomeOf painted.items left.items) }
+    ensures loads { LoadsFrom (S.history graph.old.source) painted.items graph.old graph.new }
+    ensures after { AfterCall S.history S.fault_count graph.old graph.new result }
+{
+    let numbers = numbers_of(alloc, &painted, graph)?;
+    walk.front.open_entries = count_unmet(&numbers, graph);
+    meet(alloc, &numbers, walk, graph)?;
+    painted.retain(|id| !is_met(id, graph));
+    Ok(painted)
 }
 
 /// Returns those of `ids` that no other one of them reaches.

@@ -1,124 +1,41 @@
-use Rattle.std.proofs.Common.{◌≡◌, ◌<◌, ◌≤◌, ◌+◌, ◌*◌, ◌-◌, ◌^◌, length, arith, refl, sym, ap, subst, ◌∙◌, ℕ}
-use Rattle.gix_merge_base.specs.Front.{IsRight}
-use Rattle.gix_merge_base.specs.PaintQueue.{marks_at, queued_ids, IsHeld}
-use Rattle.gix_merge_base.proofs.AfterCalls.{steps_more, steps_same}
-use Rattle.gix_merge_base.proofs.QueueKeys.{held-same, kept-same}
-use Rattle.gix_merge_base.proofs.PaintBegins.{walk_begins}
-use Rattle.gix_merge_base.proofs.PaintPops.{next_walk, next_takes, next_meets}
-use Rattle.gix_merge_base.proofs.PaintWalk.{pops_left, pops_bound, all_stale, pops_fit}
-use Rattle.gix_merge_base.proofs.PaintingEnds.{best_is_result, pops_enough}
+use Rattle.std.proofs.lemmas.Result.{IfOk-weaker}
 use Rattle.gix_merge_base.proofs.merge_base.painting.paint.Goals as goal
 
-smaller : (a b n p : ℕ) → b ≡ a → p + 1 ≤ (1 + n) + 3 * a → (1 + n + 3 * b) - (p + 1) < (1 + n + 3 * a) - p
-smaller a b n p e k = omega arith
-
-pub loop-number-init : goal.loop-number-init
-loop-number-init g c = record {
-  walk = rw c.new-results.ensures.items (walk_begins _ c.args.first c.args.others.now (IsHeld c.args.graph.now) (IsHeld c.start.new.graph) (marks_at c.start.new.graph) (queued_ids c.start.new.graph c.start.new.front.queue) c.in_default.ensures.begun c.start.ensures.holds);
-  right = c.in_default.ensures.right;
-  after = c.in_default.ensures.after;
-}
-
-pub pop_open-requires : goal.pop_open-requires
-pop_open-requires g c = subst (λ h. IsRight h c.loop-number.graph c.loop-number.walk.front) (sym c.loop-number.invariant.after.same_history) c.loop-number.invariant.right
-
-pub step-requires-clause-right : goal.step-requires-clause-right
-step-requires-clause-right g c = subst (λ h. IsRight h c.pop_open.new.graph c.pop_open.new.self) (sym (ap g.S.Find.history c.pop_open.ensures.same.source)) c.in-Some.ensures.pops.right
-
-pub loop-number-preserved : goal.loop-number-preserved
-loop-number-preserved g c =
-    let h = g.S.Find.history c.args.graph.now.source in
-    let same = c.loop-number.invariant.after.same_history in
-    let held = c.pop_open.ensures.same in
-    let chain : g.S.Find.history c.pop_open.new.graph.source ≡ h = ap g.S.Find.history held.source ∙ same in
-    let pops = rw same at c.in-Some.ensures.pops in
-    let steps = rw chain at c.in_default-step.ensures.steps in
-    let more = rw chain at c.step.ensures.meets.more in
-    record {
-      walk = rw steps.results (next_walk h c.args.first c.args.others.now (IsHeld c.args.graph.now) c.loop-number.graph c.pop_open.new.graph c.step.new.graph c.loop-number.walk.front c.pop_open.new.self c.in-Some.number
-          held pops more c.loop-number.results.items c.loop-number.pops c.loop-number.invariant.walk c.step.new.self.front steps.steps);
-      right = subst (λ z. IsRight z c.step.new.graph c.step.new.self.front) chain c.in_default-step.ensures.right;
-      after = steps_more c.args.graph.now c.pop_open.new.graph c.step.new.graph _ (steps_same _ c.loop-number.graph _ c.loop-number.invariant.after held) c.in_default-step.ensures.meets.graph;
-    }
-
-pub overflow_add-pops : goal.overflow_add-pops
-overflow_add-pops g c =
-    let h = g.S.Find.history c.args.graph.now.source in
-    let same = c.loop-number.invariant.after.same_history in
-    let held = c.pop_open.ensures.same in
-    let chain : g.S.Find.history c.pop_open.new.graph.source ≡ h = ap g.S.Find.history held.source ∙ same in
-    let pops = rw same at c.in-Some.ensures.pops in
-    let steps = rw chain at c.in_default-step.ensures.steps in
-    let more = rw chain at c.step.ensures.meets.more in
-    let after = next_walk h c.args.first c.args.others.now (IsHeld c.args.graph.now) c.loop-number.graph c.pop_open.new.graph c.step.new.graph c.loop-number.walk.front c.pop_open.new.self c.in-Some.number
-    held pops more c.loop-number.results.items c.loop-number.pops c.loop-number.invariant.walk c.step.new.self.front steps.steps in
-    let fit = pops_fit h c.args.first c.args.others.now (IsHeld c.args.graph.now) (IsHeld c.step.new.graph) c.step.new.graph (queued_ids c.step.new.graph c.step.new.self.front.queue) _ (c.loop-number.pops + 1) after c.in_default-step.ensures.room in
-    let few : length c.args.others.now < 2 ^ 64 = omega arith in
-    omega arith
-
-pub loop-number-smaller : goal.loop-number-smaller
-loop-number-smaller g c =
-    let h = g.S.Find.history c.args.graph.now.source in
-    let same = c.loop-number.invariant.after.same_history in
-    let back : g.S.Find.history c.step.new.graph.source ≡ g.S.Find.history c.loop-number.graph.source = c.step.ensures.meets.graph.same_history ∙ ap g.S.Find.history c.pop_open.ensures.same.source in
-    smaller _ _ _ _ (ap length back)
-    (subst (λ z. c.loop-number.pops + 1 ≤ (1 + length c.args.others.now) + 3 * length z) (sym same) (pops_left h c.args.first c.args.others.now (IsHeld c.args.graph.now) (IsHeld c.loop-number.graph) (marks_at c.loop-number.graph) _ (queued_ids c.loop-number.graph c.loop-number.walk.front.queue) (queued_ids c.pop_open.new.graph c.pop_open.new.self.queue) c.loop-number.results.items c.loop-number.pops
-    c.loop-number.invariant.walk c.in-Some.ensures.pops.queue))
+pub returns-clause-common : goal.returns-clause-common
+returns-clause-common g c = IfOk-weaker c.paint_with.result _ _ (λ r is. is.common) c.paint_with.ensures.painted
 
 pub returns-clause-best : goal.returns-clause-best
-returns-clause-best g c acyclic =
-    best_is_result _ c.args.first c.args.others.now (marks_at c.loop-number.graph) (queued_ids c.loop-number.graph c.loop-number.walk.front.queue) c.loop-number.results.items c.loop-number.invariant.walk.popped acyclic c.loop-number.invariant.walk.painting
-    (all_stale (marks_at c.loop-number.graph) (queued_ids c.loop-number.graph c.loop-number.walk.front.queue) (c.in_default-pop_open.ensures.none refl))
+returns-clause-best g c acyclic = IfOk-weaker c.paint_with.result _ _ (λ r is. is.best acyclic) c.paint_with.ensures.painted
+
+pub returns-clause-once : goal.returns-clause-once
+returns-clause-once g c = IfOk-weaker c.paint_with.result _ _ (λ r is. is.once) c.paint_with.ensures.painted
 
 pub returns-clause-most : goal.returns-clause-most
-returns-clause-most g c n size =
-    let b = pops_bound _ c.args.first c.args.others.now (IsHeld c.args.graph.now) (IsHeld c.loop-number.graph) (marks_at c.loop-number.graph) (queued_ids c.loop-number.graph c.loop-number.walk.front.queue) c.loop-number.results.items c.loop-number.pops c.loop-number.invariant.walk size.0 (λ p has. (size.1.1 p).1 has) in
-    let e = size.2 in
-    omega arith
+returns-clause-most g c n size = IfOk-weaker c.paint_with.result _ _ (λ r is. is.most n size) c.paint_with.ensures.painted
 
 pub returns-clause-least : goal.returns-clause-least
-returns-clause-least g c acyclic xs distinct each =
-    let k : length xs ≤ length c.loop-number.invariant.walk.popped = pops_enough _ c.args.first c.args.others.now (marks_at c.loop-number.graph) (queued_ids c.loop-number.graph c.loop-number.walk.front.queue) c.loop-number.results.items c.loop-number.invariant.walk.popped acyclic c.loop-number.invariant.walk.painting
-    (all_stale (marks_at c.loop-number.graph) (queued_ids c.loop-number.graph c.loop-number.walk.front.queue) (c.in_default-pop_open.ensures.none refl)) xs distinct each in
-    let e : c.loop-number.pops ≡ length c.loop-number.invariant.walk.popped = c.loop-number.invariant.walk.counts in
-    omega arith
-
-pub returns-clause-taken : goal.returns-clause-taken
-returns-clause-taken g c falls q k = c.loop-number.invariant.walk.taken falls q (sym (held-same c.loop-number.graph c.pop_open.new.graph c.pop_open.ensures.same.ids q) ∙ k)
+returns-clause-least g c acyclic = IfOk-weaker c.paint_with.result _ _ (λ r is. is.least acyclic) c.paint_with.ensures.painted
 
 pub returns-clause-reached : goal.returns-clause-reached
-returns-clause-reached g c q k = c.loop-number.invariant.walk.met q (sym (held-same c.loop-number.graph c.pop_open.new.graph c.pop_open.ensures.same.ids q) ∙ k)
+returns-clause-reached g c = c.paint_with.ensures.reached
 
-pub returns-clause-held : goal.returns-clause-held
-returns-clause-held g c q k = kept-same c.loop-number.graph c.pop_open.new.graph c.pop_open.ensures.same.ids q (c.loop-number.invariant.after.held q k)
+pub returns-clause-taken : goal.returns-clause-taken
+returns-clause-taken g c = c.paint_with.ensures.taken
+
+pub returns-clause-strict : goal.returns-clause-strict
+returns-clause-strict g c falls = IfOk-weaker c.paint_with.result _ _ (λ r is. is.strict falls) c.paint_with.ensures.painted
+
+pub returns-clause-falling : goal.returns-clause-falling
+returns-clause-falling g c none = IfOk-weaker c.paint_with.result _ _ (λ r is. is.falling none) c.paint_with.ensures.painted
 
 pub returns-clause-history : goal.returns-clause-history
-returns-clause-history g c = ap g.S.Find.history c.pop_open.ensures.same.source ∙ c.loop-number.invariant.after.same_history
+returns-clause-history g c = c.paint_with.ensures.after.graph.same_history
+
+pub returns-clause-cause : goal.returns-clause-cause
+returns-clause-cause g c = c.paint_with.ensures.after.cause
 
 pub returns-clause-count : goal.returns-clause-count
-returns-clause-count g c = ap g.S.Find.fault_count c.pop_open.ensures.same.source ∙ c.loop-number.invariant.after.count
+returns-clause-count g c = c.paint_with.ensures.after.graph.count
 
-pub returns-in-Err-step-clause-taken : goal.returns-in-Err-step-clause-taken
-returns-in-Err-step-clause-taken g c =
-    let h = g.S.Find.history c.args.graph.now.source in
-    let same = c.loop-number.invariant.after.same_history in
-    let held = c.pop_open.ensures.same in
-    let chain : g.S.Find.history c.pop_open.new.graph.source ≡ h = ap g.S.Find.history held.source ∙ same in
-    let pops = rw same at c.in-Some.ensures.pops in
-    let more = rw chain at c.step.ensures.meets.more in
-    next_takes h c.args.first c.args.others.now (IsHeld c.args.graph.now) c.loop-number.graph c.pop_open.new.graph c.step.new.graph c.loop-number.walk.front c.pop_open.new.self c.in-Some.number
-    held pops more c.loop-number.results.items c.loop-number.pops c.loop-number.invariant.walk
-
-pub returns-in-Err-step-clause-reached : goal.returns-in-Err-step-clause-reached
-returns-in-Err-step-clause-reached g c =
-    let h = g.S.Find.history c.args.graph.now.source in
-    let same = c.loop-number.invariant.after.same_history in
-    let held = c.pop_open.ensures.same in
-    let chain : g.S.Find.history c.pop_open.new.graph.source ≡ h = ap g.S.Find.history held.source ∙ same in
-    let pops = rw same at c.in-Some.ensures.pops in
-    let more = rw chain at c.step.ensures.meets.more in
-    next_meets h c.args.first c.args.others.now (IsHeld c.args.graph.now) c.loop-number.graph c.pop_open.new.graph c.step.new.graph c.loop-number.walk.front c.pop_open.new.self c.in-Some.number
-    held pops more c.loop-number.results.items c.loop-number.pops c.loop-number.invariant.walk
-
-pub returns-in-Err-step-clause-held : goal.returns-in-Err-step-clause-held
-returns-in-Err-step-clause-held g c q k = c.step.ensures.meets.graph.held q (kept-same c.loop-number.graph c.pop_open.new.graph c.pop_open.ensures.same.ids q (c.loop-number.invariant.after.held q k))
+pub returns-clause-held : goal.returns-clause-held
+returns-clause-held g c = c.paint_with.ensures.after.graph.held

@@ -1,15 +1,16 @@
-use Rattle.std.proofs.Common.{◌≡◌, refl, sym, ap, subst, ◌∙◌, [], ◌∷◌, ◌++◌, ◌+◌, cond, true, false, is_some, rules}
+use Rattle.std.proofs.Common.{◌≡◌, sym, ap, subst, ◌∙◌, [], ◌∷◌, ◌++◌, ◌+◌, cond, true, false, is_some, rules, arith}
 use Rattle.std.proofs.lemmas.List.{append-nil}
 use Rattle.std.specs.Option.{unwrap_or}
 use Rattle.gix_base.specs.declared.hash.ObjectId.{ObjectId}
 use Rattle.gix_revwalk.specs.History.{entry_at, same_id}
 use Rattle.gix_merge_base.specs.Counting.{times}
-use Rattle.gix_merge_base.proofs.Counting.{times_pushed}
+use Rattle.gix_merge_base.proofs.Counting.{times_one}
 use Rattle.gix_revwalk.specs.Number.{place_in}
 use Rattle.gix_revwalk.specs.declared.numbers.Mark.{Mark}
 use Rattle.gix_merge_base.specs.Marks.{marks_of}
 use Rattle.gix_merge_base.specs.PaintQueue.{marks_at, queued_at, ids_at, id_at, AreIn, no_mark}
 use Rattle.gix_merge_base.specs.declared.merge_base.flags.Flags.{Flags}
+use Rattle.gix_merge_base.proofs.Fronts.{numbers_then}
 use Rattle.gix_merge_base.proofs.Listed.{listed-grown, listed-same, listed-push}
 use Rattle.gix_merge_base.proofs.Numbered.{given-marks, given-queued, same-marks}
 use Rattle.gix_merge_base.proofs.QueueKeys.{number-id, kept-grown, kept-same}
@@ -59,30 +60,36 @@ returns-clause-marks g c d =
     ∙ ap (λ o. marks_of (unwrap_or o no_mark).marks) (taken.marks d)
 
 pub returns-in-Ok-None-clause-counted : goal.returns-in-Ok-None-clause-counted
-returns-in-Ok-None-clause-counted g c all counted d =
+returns-in-Ok-None-clause-counted g c d =
+    let old = c.args.graph.now in
     let taken = rw c.in-Ok-None.field-0-is at c.in-Ok-None.ensures in
-    let grown = listed-grown c.args.graph.now c.take.new.graph taken.grows c.args.numbers.now.items all in
-    ap (λ o. (unwrap_or o no_mark).queued) (taken.marks d) ∙ counted d ∙ ap (times d) (sym grown.1)
+    let lacks : is_some (entry_at (g.S.Find.history old.source) c.args.id) ≡ false = sym taken.has in
+    let none : queued_at old d + times d [] ≡ queued_at old d = omega arith in
+    ap (λ o. (unwrap_or o no_mark).queued) (taken.marks d) ∙ sym (ap (λ b. queued_at old d + times d (cond b (c.args.id ∷ []) [])) lacks ∙ none)
 
 pub returns-clause-counted : goal.returns-clause-counted
-returns-clause-counted g c all counted =
+returns-clause-counted g c d =
     let old = c.args.graph.now in
     let mid = c.take.new.graph in
     let new = c.set_mark.new.graph in
-    let ns = c.args.numbers.now.items in
     let number = c.in-Ok-Some.number in
     let taken = rw c.in-Ok-Some.field-0-is at c.in-Ok-Some.ensures in
-    let lt = (number-id mid c.args.id (place_in number) taken.number).0 in
+    let named = number-id mid c.args.id (place_in number) taken.number in
     let id = id_at mid (place_in number) in
-    let grown = listed-grown old mid taken.grows ns all in
-    let more = listed-push mid ns number id grown.0 lt refl in
-    let pushed = listed-same mid new c.set_mark.ensures.ids (ns ++ number ∷ []) more.0 in
     let one : c.in-Some.queued ≡ c.mark_of-old.result.queued + 1 = search rules in
-    let before : (q : ObjectId) → queued_at mid q ≡ times q (ids_at mid ns) = λ q. ap (λ o. (unwrap_or o no_mark).queued) (taken.marks q) ∙ counted q ∙ ap (times q) (sym grown.1) in
     let queued : (q : ObjectId) → queued_at new q ≡ cond (same_id id q) (queued_at mid id + 1) (queued_at mid q) =
-    λ q. given-queued mid new (place_in number) _ lt c.set_mark.ensures q ∙ ap (λ z. cond (same_id id q) z (queued_at mid q)) (one ∙ ap (λ (z : Mark Flags). z.queued + 1) c.mark_of-old.ensures) in
-    let ids : ids_at new c.push.new.self.items ≡ ids_at mid ns ++ id ∷ [] = ap (ids_at new) c.in-Ok.ensures.items ∙ pushed.1 ∙ more.1 in
-    λ q. times_pushed (queued_at mid) (queued_at new) id (ids_at mid ns) queued before q ∙ ap (times q) (sym ids)
+    λ q. given-queued mid new (place_in number) _ named.0 c.set_mark.ensures q ∙ ap (λ z. cond (same_id id q) z (queued_at mid q)) (one ∙ ap (λ (z : Mark Flags). z.queued + 1) c.mark_of-old.ensures) in
+    let has : is_some (entry_at (g.S.Find.history old.source) c.args.id) ≡ true = sym taken.has in
+    let all : times d (cond (is_some (entry_at (g.S.Find.history old.source) c.args.id)) (c.args.id ∷ []) []) ≡ times d (id ∷ []) = ap (λ b. times d (cond b (c.args.id ∷ []) [])) has ∙ ap (λ z. times d (z ∷ [])) (sym named.1) in
+    times_one (queued_at mid) (queued_at new) id queued d ∙ ap (λ n. n + times d (id ∷ [])) (ap (λ o. (unwrap_or o no_mark).queued) (taken.marks d)) ∙ ap (λ n. queued_at old d + n) (sym all)
+
+pub returns-in-Ok-None-clause-numbers : goal.returns-in-Ok-None-clause-numbers
+returns-in-Ok-None-clause-numbers g c = let taken = rw c.in-Ok-None.field-0-is at c.in-Ok-None.ensures in listed-grown c.args.graph.now c.take.new.graph taken.grows
+
+pub returns-clause-numbers : goal.returns-clause-numbers
+returns-clause-numbers g c =
+    let taken = rw c.in-Ok-Some.field-0-is at c.in-Ok-Some.ensures in
+    numbers_then c.args.graph.now c.take.new.graph c.set_mark.new.graph (listed-grown c.args.graph.now c.take.new.graph taken.grows) (listed-same c.take.new.graph c.set_mark.new.graph c.set_mark.ensures.ids)
 
 pub returns-clause-after : goal.returns-clause-after
 returns-clause-after g c =

@@ -1,4 +1,4 @@
-use Rattle.std.proofs.Common.{◌≡◌, ◌∙◌, ◌-◌, ◌<◌, sym, ap, subst, cond, rules, arith}
+use Rattle.std.proofs.Common.{◌≡◌, ◌∙◌, ◌-◌, ◌<◌, refl, sym, ap, subst, cond, rules, arith}
 use Rattle.gix_revwalk.specs.History.{same_id}
 use Rattle.gix_revwalk.specs.Graph.{held_len}
 use Rattle.gix_revwalk.specs.Number.{place_in}
@@ -18,6 +18,9 @@ mark_of-old-requires g c = (held-permutation (λ p. place_in p.1 < held_len c.ar
 
 pub set_mark-requires : goal.set_mark-requires
 set_mark-requires g c = (held-permutation (λ p. place_in p.1 < held_len c.args.graph.now) c.args.self.now.queue _ c.in_ok-number.ensures.taken c.requires.queued.held).0
+
+pub returns-in_err-number-clause-stays : goal.returns-in_err-number-clause-stays
+returns-in_err-number-clause-stays g c none = (refl, ap (λ q. record { queue = q; open_entries = c.args.self.now.open_entries }) (c.in_err-number.ensures.same refl))
 
 pub returns-clause-pops : goal.returns-clause-pops
 returns-clause-pops g c =

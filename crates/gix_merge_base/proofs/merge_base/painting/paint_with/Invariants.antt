@@ -3,7 +3,7 @@ use Rattle.gix_merge_base.specs.Front.{IsRight}
 use Rattle.gix_merge_base.specs.PaintQueue.{marks_at, queued_ids, IsHeld}
 use Rattle.gix_merge_base.proofs.AfterCalls.{AfterSteps}
 use Rattle.gix_merge_base.proofs.PaintWalk.{IsWalk}
-use Rattle.gix_merge_base.proofs.merge_base.painting.paint.Given as goal
+use Rattle.gix_merge_base.proofs.merge_base.painting.paint_with.Given as goal
 
 abbrev pub invariant-loop-number : goal.invariant-loop-number
 invariant-loop-number g l = record {
