@@ -6,12 +6,14 @@ use Rattle.std.proofs.lemmas.List.{length-map}
 use Rattle.std.proofs.lemmas.List.Sums.{sum_by-cons}
 use Rattle.gix_base.specs.declared.hash.ObjectId.{ObjectId}
 use Rattle.gix_revwalk.specs.History.{Entry}
+use Rattle.gix_ids.specs.TableForm.{id_of}
+use Rattle.gix_ids.specs.TableIds.{rows_from, rows_in}
 use Rattle.gix_commitgraph.specs.FileChunks.{layout_of}
-use Rattle.gix_commitgraph.specs.FileCommits.{id_of, row_word, edge_word, edge_list, others, parents_at, entry_of_row, commits_from, history_in}
+use Rattle.gix_commitgraph.specs.FileCommits.{row_word, edge_word, edge_list, others, parents_at, entry_of_row, history_in}
 use Rattle.gix_commitgraph.specs.FileChecks.{HasList, list_start, list_end, IsSound}
 use Rattle.gix_commitgraph.specs.FileParents.{parent_count}
 use Rattle.gix_commitgraph.specs.declared.commit_graph.layout.Layout.{Layout}
-use Rattle.gix_commitgraph.proofs.Listed.{history-length}
+use Rattle.gix_commitgraph.proofs.History.{history-length}
 
 module _ (s : List ℕ) (l : Layout) where
   length-edge_list : (k n : ℕ) → length (edge_list s l k n) ≤ n
@@ -40,7 +42,7 @@ module _ (s : List ℕ) (l : Layout) where
           | false ↦ omega arith
         ])
 
-    length-parents : length (map (id_of s l) (parents_at s l i)) ≤ 1 + length (others s l (row_word s l i 24))
+    length-parents : length (map (id_of s l.table) (parents_at s l i)) ≤ 1 + length (others s l (row_word s l i 24))
     length-parents =
         rw length-map (elim (nat_eq (row_word s l i 20) 0x7000_0000) as (λ b. length (cond b [] (row_word s l i 20 ∷ others s l (row_word s l i 24))) ≤ 1 + length (others s l (row_word s l i 24))) [
           | true ↦ omega arith
@@ -49,12 +51,12 @@ module _ (s : List ℕ) (l : Layout) where
 
   module _ (sound : IsSound s l) where
     -- the lists of n commits from position i on, none of which begins before f, fit behind f
-    few-from : (i n f : ℕ) → i + n ≤ l.count → f ≤ l.edge_count → ((j : ℕ) → i ≤ j → j < l.count → HasList s l j → f ≤ list_start s l j)
-        → parent_count (commits_from s l i n) + f ≤ 2 * n + l.edge_count
+    few-from : (i n f : ℕ) → i + n ≤ l.table.count → f ≤ l.edge_count → ((j : ℕ) → i ≤ j → j < l.table.count → HasList s l j → f ≤ list_start s l j)
+        → parent_count (rows_from s l.table (entry_of_row s l) i n) + f ≤ 2 * n + l.edge_count
     few-from i zero f h fits behind = omega arith
     few-from i (suc n) f h fits behind =
         let one = length-parents i in
-        let both = sum_by-cons (λ (e : ObjectId × Entry). length e.1.parents) (id_of s l i, entry_of_row s l i) (commits_from s l (i + 1) n) in
+        let both = sum_by-cons (λ (e : ObjectId × Entry). length e.1.parents) (id_of s l.table i, entry_of_row s l i) (rows_from s l.table (entry_of_row s l) (i + 1) n) in
         elim (cases_lt (row_word s l i 24) (2 ^ 31)) [
           | inl low ↦
               let few = length-others i low in
@@ -70,17 +72,17 @@ module _ (s : List ℕ) (l : Layout) where
         ]
 
 module _ (s : List ℕ) (l : Layout) (laid : l ≡ layout_of s) (sound : IsSound s l) where
-  few : parent_count (history_in s) ≤ 2 * l.count + l.edge_count
+  few : parent_count (history_in s) ≤ 2 * l.table.count + l.edge_count
   unfolding history_in
   few =
-      let P : Layout → Type 0 = λ m. parent_count (commits_from s m 0 m.count) ≤ 2 * l.count + l.edge_count in
-      let all = few-from s l sound 0 l.count 0 (omega arith) (omega arith) (λ j a b has. omega arith) in
+      let P : Layout → Type 0 = λ m. parent_count (rows_in s m.table (entry_of_row s m)) ≤ 2 * l.table.count + l.edge_count in
+      let all = few-from s l sound 0 l.table.count 0 (omega arith) (omega arith) (λ j a b has. omega arith) in
       subst P laid (omega arith)
 
   pub few-parents : parent_count (history_in s) ≤ 2 * length (history_in s) + (layout_of s).edge_count
   few-parents =
       let P : ℕ → Type 0 = λ n. parent_count (history_in s) ≤ 2 * n + (layout_of s).edge_count in
-      let Q : Layout → Type 0 = λ m. parent_count (history_in s) ≤ 2 * l.count + m.edge_count in
+      let Q : Layout → Type 0 = λ m. parent_count (history_in s) ≤ 2 * l.table.count + m.edge_count in
       subst P (sym (history-length s l laid)) (subst Q laid few)
 
   pub few-bytes : 3 * parent_count (history_in s) ≤ length s

@@ -1,56 +1,56 @@
 -- The history of a file.
 use Rattle.std.specs.Prelude.{MatchOption}
-use Rattle.std.proofs.Common.{◌≡◌, ◌≢◌, ℕ, zero, suc, ◌+◌, ◌<◌, ◌≤◌, inl, inr, List, Option, Some, None, is_some, true, false, refl, sym, ap, ◌∙◌, subst, arith}
-use Rattle.std.proofs.lemmas.Bool.{cases_eq, false_from_ne_true}
+use Rattle.std.proofs.Common.{◌≡◌, ℕ, ◌<◌, ◌≤◌, List, length, map, slice_get, Option, Some, None, is_some, sym, ap, ◌∙◌, subst}
+use Rattle.std.specs.Option.{option_map}
+use Rattle.std.specs.List.Sorted.{IsStrictlySortedBy}
 use Rattle.gix_base.specs.declared.hash.ObjectId.{ObjectId}
-use Rattle.gix_revwalk.specs.History.{entry_at, same_id}
-use Rattle.gix_revwalk.proofs.Ids.{same_id-true, same_id-itself}
+use Rattle.gix_revwalk.specs.History.{Entry, History, entry_at}
+use Rattle.gix_ids.specs.TableForm.{compare_ids, id_of, IsSorted}
+use Rattle.gix_ids.specs.TableIds.{rows_in, IsFirstFrom}
+use Rattle.gix_ids.specs.TableLookup.{IsAt, IsAbsent, IsGap}
+use Rattle.gix_ids.proofs.Rows.{rows-has, rows-lacks, rows-contains, rows-length, rows-id, rows-past, rows-rise, first-at, first-gap}
 use Rattle.gix_commitgraph.specs.FileChunks.{layout_of}
-use Rattle.gix_commitgraph.specs.FileCommits.{id_of, entry_of_row, commits_from, history_in}
-use Rattle.gix_commitgraph.specs.FileLookup.{IsAt, IsAbsent}
-use Rattle.gix_commitgraph.specs.FileChecks.{IsSound}
+use Rattle.gix_commitgraph.specs.FileCommits.{entry_of_row, history_in}
+use Rattle.gix_commitgraph.specs.FileIds.{ids_in}
 use Rattle.gix_commitgraph.specs.declared.commit_graph.layout.Layout.{Layout}
-use Rattle.gix_commitgraph.proofs.Order.{alone}
 
-other : (a b : ObjectId) → (b ≢ a) → same_id a b ≡ false
-other a b ne = false_from_ne_true (same_id a b) (λ e. ne (sym (same_id-true a b e)))
-
-module _ (s : List ℕ) (l : Layout) (id : ObjectId) where
-  absent-from : (i n : ℕ) → ((k : ℕ) → i ≤ k → k < i + n → id_of s l k ≢ id) → entry_at (commits_from s l i n) id ≡ None
-  absent-from i zero nowhere = refl
-  absent-from i (suc n) nowhere =
-      rw (other id (id_of s l i) (nowhere i (omega arith) (omega arith))) (absent-from (i + 1) n (λ k a b. nowhere k (omega arith) (omega arith)))
-
-  found-from : (i n k : ℕ) → i ≤ k → k < i + n → id_of s l k ≡ id → ((j : ℕ) → i ≤ j → j < i + n → id_of s l j ≡ id → j ≡ k) → entry_at (commits_from s l i n) id ≡ Some (entry_of_row s l k)
-  found-from i zero k a b is one = absurd (omega arith)
-  found-from i (suc n) k a b is one =
-      elim (cases_eq i k) [
-        | inl same ↦
-            let t : same_id id (id_of s l i) ≡ true = ap (same_id id) (ap (id_of s l) same ∙ is) ∙ same_id-itself id in
-            rw t (ap (λ j. Some (entry_of_row s l j)) same)
-        | inr ne ↦
-            let t : same_id id (id_of s l i) ≡ false = other id (id_of s l i) (λ e. ne (one i (omega arith) (omega arith) e)) in
-            rw t (found-from (i + 1) n k (omega arith) (omega arith) is (λ j c d e. one j (omega arith) (omega arith) e))
-      ]
-
-module _ (s : List ℕ) (l : Layout) (laid : l ≡ layout_of s) (sound : IsSound s l) (id : ObjectId) where
-  pub history-has : (k : ℕ) → IsAt s l id k → entry_at (history_in s) id ≡ Some (entry_of_row s l k)
+module _ (s : List ℕ) (l : Layout) (laid : l ≡ layout_of s) where
+  -- the commits by the layout that was found
+  pub history-is : rows_in s l.table (entry_of_row s l) ≡ history_in s
   unfolding history_in
-  history-has k is =
-      let e : entry_at (commits_from s l 0 l.count) id ≡ Some (entry_of_row s l k) =
-      found-from s l id 0 l.count k (omega arith) (let h = is.below in omega arith) is.same
-      (λ j a b q. alone s l sound.rises j k (omega arith) is.below (q ∙ sym is.same)) in
-      let P : Layout → Type 0 = λ m. entry_at (commits_from s m 0 m.count) id ≡ Some (entry_of_row s l k) in
-      subst P laid e
+  history-is = ap (λ (m : Layout). rows_in s m.table (entry_of_row s m)) laid
 
-  pub history-lacks : IsAbsent s l id → entry_at (history_in s) id ≡ None
-  unfolding history_in
-  history-lacks nowhere =
-      let e : entry_at (commits_from s l 0 l.count) id ≡ None = absent-from s l id 0 l.count (λ k a b. nowhere k (omega arith)) in
-      let P : Layout → Type 0 = λ m. entry_at (commits_from s m 0 m.count) id ≡ None in
-      subst P laid e
+  pub history-length : length (history_in s) ≡ l.table.count
+  history-length = sym (ap length history-is) ∙ rows-length s l.table (entry_of_row s l)
 
-  -- it is found where the history has it
-  pub history-contains : (o : Option ℕ) → MatchOption o (IsAbsent s l id) (IsAt s l id) → is_some o ≡ is_some (entry_at (history_in s) id)
-  history-contains None nowhere = ap is_some (sym (history-lacks nowhere))
-  history-contains (Some k) is = ap is_some (sym (history-has k is))
+  pub history-id : (k : ℕ) → k < l.table.count → option_map (λ e. e.0) (slice_get (history_in s) k) ≡ Some (id_of s l.table k)
+  history-id k h = sym (ap (λ (o : History). option_map (λ e. e.0) (slice_get o k)) history-is) ∙ rows-id s l.table (entry_of_row s l) k h
+
+  pub history-past : (k : ℕ) → l.table.count ≤ k → slice_get (history_in s) k ≡ None
+  history-past k h = sym (ap (λ (o : History). slice_get o k) history-is) ∙ rows-past s l.table (entry_of_row s l) k h
+
+  pub history-lacks : (id : ObjectId) → IsAbsent s l.table id → entry_at (history_in s) id ≡ None
+  history-lacks id nowhere = sym (ap (λ (o : History). entry_at o id) history-is) ∙ rows-lacks s l.table (entry_of_row s l) id nowhere
+
+  module _ (sorted : IsSorted s l.table) where
+    pub history-has : (id : ObjectId) (k : ℕ) → IsAt s l.table id k → entry_at (history_in s) id ≡ Some (entry_of_row s l k)
+    history-has id k is = sym (ap (λ (o : History). entry_at o id) history-is) ∙ rows-has s l.table (entry_of_row s l) sorted id k is
+
+    -- an id is found exactly if the history has it
+    pub history-contains : (id : ObjectId) (o : Option ℕ) → MatchOption o (IsAbsent s l.table id) (IsAt s l.table id) → is_some o ≡ is_some (entry_at (history_in s) id)
+    history-contains id o is = rows-contains s l.table (entry_of_row s l) sorted id o is ∙ ap (λ (h : History). is_some (entry_at h id)) history-is
+
+    pub ids-rise : IsStrictlySortedBy compare_ids (ids_in s)
+    ids-rise =
+        let P : History → Type 0 = λ h. IsStrictlySortedBy compare_ids (map (λ (e : ObjectId × Entry). e.0) h) in
+        subst P history-is (rows-rise s l.table (entry_of_row s l) sorted)
+
+    pub ids-first-at : (id : ObjectId) (k : ℕ) → IsAt s l.table id k → IsFirstFrom (ids_in s) id k
+    ids-first-at id k at =
+        let P : History → Type 0 = λ h. IsFirstFrom (map (λ (e : ObjectId × Entry). e.0) h) id k in
+        subst P history-is (first-at s l.table (entry_of_row s l) sorted id k at)
+
+    pub ids-first-gap : (id : ObjectId) (k : ℕ) → IsGap s l.table id k → IsFirstFrom (ids_in s) id k
+    ids-first-gap id k gap =
+        let P : History → Type 0 = λ h. IsFirstFrom (map (λ (e : ObjectId × Entry). e.0) h) id k in
+        subst P history-is (first-gap s l.table (entry_of_row s l) sorted id k gap)

@@ -1,13 +1,9 @@
 pub mod Rows
-pub mod Order
-pub mod Fanned
 pub mod Edges
 pub mod History
 pub mod Few
 pub mod Falling
 pub mod Refusals
 pub mod Joins
-pub mod Listed
-pub mod Placed
 pub mod Hashed
 pub mod Grown

@@ -1,6 +1,6 @@
 -- Files that are refused.
 use Rattle.std.proofs.Common.{◌≡◌, ℕ, ◌+◌, ◌*◌, inl, inr, List, Option, Some, None, sym, ap, ◌∙◌, subst, arith}
-use Rattle.gix_commitgraph.specs.FileBytes.{word}
+use Rattle.gix_ids.specs.TableBytes.{word}
 use Rattle.gix_commitgraph.specs.FileChunks.{chunk_at, start_of, layout_of, cdat, edge, oidf, oidl}
 use Rattle.gix_commitgraph.specs.FileFormat.{MustHave, MayHave, HasChunks, IsCommitGraph}
 use Rattle.gix_commitgraph.specs.FileRefused.{IsWrong, IsMisshapen, IsLacking}
@@ -11,16 +11,16 @@ use Rattle.gix_commitgraph.specs.declared.commit_graph.fault.OpenFault.TheVarian
 
 -- ---- one chunk
 
-pub count-made : (s : List ℕ) (f n : ℕ) → f ≡ start_of (chunk_at s oidf) → n ≡ word s (f + 1020) → n ≡ (layout_of s).count
+pub count-made : (s : List ℕ) (f n : ℕ) → f ≡ start_of (chunk_at s oidf) → n ≡ word s (f + 1020) → n ≡ (layout_of s).table.count
 unfolding layout_of
 count-made s f n e w = w ∙ ap (λ x. word s (x + 1020)) e
 
 -- the chunks of a layout are those of its file
-pub chunks-made : (s : List ℕ) (l : Layout) → l ≡ layout_of s → MustHave (chunk_at s oidf) 1024 → MustHave (chunk_at s oidl) (20 * l.count)
-    → MustHave (chunk_at s cdat) (36 * l.count) → MayHave (chunk_at s edge) (4 * l.edge_count) → HasChunks s
+pub chunks-made : (s : List ℕ) (l : Layout) → l ≡ layout_of s → MustHave (chunk_at s oidf) 1024 → MustHave (chunk_at s oidl) (20 * l.table.count)
+    → MustHave (chunk_at s cdat) (36 * l.table.count) → MayHave (chunk_at s edge) (4 * l.edge_count) → HasChunks s
 chunks-made s l e fanout ids rows edges =
-    let P : Layout → Type 0 = λ m. MustHave (chunk_at s oidl) (20 * m.count) in
-    let Q : Layout → Type 0 = λ m. MustHave (chunk_at s cdat) (36 * m.count) in
+    let P : Layout → Type 0 = λ m. MustHave (chunk_at s oidl) (20 * m.table.count) in
+    let Q : Layout → Type 0 = λ m. MustHave (chunk_at s cdat) (36 * m.table.count) in
     let R : Layout → Type 0 = λ m. MayHave (chunk_at s edge) (4 * m.edge_count) in
     record { fanout = fanout; ids = subst P e ids; rows = subst Q e rows; edges = subst R e edges }
 
@@ -28,13 +28,13 @@ is : (s : List ℕ) (a e : OpenFault) → e ≡ a → IsMisshapen s a → IsMiss
 is s a e q m = let P : OpenFault → Type 0 = IsMisshapen s in subst P (sym q) m
 
 -- a chunk that is lacking makes the file misshapen
-pub lacking-ids : (s : List ℕ) (n : ℕ) (e : OpenFault) → n ≡ (layout_of s).count → IsLacking s oidl (20 * n) NoIds e → IsMisshapen s e
+pub lacking-ids : (s : List ℕ) (n : ℕ) (e : OpenFault) → n ≡ (layout_of s).table.count → IsLacking s oidl (20 * n) NoIds e → IsMisshapen s e
 lacking-ids s n e same (inl none) = is s NoIds e none.0 none.1
 lacking-ids s n e same (inr size) =
     let P : ℕ → Type 0 = λ m. MustHave (chunk_at s oidl) (20 * m) in
     is s ChunkSize e size.0 (λ has. size.1 (subst P (sym same) has.ids))
 
-pub lacking-rows : (s : List ℕ) (n : ℕ) (e : OpenFault) → n ≡ (layout_of s).count → IsLacking s cdat (36 * n) NoRows e → IsMisshapen s e
+pub lacking-rows : (s : List ℕ) (n : ℕ) (e : OpenFault) → n ≡ (layout_of s).table.count → IsLacking s cdat (36 * n) NoRows e → IsMisshapen s e
 lacking-rows s n e same (inl none) = is s NoRows e none.0 none.1
 lacking-rows s n e same (inr size) =
     let P : ℕ → Type 0 = λ m. MustHave (chunk_at s cdat) (36 * m) in
@@ -58,8 +58,8 @@ misshapen-refutes s ChunkPlace (i, h, inl falls) g = let r = (g.table.rows i h).
 misshapen-refutes s ChunkPlace (i, h, inr long) g = let r = (g.table.rows i h).inside in omega arith
 misshapen-refutes s TableEnd m g = m g.table.ended
 misshapen-refutes s NoFanout m g = must-be (chunk_at s oidf) 1024 g.chunks.fanout m
-misshapen-refutes s NoIds m g = must-be (chunk_at s oidl) (20 * (layout_of s).count) g.chunks.ids m
-misshapen-refutes s NoRows m g = must-be (chunk_at s cdat) (36 * (layout_of s).count) g.chunks.rows m
+misshapen-refutes s NoIds m g = must-be (chunk_at s oidl) (20 * (layout_of s).table.count) g.chunks.ids m
+misshapen-refutes s NoRows m g = must-be (chunk_at s cdat) (36 * (layout_of s).table.count) g.chunks.rows m
 misshapen-refutes s ChunkSize m g = m g.chunks
 misshapen-refutes s Fanout m g = m
 misshapen-refutes s IdOrder m g = m
@@ -70,9 +70,9 @@ misshapen-refutes s EdgeEnd m g = m
 misshapen-refutes s EdgeOrder m g = m
 
 pub wrong-refutes : (s : List ℕ) (e : OpenFault) → IsWrong s (layout_of s) e → IsCommitGraph s → ⊥
-wrong-refutes s Fanout w g = w.2 (g.sound.fans w.0 w.1)
-wrong-refutes s IdPlace w g = w.2 (g.sound.fanned w.0 w.1)
-wrong-refutes s IdOrder w g = w.2 (g.sound.rises w.0 w.1)
+wrong-refutes s Fanout w g = w.2 (g.sound.sorted.fans w.0 w.1)
+wrong-refutes s IdPlace w g = w.2 (g.sound.sorted.fanned w.0 w.1)
+wrong-refutes s IdOrder w g = w.2 (g.sound.sorted.rises w.0 w.1)
 wrong-refutes s Parent w g = w.2 (g.sound.parents w.0 w.1)
 wrong-refutes s EdgeParent w g = w.2 (g.sound.edges w.0 w.1)
 wrong-refutes s EdgeEnd w g = let h = g.sound.ended w.0 in let b = w.1 in omega arith

@@ -1,7 +1,7 @@
 -- Where the chunks of a commit-graph file are (gitformat-commit-graph, "CHUNK LOOKUP").
 use Rattle.std.specs.Prelude.{ℕ, zero, suc, ◌+◌, ◌-◌, ◌*◌, ◌/◌, List, cond, nat_eq, Option, Some, None, slice_index}
 use Rattle.std.specs.Option.{option_map}
-use Rattle.gix_commitgraph.specs.FileBytes.{word, long}
+use Rattle.gix_ids.specs.TableBytes.{word, long}
 use Rattle.gix_commitgraph.specs.declared.commit_graph.layout.Chunk.{Chunk}
 use Rattle.gix_commitgraph.specs.declared.commit_graph.layout.Layout.{Layout}
 
@@ -51,9 +51,11 @@ size_of (Some c) = c.end - c.start
 -- is the last number of OIDF, and the number of entries of EDGE.
 unfoldable pub layout_of : List ℕ → Layout
 layout_of s = record {
-  count = word s (start_of (chunk_at s oidf) + 1020);
-  fanout = start_of (chunk_at s oidf);
-  ids = start_of (chunk_at s oidl);
+  table = record {
+    count = word s (start_of (chunk_at s oidf) + 1020);
+    fanout = start_of (chunk_at s oidf);
+    ids = start_of (chunk_at s oidl);
+  };
   rows = start_of (chunk_at s cdat);
   edges = start_of (chunk_at s edge);
   edge_count = size_of (chunk_at s edge) / 4;

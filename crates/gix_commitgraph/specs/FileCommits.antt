@@ -1,16 +1,18 @@
 -- The commits of a commit-graph file (gitformat-commit-graph, "Commit Data" and "Extra Edge List").
 use Rattle.std.specs.Prelude.{ℕ, zero, suc, ◌+◌, ◌-◌, ◌*◌, ◌/◌, ◌%◌, ◌^◌, pos, List, [], ◌∷◌, map, cond, nat_eq, nat_lt, Option, Some, None}
-use Rattle.gix_base.specs.declared.hash.ObjectId.{ObjectId}
 use Rattle.gix_revwalk.specs.History.{History, Entry}
-use Rattle.gix_commitgraph.specs.FileBytes.{word, id_from}
+use Rattle.gix_ids.specs.TableBytes.{word}
+use Rattle.gix_ids.specs.TableForm.{id_of}
+use Rattle.gix_ids.specs.TableIds.{rows_in}
 use Rattle.gix_commitgraph.specs.FileChunks.{layout_of}
 use Rattle.gix_commitgraph.specs.declared.commit_graph.layout.Layout.{Layout}
 
-module _ (s : List ℕ) (l : Layout) where
-  -- The id of the commit at position i.
-  abbrev pub id_of : ℕ → ObjectId
-  id_of i = id_from s (l.ids + 20 * i)
+-- The generation number for the level n. The level 0 means that git did not compute it: then there
+-- is none.
+abbrev pub generation_for : ℕ → Option ℕ
+generation_for n = cond (nat_eq n 0) None (Some n)
 
+module _ (s : List ℕ) (l : Layout) where
   -- The number at offset at of row i in CDAT. The first 20 bytes of a row are the id of the
   -- commit's tree.
   abbrev pub row_word : ℕ → ℕ → ℕ
@@ -39,24 +41,14 @@ module _ (s : List ℕ) (l : Layout) where
   abbrev pub level_at : ℕ → ℕ
   level_at i = row_word i 28 / 4
 
-  -- The generation number for the level n. The level 0 means that git did not compute it: then
-  -- there is none.
-  abbrev pub generation_for : ℕ → Option ℕ
-  generation_for n = cond (nat_eq n 0) None (Some n)
-
   -- The commit at position i. Its time is the lower 34 of the last 64 bits of its row.
   abbrev pub entry_of_row : ℕ → Entry
   entry_of_row i = record {
-    parents = map id_of (parents_at i);
+    parents = map (id_of s l.table) (parents_at i);
     time = pos (row_word i 28 % 4 * 2 ^ 32 + row_word i 32);
     generation = generation_for (level_at i);
   }
 
-  -- The n commits from position i on, each with its id.
-  abbrev pub commits_from : ℕ → ℕ → History
-  commits_from i zero = []
-  commits_from i (suc n) = (id_of i, entry_of_row i) ∷ commits_from (i + 1) n
-
 -- The history of the file s: its commits in the order of their positions.
 unfoldable pub history_in : List ℕ → History
-history_in s = commits_from s (layout_of s) 0 (layout_of s).count
+history_in s = rows_in s (layout_of s).table (entry_of_row s (layout_of s))

@@ -41,8 +41,8 @@ MayHave (Some c) n = c.start + n ≡ c.end
 -- exists, has entries of 4 bytes.
 pub record HasChunks (s : List ℕ) : Type 0 where
   pub fanout : MustHave (chunk_at s oidf) 1024
-  pub ids : MustHave (chunk_at s oidl) (20 * (layout_of s).count)
-  pub rows : MustHave (chunk_at s cdat) (36 * (layout_of s).count)
+  pub ids : MustHave (chunk_at s oidl) (20 * (layout_of s).table.count)
+  pub rows : MustHave (chunk_at s cdat) (36 * (layout_of s).table.count)
   pub edges : MayHave (chunk_at s edge) (4 * (layout_of s).edge_count)
 
 pub record IsCommitGraph (s : List ℕ) : Type 0 where

@@ -12,7 +12,7 @@ use Rattle.gix_commitgraph.specs.declared.commit_graph.layout.Layout.{Layout}
 module _ (s : List ℕ) (l : Layout) where
   -- Position p is that of a commit whose level is less than n.
   abbrev pub is_lower : ℕ → ℕ → Bool
-  is_lower n p = nat_lt p l.count && nat_lt (level_at s l p) n
+  is_lower n p = nat_lt p l.table.count && nat_lt (level_at s l p) n
 
   -- The commit at position i has a level, and all its parents are commits of lesser levels.
   abbrev pub is_above : ℕ → Bool
@@ -20,7 +20,7 @@ module _ (s : List ℕ) (l : Layout) where
 
 -- Each commit of the file s has a level, and each of its parents has a lesser one.
 abbrev pub LevelsFall : List ℕ → Type 0
-LevelsFall s = (i : ℕ) → i < (layout_of s).count → is_above s (layout_of s) i ≡ true
+LevelsFall s = (i : ℕ) → i < (layout_of s).table.count → is_above s (layout_of s) i ≡ true
 
 -- On every edge of the history h, the parent's generation number is less than the child's.
 abbrev pub GenerationsFall : History → Type 0

@@ -1,22 +1,23 @@
 -- What is wrong with a file that is not opened.
 use Rattle.std.specs.Prelude.{◌≡◌, ◌≢◌, ◌⊎◌, ℕ, ◌+◌, ◌-◌, ◌*◌, ◌^◌, ◌<◌, List, length, take, codes, slice_index, Some, None}
+use Rattle.gix_ids.specs.TableForm.{Fans, IsFanned, Rises}
 use Rattle.gix_commitgraph.specs.FileCommits.{edge_word}
 use Rattle.gix_commitgraph.specs.FileChunks.{row_count, tag_of, row_from, chunk_of, chunk_at, layout_of, cdat, oidf, oidl}
 use Rattle.gix_commitgraph.specs.FileFormat.{MustHave, HasChunks}
-use Rattle.gix_commitgraph.specs.FileChecks.{Fans, IsFanned, Rises, HasParents, NamesCommit, EndsBefore}
+use Rattle.gix_commitgraph.specs.FileChecks.{HasParents, NamesCommit, EndsBefore}
 use Rattle.gix_commitgraph.specs.declared.commit_graph.layout.Layout.{Layout}
 use Rattle.gix_commitgraph.specs.declared.commit_graph.fault.OpenFault.{OpenFault}
 use Rattle.gix_commitgraph.specs.declared.commit_graph.fault.OpenFault.TheVariants.{TooShort, Signature, Version, Hash, BaseGraphs, NoChunkId, Repeated, ChunkPlace, TableEnd, NoFanout, NoIds, NoRows, ChunkSize, Fanout, IdOrder, IdPlace, Parent, EdgeParent, EdgeEnd, EdgeOrder}
 
 -- What the fault says of the fanout table, the ids, the parents or EDGE of the file s is true.
 abbrev pub IsWrong : List ℕ → Layout → OpenFault → Type 0
-IsWrong s l Fanout = (b : ℕ) × (b < 256) × (¬ Fans s l b)
-IsWrong s l IdPlace = (i : ℕ) × (i < l.count) × (¬ IsFanned s l i)
-IsWrong s l IdOrder = (i : ℕ) × (i + 1 < l.count) × (¬ Rises s l i)
-IsWrong s l Parent = (i : ℕ) × (i < l.count) × (¬ HasParents s l i)
+IsWrong s l Fanout = (b : ℕ) × (b < 256) × (¬ Fans s l.table b)
+IsWrong s l IdPlace = (i : ℕ) × (i < l.table.count) × (¬ IsFanned s l.table i)
+IsWrong s l IdOrder = (i : ℕ) × (i + 1 < l.table.count) × (¬ Rises s l.table i)
+IsWrong s l Parent = (i : ℕ) × (i < l.table.count) × (¬ HasParents s l i)
 IsWrong s l EdgeParent = (k : ℕ) × (k < l.edge_count) × (¬ NamesCommit s l k)
 IsWrong s l EdgeEnd = (0 < l.edge_count) × (edge_word s l (l.edge_count - 1) < 2 ^ 31)
-IsWrong s l EdgeOrder = (i : ℕ) × (j : ℕ) × (i < j) × (j < l.count) × (¬ EndsBefore s l i j)
+IsWrong s l EdgeOrder = (i : ℕ) × (j : ℕ) × (i < j) × (j < l.table.count) × (¬ EndsBefore s l i j)
 IsWrong s l _ = ⊥
 
 -- What the fault says of the header, the table of contents or the sizes of chunks of the file s is

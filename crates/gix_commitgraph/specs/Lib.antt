@@ -1,11 +1,9 @@
-pub mod FileBytes
 pub mod FileChunks
 pub mod FileCommits
 pub mod FileChecks
 pub mod FileLists
 pub mod FileFormat
 pub mod FileRefused
-pub mod FileLookup
 pub mod FileIds
 pub mod FileParents
 pub mod FileLevels

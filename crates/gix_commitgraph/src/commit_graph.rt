@@ -5,7 +5,6 @@
 //!   and has ordered generations.
 //! - [`Joined`] and [`Commits`]: a levelled file, or none, and newer commits that it does not have.
 
-mod bytes;
 mod check;
 mod commit;
 mod fault;

@@ -73,7 +73,9 @@ pub use Rattle.gix_revwalk.specs.Sizes
 pub use Rattle.gix_revwalk.specs.Calls
 pub use Rattle.gix_revwalk.specs.GraphAfter
 pub use Rattle.gix_revwalk.specs.Walks.{added, all_added}
-pub use Rattle.gix_commitgraph.specs.FileBytes
+pub use Rattle.gix_ids.specs.TableBytes
+pub use Rattle.gix_ids.specs.TableForm
+pub use Rattle.gix_ids.specs.TableIds
 pub use Rattle.gix_commitgraph.specs.FileChunks
 pub use Rattle.gix_commitgraph.specs.FileCommits
 pub use Rattle.gix_commitgraph.specs.FileChecks

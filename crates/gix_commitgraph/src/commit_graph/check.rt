@@ -1,15 +1,15 @@
 //! Checks the commits of a file when it is opened.
 
 ghost use Rattle.std.specs.Prelude.{◌≡◌, ℕ, ◌+◌, ◌-◌, ◌*◌, ◌%◌, ◌^◌, ◌≤◌, ◌<◌, length, OnOk, IfErr, IfOk};
-ghost use Rattle.gix_commitgraph.specs.FileCommits.{id_of, row_word, edge_word, edge_list};
-ghost use Rattle.gix_commitgraph.specs.FileChecks.{Fits, Fans, fan, fan_below, first_byte, compare_ids, IsFanned, Rises, HasParents, NamesCommit, EndsBefore, IsSound};
+ghost use Rattle.gix_ids.specs.TableForm.{IsInside, IsSorted};
+ghost use Rattle.gix_commitgraph.specs.FileCommits.{row_word, edge_word, edge_list};
+ghost use Rattle.gix_commitgraph.specs.FileChecks.{Fits, HasParents, NamesCommit, EndsBefore, IsSound};
 ghost use Rattle.gix_commitgraph.specs.FileLists.{IsFree};
 ghost use Rattle.gix_commitgraph.specs.FileRefused.{IsWrong};
 
-use crate::commit_graph::bytes::{id_at, word_at};
 use crate::commit_graph::fault::OpenFault;
 use crate::commit_graph::layout::Layout;
-use std::cmp::Ordering;
+use gix_ids::{TableFault, word_at};
 
 /// The number in `CDAT` that stands for no parent.
 pub(crate) const NONE: usize = 0x7000_0000;
@@ -17,96 +17,30 @@ pub(crate) const NONE: usize = 0x7000_0000;
 /// list there.
 pub(crate) const HIGH: usize = 0x8000_0000;
 
-/// Counts the ids whose first byte is less than `b`, by the fanout table.
-pub(crate) fn below(bytes: &[u8], l: Layout, b: u8) -> usize
-    requires { Fits bytes.now l }
-    ensures { result ≡ fan_below bytes.now l b }
-{
-    if b == 0 {
-        0
-    } else {
-        word_at(bytes, l.fanout + 4 * (b as usize - 1))
-    }
-}
-
-/// Checks that the fanout table never falls and never exceeds the number of commits.
-fn check_fanout(bytes: &[u8], l: Layout) -> Result<(), OpenFault>
-    requires { Fits bytes.now l }
-    ensures sound { OnOk result ((b : ℕ) → b < 256 → Fans bytes.now l b) }
+/// Checks the fanout table and the ids.
+fn check_ids(bytes: &[u8], l: Layout) -> Result<(), OpenFault>
+    requires { IsInside bytes.now l.table }
+    ensures sorted { OnOk result (IsSorted bytes.now l.table) }
     ensures wrong { IfErr result (IsWrong bytes.now l) }
 {
-    let mut last = 0;
-    for b in 0..256 {
-        let next = word_at(bytes, l.fanout + 4 * b);
-        if next < last || l.count < next {
-            return Err(OpenFault::Fanout);
-        }
-        last = next;
+    match gix_ids::check(bytes, l.table) {
+        Ok(()) => Ok(()),
+        Err(TableFault::Fanout) => Err(OpenFault::Fanout),
+        Err(TableFault::IdPlace) => Err(OpenFault::IdPlace),
+        Err(TableFault::IdOrder) => Err(OpenFault::IdOrder),
     }
-    Ok(())
-}
-
-/// Checks that the id at position `i` is where the fanout table says.
-fn check_place(bytes: &[u8], l: Layout, i: usize) -> Result<(), OpenFault>
-    requires fits { Fits bytes.now l }
-    requires here { i < l.count }
-    ensures sound { OnOk result (IsFanned bytes.now l i) }
-    ensures wrong { IfErr result (IsWrong bytes.now l) }
-{
-    let b = bytes[l.ids + 20 * i];
-    if i < below(bytes, l, b) || word_at(bytes, l.fanout + 4 * b as usize) <= i {
-        return Err(OpenFault::IdPlace);
-    }
-    Ok(())
-}
-
-/// Checks that every id is where the fanout table says.
-fn check_places(bytes: &[u8], l: Layout) -> Result<(), OpenFault>
-    requires { Fits bytes.now l }
-    ensures sound { OnOk result ((i : ℕ) → i < l.count → IsFanned bytes.now l i) }
-    ensures wrong { IfErr result (IsWrong bytes.now l) }
-{
-    for i in 0..l.count {
-        check_place(bytes, l, i)?;
-    }
-    Ok(())
-}
-
-/// Checks that the id after position `i` is greater than the one at `i`.
-fn check_next(bytes: &[u8], l: Layout, i: usize) -> Result<(), OpenFault>
-    requires fits { Fits bytes.now l }
-    requires here { i + 1 < l.count }
-    ensures sound { OnOk result (Rises bytes.now l i) }
-    ensures wrong { IfErr result (IsWrong bytes.now l) }
-{
-    match id_at(bytes, l.ids + 20 * i).cmp(&id_at(bytes, l.ids + 20 * (i + 1))) {
-        Ordering::Less => Ok(()),
-        _ => Err(OpenFault::IdOrder),
-    }
-}
-
-/// Checks that each id is greater than the one before it.
-fn check_order(bytes: &[u8], l: Layout) -> Result<(), OpenFault>
-    requires { Fits bytes.now l }
-    ensures sound { OnOk result ((i : ℕ) → i + 1 < l.count → Rises bytes.now l i) }
-    ensures wrong { IfErr result (IsWrong bytes.now l) }
-{
-    for i in 1..l.count {
-        check_next(bytes, l, i - 1)?;
-    }
-    Ok(())
 }
 
 /// Checks that the parents of the commit at position `i` are commits of the file, or a list in
 /// `EDGE`.
 fn check_parents(bytes: &[u8], l: Layout, i: usize) -> Result<(), OpenFault>
     requires fits { Fits bytes.now l }
-    requires here { i < l.count }
+    requires here { i < l.table.count }
     ensures sound { OnOk result (HasParents bytes.now l i) }
     ensures wrong { IfErr result (IsWrong bytes.now l) }
 {
     let first = word_at(bytes, l.rows + 36 * i + 20);
-    if first != NONE && l.count <= first {
+    if first != NONE && l.table.count <= first {
         return Err(OpenFault::Parent);
     }
     let second = word_at(bytes, l.rows + 36 * i + 24);
@@ -114,7 +48,7 @@ fn check_parents(bytes: &[u8], l: Layout, i: usize) -> Result<(), OpenFault>
         if l.edge_count <= second - HIGH {
             return Err(OpenFault::Parent);
         }
-    } else if second != NONE && l.count <= second {
+    } else if second != NONE && l.table.count <= second {
         return Err(OpenFault::Parent);
     }
     Ok(())
@@ -123,10 +57,10 @@ fn check_parents(bytes: &[u8], l: Layout, i: usize) -> Result<(), OpenFault>
 /// Checks that the parents of every commit are commits of the file, or a list in `EDGE`.
 fn check_all_parents(bytes: &[u8], l: Layout) -> Result<(), OpenFault>
     requires { Fits bytes.now l }
-    ensures sound { OnOk result ((i : ℕ) → i < l.count → HasParents bytes.now l i) }
+    ensures sound { OnOk result ((i : ℕ) → i < l.table.count → HasParents bytes.now l i) }
     ensures wrong { IfErr result (IsWrong bytes.now l) }
 {
-    for i in 0..l.count {
+    for i in 0..l.table.count {
         check_parents(bytes, l, i)?;
     }
     Ok(())
@@ -139,7 +73,7 @@ fn check_edges(bytes: &[u8], l: Layout) -> Result<(), OpenFault>
     ensures wrong { IfErr result (IsWrong bytes.now l) }
 {
     for k in 0..l.edge_count {
-        if l.count <= word_at(bytes, l.edges + 4 * k) % HIGH {
+        if l.table.count <= word_at(bytes, l.edges + 4 * k) % HIGH {
             return Err(OpenFault::EdgeParent);
         }
     }
@@ -176,7 +110,7 @@ fn list_end(bytes: &[u8], l: Layout, start: usize) -> usize
 /// `EDGE` or later. Returns the place after the list, or `free` if there is none.
 fn check_list(bytes: &[u8], l: Layout, i: usize, free: usize) -> Result<usize, OpenFault>
     requires fits { Fits bytes.now l }
-    requires here { i < l.count }
+    requires here { i < l.table.count }
     requires parents { HasParents bytes.now l i }
     requires free { IsFree bytes.now l i free }
     ensures sound { OnOk result ((j : ℕ) → j < i → EndsBefore bytes.now l j i) }
@@ -197,12 +131,12 @@ fn check_list(bytes: &[u8], l: Layout, i: usize, free: usize) -> Result<usize, O
 /// Reads each number of `EDGE` at most once.
 fn check_lists(bytes: &[u8], l: Layout) -> Result<(), OpenFault>
     requires fits { Fits bytes.now l }
-    requires parents { (i : ℕ) → i < l.count → HasParents bytes.now l i }
-    ensures sound { OnOk result ((i j : ℕ) → i < j → j < l.count → EndsBefore bytes.now l i j) }
+    requires parents { (i : ℕ) → i < l.table.count → HasParents bytes.now l i }
+    ensures sound { OnOk result ((i j : ℕ) → i < j → j < l.table.count → EndsBefore bytes.now l i j) }
     ensures wrong { IfErr result (IsWrong bytes.now l) }
 {
     let mut free = 0;
-    for i in 0..l.count {
+    for i in 0..l.table.count {
         free = check_list(bytes, l, i, free)?;
     }
     Ok(())
@@ -210,13 +144,12 @@ fn check_lists(bytes: &[u8], l: Layout) -> Result<(), OpenFault>
 
 /// Checks the fanout table, the ids, the parents and `EDGE`.
 pub(crate) fn check(bytes: &[u8], l: Layout) -> Result<(), OpenFault>
-    requires { Fits bytes.now l }
+    requires inside { IsInside bytes.now l.table }
+    requires fits { Fits bytes.now l }
     ensures sound { OnOk result (IsSound bytes.now l) }
     ensures wrong { IfErr result (IsWrong bytes.now l) }
 {
-    check_fanout(bytes, l)?;
-    check_places(bytes, l)?;
-    check_order(bytes, l)?;
+    check_ids(bytes, l)?;
     check_all_parents(bytes, l)?;
     check_edges(bytes, l)?;
     check_end(bytes, l)?;

@@ -1,14 +1,15 @@
 //! Reads the commit at a position.
 
-ghost use Rattle.std.specs.Prelude.{◌≡◌, ◌+◌, ◌-◌, ◌*◌, ◌<◌, ◌≤◌, ◌++◌, map, IfOk, OnOk};
+ghost use Rattle.std.specs.Prelude.{◌≡◌, ◌+◌, ◌-◌, ◌*◌, ◌%◌, ◌^◌, ◌<◌, ◌≤◌, ◌++◌, map, pos, IfOk, OnOk};
 ghost use Rattle.gix_revwalk.specs.Held.{entry_of};
-ghost use Rattle.gix_commitgraph.specs.FileCommits.{id_of, edge_list, others, parents_at, entry_of_row, row_word};
+ghost use Rattle.gix_ids.specs.TableForm.{id_of};
+ghost use Rattle.gix_commitgraph.specs.FileCommits.{edge_list, others, parents_at, entry_of_row, generation_for, row_word};
 ghost use Rattle.gix_commitgraph.specs.FileChecks.{IsSound};
 
-use crate::commit_graph::bytes::{id_at, word_at};
 use crate::commit_graph::check::{HIGH, NONE};
 use crate::commit_graph::layout::Layout;
 use gix_base::hash::ObjectId;
+use gix_ids::{id_at, word_at};
 use gix_revwalk::graph::SourceCommit;
 use std::alloc::{AllocError, Allocator};
 
@@ -20,11 +21,11 @@ fn add_edges<A: Allocator>(
     ids: &mut Vec<ObjectId, A>,
 ) -> Result<(), AllocError>
     requires { IsSound bytes.now l }
-    ensures { OnOk result (ids.new.items ≡ ids.old.items ++ map (id_of bytes.now l) (edge_list bytes.now l start (l.edge_count - start))) }
+    ensures { OnOk result (ids.new.items ≡ ids.old.items ++ map (id_of bytes.now l.table) (edge_list bytes.now l start (l.edge_count - start))) }
 {
     for k in start..l.edge_count {
         let edge = word_at(bytes, l.edges + 4 * k);
-        ids.push(id_at(bytes, l.ids + 20 * (edge % HIGH)))?;
+        ids.push(id_at(bytes, l.table.ids + 20 * (edge % HIGH)))?;
         if edge >= HIGH {
             return Ok(());
         }
@@ -40,8 +41,8 @@ fn add_others<A: Allocator>(
     ids: &mut Vec<ObjectId, A>,
 ) -> Result<(), AllocError>
     requires sound { IsSound bytes.now l }
-    requires here { i < l.count }
-    ensures { OnOk result (ids.new.items ≡ ids.old.items ++ map (id_of bytes.now l) (others bytes.now l (row_word bytes.now l i 24))) }
+    requires here { i < l.table.count }
+    ensures { OnOk result (ids.new.items ≡ ids.old.items ++ map (id_of bytes.now l.table) (others bytes.now l (row_word bytes.now l i 24))) }
 {
     let second = word_at(bytes, l.rows + 36 * i + 24);
     if second == NONE {
@@ -50,7 +51,7 @@ fn add_others<A: Allocator>(
     if second >= HIGH {
         return add_edges(bytes, l, second - HIGH, ids);
     }
-    ids.push(id_at(bytes, l.ids + 20 * second))?;
+    ids.push(id_at(bytes, l.table.ids + 20 * second))?;
     Ok(())
 }
 
@@ -62,17 +63,33 @@ fn parents<A: Allocator>(
     alloc: A,
 ) -> Result<Vec<ObjectId, A>, AllocError>
     requires sound { IsSound bytes.now l }
-    requires here { i < l.count }
-    ensures { IfOk result (λ ids. ids.items ≡ map (id_of bytes.now l) (parents_at bytes.now l i)) }
+    requires here { i < l.table.count }
+    ensures { IfOk result (λ ids. ids.items ≡ map (id_of bytes.now l.table) (parents_at bytes.now l i)) }
 {
     let mut ids = Vec::new(alloc);
     let first = word_at(bytes, l.rows + 36 * i + 20);
     if first == NONE {
         return Ok(ids);
     }
-    ids.push(id_at(bytes, l.ids + 20 * first))?;
+    ids.push(id_at(bytes, l.table.ids + 20 * first))?;
     add_others(bytes, l, i, &mut ids)?;
     Ok(ids)
+}
+
+/// Returns the time that the last two numbers of a row say.
+fn time(high: usize, low: usize) -> i64
+    requires { low < 2 ^ 32 }
+    ensures { result ≡ pos (high % 4 * 2 ^ 32 + low) }
+{
+    (high % 4 * 0x1_0000_0000 + low) as i64
+}
+
+/// Returns the generation number for a level.
+fn generation(level: usize) -> Option<u32>
+    requires { level < 2 ^ 30 }
+    ensures { result ≡ generation_for level }
+{
+    if level == 0 { None } else { Some(level as u32) }
 }
 
 /// Reads the commit at position `i`, in the memory of `alloc`.
@@ -83,7 +100,7 @@ pub(crate) fn commit_at<A: Allocator>(
     alloc: A,
 ) -> Result<SourceCommit<A>, AllocError>
     requires sound { IsSound bytes.now l }
-    requires here { i < l.count }
+    requires here { i < l.table.count }
     ensures { IfOk result (λ commit. entry_of commit ≡ entry_of_row bytes.now l i) }
 {
     let high = word_at(bytes, l.rows + 36 * i + 28);
@@ -91,7 +108,7 @@ pub(crate) fn commit_at<A: Allocator>(
     let level = high / 4;
     Ok(SourceCommit {
         parents: parents(bytes, l, i, alloc)?,
-        time: (high % 4 * 0x1_0000_0000 + low) as i64,
-        generation: if level == 0 { None } else { Some(level as u32) },
+        time: time(high, low),
+        generation: generation(level),
     })
 }

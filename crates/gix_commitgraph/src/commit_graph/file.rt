@@ -5,25 +5,27 @@ ghost use Rattle.std.specs.Option.{option_map};
 ghost use Rattle.std.specs.List.Sorted.{IsStrictlySortedBy};
 ghost use Rattle.gix_revwalk.specs.Held.{entry_of};
 ghost use Rattle.gix_revwalk.specs.History.{entry_at};
+ghost use Rattle.gix_ids.specs.TableForm.{compare_ids};
+ghost use Rattle.gix_ids.specs.TableIds.{IsFirstFrom};
 ghost use Rattle.gix_commitgraph.specs.FileChunks.{layout_of};
 ghost use Rattle.gix_commitgraph.specs.FileCommits.{history_in};
-ghost use Rattle.gix_commitgraph.specs.FileChecks.{IsSound, compare_ids};
+ghost use Rattle.gix_commitgraph.specs.FileChecks.{IsSound};
 ghost use Rattle.gix_commitgraph.specs.FileFormat.{IsCommitGraph};
-ghost use Rattle.gix_commitgraph.specs.FileIds.{ids_in, IsFirstFrom};
+ghost use Rattle.gix_commitgraph.specs.FileIds.{ids_in};
 ghost use Rattle.gix_commitgraph.specs.FileHash.{HashIsRight};
 ghost use Rattle.gix_commitgraph.specs.FileLevels.{LevelsFall, IsLevelled};
 ghost use Rattle.gix_commitgraph.specs.FileParents.{parent_count};
 ghost use Rattle.gix_commitgraph.specs.FileRefused.{IsRefused};
 
-use crate::commit_graph::bytes::id_at;
 use crate::commit_graph::check::check;
 use crate::commit_graph::commit::commit_at;
 use crate::commit_graph::fault::{OpenError, OpenFault};
 use crate::commit_graph::hints::Hints;
 use crate::commit_graph::layout::{Layout, read_layout};
 use crate::commit_graph::levels;
-use crate::commit_graph::lookup::{position, position_near, search};
+use crate::commit_graph::lookup::position_near;
 use gix_base::hash::ObjectId;
+use gix_ids::{id_at, position, search};
 use gix_revwalk::graph::{Find, FindFault, SourceCommit};
 use sha1::Sha1;
 use std::alloc::{AllocError, Allocator, Global};
@@ -125,7 +127,7 @@ impl<B: AsSlice<u8> + Drop> CommitGraph<B> {
     pub fn len(&self) -> usize
         ensures { result ≡ length (history_in self.now) }
     {
-        self.layout.count
+        self.layout.table.count
     }
 
     /// Guarantees that the commits have few parents. Does nothing else.
@@ -146,8 +148,8 @@ impl<B: AsSlice<u8> + Drop> CommitGraph<B> {
     pub fn id(&self, position: usize) -> Option<ObjectId>
         ensures { result ≡ option_map (λ e. e.0) (slice_get (history_in self.now) position) }
     {
-        if position < self.layout.count {
-            Some(id_at(self.bytes.as_slice(), self.layout.ids + 20 * position))
+        if position < self.layout.table.count {
+            Some(id_at(self.bytes.as_slice(), self.layout.table.ids + 20 * position))
         } else {
             None
         }
@@ -162,7 +164,7 @@ impl<B: AsSlice<u8> + Drop> CommitGraph<B> {
         ensures rising { IsStrictlySortedBy compare_ids (ids_in self.now) }
         ensures small { result < 2 ^ 32 }
     {
-        match search(self.bytes.as_slice(), self.layout, id) {
+        match search(self.bytes.as_slice(), self.layout.table, id) {
             Ok(place) => place,
             Err(place) => place,
         }
@@ -195,7 +197,7 @@ impl<B: AsSlice<u8> + Drop> CommitGraph<B> {
     pub fn contains(&self, id: ObjectId) -> bool
         ensures { result ≡ is_some (entry_at (history_in self.now) id) }
     {
-        position(self.bytes.as_slice(), self.layout, id).is_some()
+        position(self.bytes.as_slice(), self.layout.table, id).is_some()
     }
 
     /// Looks up the commit `id`. Returns `None` if the file does not have it.
@@ -213,7 +215,7 @@ impl<B: AsSlice<u8> + Drop> CommitGraph<B> {
         ensures { IfOk result (λ found. option_map entry_of found ≡ entry_at (history_in self.now) id) }
     {
         let bytes = self.bytes.as_slice();
-        let Some(i) = position(bytes, self.layout, id) else {
+        let Some(i) = position(bytes, self.layout.table, id) else {
             return Ok(None);
         };
         Ok(Some(commit_at(bytes, self.layout, i, alloc)?))
@@ -231,7 +233,7 @@ impl<B: AsSlice<u8> + Drop> CommitGraph<B> {
         ensures same { self.new ≡ self.old }
     {
         let bytes = self.bytes.as_slice();
-        let Some(i) = position_near(bytes, self.layout, id, self.hints.guess(id)) else {
+        let Some(i) = position_near(bytes, self.layout.table, id, self.hints.guess(id)) else {
             return Ok(None);
         };
         self.hints.read_ahead(bytes, self.layout, i);

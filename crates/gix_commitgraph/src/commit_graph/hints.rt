@@ -3,9 +3,9 @@
 ghost use Rattle.std.specs.Prelude.{◌<◌, ◌^◌};
 ghost use Rattle.gix_commitgraph.specs.FileChecks.{IsSound};
 
-use crate::commit_graph::bytes::word_at;
 use crate::commit_graph::layout::Layout;
 use gix_base::hash::ObjectId;
+use gix_ids::word_at;
 
 /// The number of positions that the cache keeps.
 const SPOTS: usize = 1024;
@@ -46,7 +46,7 @@ impl Hints {
     fn read_row(&mut self, bytes: &[u8], l: Layout, place: usize)
         requires { IsSound bytes.now l }
     {
-        if place < l.count {
+        if place < l.table.count {
             self.read = self
                 .read
                 .wrapping_add(word_at(bytes, l.rows + 36 * place + 20));
@@ -58,7 +58,7 @@ impl Hints {
     /// call.
     pub(crate) fn read_ahead(&mut self, bytes: &[u8], l: Layout, i: usize)
         requires sound { IsSound bytes.now l }
-        requires here { i < l.count }
+        requires here { i < l.table.count }
     {
         let row = l.rows + 36 * i;
         self.read_row(bytes, l, word_at(bytes, row + 20));
@@ -76,7 +76,7 @@ impl Hints {
     /// more than two, what is cached for the second is not a position.
     pub(crate) fn note_parents(&mut self, bytes: &[u8], l: Layout, i: usize, parents: &[ObjectId])
         requires sound { IsSound bytes.now l }
-        requires here { i < l.count }
+        requires here { i < l.table.count }
     {
         let row = l.rows + 36 * i;
         if let Some(first) = parents.first() {

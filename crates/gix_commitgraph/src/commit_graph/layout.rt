@@ -5,9 +5,10 @@ ghost use Rattle.gix_commitgraph.specs.FileChunks.{row_count, tag_of, row_from, 
 ghost use Rattle.gix_commitgraph.specs.FileFormat.{HasHeader, IsRow, HasTable, MustHave, MayHave, HasChunks};
 ghost use Rattle.gix_commitgraph.specs.FileRefused.{IsMisshapen, IsLacking};
 ghost use Rattle.gix_commitgraph.specs.FileChecks.{Fits};
+ghost use Rattle.gix_ids.specs.TableForm.{IsInside};
 
-use crate::commit_graph::bytes::{long_at, word_at};
 use crate::commit_graph::fault::OpenFault;
+use gix_ids::{Table, long_at, word_at};
 
 const OIDF: usize = 0x4f49_4446;
 
@@ -24,12 +25,11 @@ pub(crate) struct Chunk {
     pub(crate) end: usize,
 }
 
-/// The offsets of the chunks, the number of commits, and the number of entries of `EDGE`.
+/// The table of ids in `OIDF` and `OIDL`, the offsets of the other chunks, and the number of entries
+/// of `EDGE`.
 #[derive(Clone, Copy)]
 pub(crate) struct Layout {
-    pub(crate) count: usize,
-    pub(crate) fanout: usize,
-    pub(crate) ids: usize,
+    pub(crate) table: Table,
     pub(crate) rows: usize,
     pub(crate) edges: usize,
     pub(crate) edge_count: usize,
@@ -171,6 +171,7 @@ fn edges(bytes: &[u8]) -> Result<(usize, usize), OpenFault>
 /// Checks the header, the table of contents and the sizes of the chunks, and finds the chunks.
 pub(crate) fn read_layout(bytes: &[u8]) -> Result<Layout, OpenFault>
     ensures value { IfOk result (λ l. l ≡ layout_of bytes.now) }
+    ensures inside { IfOk result (λ l. IsInside bytes.now l.table) }
     ensures fits { IfOk result (λ l. Fits bytes.now l) }
     ensures header { OnOk result (HasHeader bytes.now) }
     ensures table { OnOk result (HasTable bytes.now) }
@@ -185,9 +186,7 @@ pub(crate) fn read_layout(bytes: &[u8]) -> Result<Layout, OpenFault>
     let rows = start(bytes, CDAT, 36 * count, OpenFault::NoRows)?;
     let (edges, edge_count) = edges(bytes)?;
     Ok(Layout {
-        count,
-        fanout,
-        ids,
+        table: Table { count, fanout, ids },
         rows,
         edges,
         edge_count,

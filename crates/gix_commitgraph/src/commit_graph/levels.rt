@@ -6,14 +6,14 @@ ghost use Rattle.gix_commitgraph.specs.FileCommits.{edge_list, level_at, others}
 ghost use Rattle.gix_commitgraph.specs.FileLevels.{is_lower, is_above};
 ghost use Rattle.gix_commitgraph.specs.FileChecks.{IsSound};
 
-use crate::commit_graph::bytes::word_at;
 use crate::commit_graph::check::{HIGH, NONE};
 use crate::commit_graph::layout::Layout;
+use gix_ids::word_at;
 
 /// Reads the level of the commit at position `i`.
 fn level(bytes: &[u8], l: Layout, i: usize) -> usize
     requires sound { IsSound bytes.now l }
-    requires here { i < l.count }
+    requires here { i < l.table.count }
     ensures value { result ≡ level_at bytes.now l i }
     ensures bound { result < 2 ^ 30 }
 {
@@ -25,7 +25,7 @@ fn is_lower(bytes: &[u8], l: Layout, limit: usize, p: usize) -> bool
     requires { IsSound bytes.now l }
     ensures { result ≡ is_lower bytes.now l limit p }
 {
-    p < l.count && level(bytes, l, p) < limit
+    p < l.table.count && level(bytes, l, p) < limit
 }
 
 /// Returns whether all commits of the list in `EDGE` at `start` have levels less than `limit`.
@@ -62,7 +62,7 @@ fn others_lower(bytes: &[u8], l: Layout, limit: usize, second: usize) -> bool
 /// Returns whether the commit at position `i` has a level, and its parents have lesser ones.
 fn is_above(bytes: &[u8], l: Layout, i: usize) -> bool
     requires sound { IsSound bytes.now l }
-    requires here { i < l.count }
+    requires here { i < l.table.count }
     ensures value { result ≡ is_above bytes.now l i }
     ensures bound { level_at bytes.now l i < 2 ^ 30 }
 {
@@ -81,11 +81,11 @@ fn is_above(bytes: &[u8], l: Layout, i: usize) -> bool
 /// Returns whether every commit has a level, and its parents have lesser ones.
 pub(crate) fn fall(bytes: &[u8], l: Layout) -> bool
     requires { IsSound bytes.now l }
-    ensures each { IsTrue result → (i : ℕ) → i < l.count → is_above bytes.now l i ≡ true }
-    ensures bounds { IsTrue result → (i : ℕ) → i < l.count → level_at bytes.now l i < 2 ^ 30 }
-    ensures one { result ≡ false → (i : ℕ) × (i < l.count) × (is_above bytes.now l i ≡ false) }
+    ensures each { IsTrue result → (i : ℕ) → i < l.table.count → is_above bytes.now l i ≡ true }
+    ensures bounds { IsTrue result → (i : ℕ) → i < l.table.count → level_at bytes.now l i < 2 ^ 30 }
+    ensures one { result ≡ false → (i : ℕ) × (i < l.table.count) × (is_above bytes.now l i ≡ false) }
 {
-    for i in 0..l.count {
+    for i in 0..l.table.count {
         if !is_above(bytes, l, i) {
             return false;
         }

@@ -5,7 +5,8 @@ ghost use Rattle.std.specs.List.{filter};
 ghost use Rattle.std.specs.List.Sorted.{IsStrictlySortedBy};
 ghost use Rattle.gix_revision.specs.Hash.{id_order};
 ghost use Rattle.gix_revision.specs.Prefix.{prefix_text};
-ghost use Rattle.gix_revision.specs.FileIds.{ids_in, IsFirstFrom};
+ghost use Rattle.gix_revision.specs.FileIds.{ids_in};
+ghost use Rattle.gix_revision.specs.TableIds.{IsFirstFrom};
 ghost use Rattle.gix_resolve.specs.Found.{found_in, IsStart, StandOnce};
 ghost use Rattle.gix_resolve.specs.Steps.{begins_with};
 

@@ -5,5 +5,5 @@ pub id_at-requires : goal.id_at-requires
 id_at-requires g c =
     let w = c.word_at-second.ensures.value in
     let has = c.requires.sound.parents c.args.i c.requires.here in
-    let b : c.word_at-second.result < c.args.l.count = rw w (has.second (λ e. c.if-second-eq-NONE.false (w ∙ e)) (omega arith)) in
+    let b : c.word_at-second.result < c.args.l.table.count = rw w (has.second (λ e. c.if-second-eq-NONE.false (w ∙ e)) (omega arith)) in
     omega arith

@@ -5,5 +5,5 @@ pub id_at-requires : goal.id_at-requires
 id_at-requires g c =
     let w = c.word_at-first.ensures.value in
     let has = c.requires.sound.parents c.args.i c.requires.here in
-    let b : c.word_at-first.result < c.args.l.count = rw w (has.first (λ e. c.if-first-eq-NONE.false (w ∙ e))) in
+    let b : c.word_at-first.result < c.args.l.table.count = rw w (has.first (λ e. c.if-first-eq-NONE.false (w ∙ e))) in
     omega arith

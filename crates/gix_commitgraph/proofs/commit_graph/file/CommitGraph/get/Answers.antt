@@ -1,5 +1,5 @@
 use Rattle.std.proofs.Common.{ap, sym, subst, ◌∙◌, Some, List, ℕ}
-use Rattle.gix_commitgraph.specs.FileLookup.{IsAt, IsAbsent}
+use Rattle.gix_ids.specs.TableLookup.{IsAt, IsAbsent}
 use Rattle.gix_commitgraph.specs.FileCommits.{entry_of_row}
 use Rattle.gix_commitgraph.proofs.History.{history-has, history-lacks}
 use Rattle.gix_commitgraph.proofs.commit_graph.file.CommitGraph.get.Goals as goal
@@ -8,13 +8,13 @@ pub returns-in_default : goal.returns-in_default
 returns-in_default g c =
     let s = g.B.AsSlice.items c.self.inside.bytes in
     let l = c.self.inside.layout in
-    let P : List ℕ → Type 0 = λ b. IsAbsent b l c.args.id in
-    rw (← c.self.view_is) (sym (history-lacks s l c.self.invariant.0 c.self.invariant.1 c.args.id (subst P c.as_slice-bytes.ensures c.in_default.ensures)))
+    let P : List ℕ → Type 0 = λ b. IsAbsent b l.table c.args.id in
+    rw (← c.self.view_is) (sym (history-lacks s l c.self.invariant.0 c.args.id (subst P c.as_slice-bytes.ensures c.in_default.ensures)))
 
 pub returns : goal.returns
 returns g c =
     let s = g.B.AsSlice.items c.self.inside.bytes in
     let l = c.self.inside.layout in
-    let P : List ℕ → Type 0 = λ b. IsAt b l c.args.id c.in-Some.i in
-    let has = history-has s l c.self.invariant.0 c.self.invariant.1 c.args.id c.in-Some.i (subst P c.as_slice-bytes.ensures c.in-Some.ensures) in
+    let P : List ℕ → Type 0 = λ b. IsAt b l.table c.args.id c.in-Some.i in
+    let has = history-has s l c.self.invariant.0 c.self.invariant.1.sorted c.args.id c.in-Some.i (subst P c.as_slice-bytes.ensures c.in-Some.ensures) in
     rw (← c.self.view_is) (ap Some (c.in_ok-commit_at.ensures ∙ ap (λ b. entry_of_row b l c.in-Some.i) c.as_slice-bytes.ensures) ∙ sym has)

@@ -1,5 +1,5 @@
 use Rattle.std.proofs.Common.{sym}
-use Rattle.gix_commitgraph.proofs.Listed.{history-length}
+use Rattle.gix_commitgraph.proofs.History.{history-length}
 use Rattle.gix_commitgraph.proofs.commit_graph.file.CommitGraph.len.Goals as goal
 
 pub returns : goal.returns

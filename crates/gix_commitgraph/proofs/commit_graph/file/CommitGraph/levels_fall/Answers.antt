@@ -8,8 +8,8 @@ pub returns-clause-value : goal.returns-clause-value
 returns-clause-value g c =
     let s = g.B.AsSlice.items c.self.inside.bytes in
     let l = c.self.inside.layout in
-    let P : List ℕ → Type 0 = λ b. IsTrue c.fall.result → (i : ℕ) → i < l.count → is_above b l i ≡ true in
-    let Q : List ℕ → Type 0 = λ b. c.fall.result ≡ false → (i : ℕ) × (i < l.count) × (is_above b l i ≡ false) in
+    let P : List ℕ → Type 0 = λ b. IsTrue c.fall.result → (i : ℕ) → i < l.table.count → is_above b l i ≡ true in
+    let Q : List ℕ → Type 0 = λ b. c.fall.result ≡ false → (i : ℕ) × (i < l.table.count) × (is_above b l i ≡ false) in
     rw (← c.self.view_is) (
       λ t. levels-fall s l c.self.invariant.0 (subst P c.as_slice.ensures c.fall.ensures.each t),
       fall-tells s l c.self.invariant.0 c.fall.result (subst Q c.as_slice.ensures c.fall.ensures.one),
@@ -19,6 +19,6 @@ pub returns-clause-levelled : goal.returns-clause-levelled
 returns-clause-levelled g c t =
     let s = g.B.AsSlice.items c.self.inside.bytes in
     let l = c.self.inside.layout in
-    let P : List ℕ → Type 0 = λ b. (i : ℕ) → i < l.count → is_above b l i ≡ true in
-    let Q : List ℕ → Type 0 = λ b. (i : ℕ) → i < l.count → level_at b l i < 2 ^ 30 in
+    let P : List ℕ → Type 0 = λ b. (i : ℕ) → i < l.table.count → is_above b l i ≡ true in
+    let Q : List ℕ → Type 0 = λ b. (i : ℕ) → i < l.table.count → level_at b l i < 2 ^ 30 in
     rw (← c.self.view_is) (levelled s l c.self.invariant.0 c.self.invariant.1 (subst P c.as_slice.ensures (c.fall.ensures.each t)) (subst Q c.as_slice.ensures (c.fall.ensures.bounds t)))

@@ -1,13 +1,13 @@
 //! Reads numbers and ids from the bytes of a file.
 
 ghost use Rattle.std.specs.Prelude.{◌≡◌, ◌+◌, ◌^◌, ◌≤◌, ◌<◌, length};
-ghost use Rattle.gix_commitgraph.specs.FileBytes.{word, long, id_from};
+ghost use Rattle.gix_ids.specs.TableBytes.{word, long, id_from};
 
 use gix_base::hash::ObjectId;
 
 /// Reads the big-endian number in the 4 bytes at offset `at`.
-#[tactic(auto, unfolding(crate::specs::FileBytes::word))]
-pub(crate) fn word_at(bytes: &[u8], at: usize) -> usize
+#[tactic(auto, unfolding(crate::specs::TableBytes::word))]
+pub fn word_at(bytes: &[u8], at: usize) -> usize
     requires { at + 4 ≤ length bytes.now }
     ensures value { result ≡ word bytes.now at }
     ensures bound { result < 2 ^ 32 }
@@ -16,8 +16,8 @@ pub(crate) fn word_at(bytes: &[u8], at: usize) -> usize
 }
 
 /// Reads the big-endian number in the 8 bytes at offset `at`.
-#[tactic(auto, unfolding(crate::specs::FileBytes::long))]
-pub(crate) fn long_at(bytes: &[u8], at: usize) -> usize
+#[tactic(auto, unfolding(crate::specs::TableBytes::long))]
+pub fn long_at(bytes: &[u8], at: usize) -> usize
     requires { at + 8 ≤ length bytes.now }
     ensures { result ≡ long bytes.now at }
 {
@@ -34,8 +34,8 @@ pub(crate) fn long_at(bytes: &[u8], at: usize) -> usize
 }
 
 /// Reads the id in the 20 bytes at offset `at`.
-#[tactic(auto, unfolding(crate::specs::FileBytes::id_from))]
-pub(crate) fn id_at(bytes: &[u8], at: usize) -> ObjectId
+#[tactic(auto, unfolding(crate::specs::TableBytes::id_from))]
+pub fn id_at(bytes: &[u8], at: usize) -> ObjectId
     requires { at + 20 ≤ length bytes.now }
     ensures { result ≡ id_from bytes.now at }
 {

@@ -1,5 +1,5 @@
--- Numbers and ids in the bytes of a file (gitformat-commit-graph, "File Layout": numbers are in
--- network byte order).
+-- Numbers and ids in the bytes of a file (gitformat-commit-graph, "File Layout", and
+-- gitformat-pack, "Version 2 pack-*.idx files": numbers are in network byte order).
 use Rattle.std.specs.Prelude.{ℕ, ◌+◌, List, [], ◌∷◌, take, drop, slice_index}
 use Rattle.std.specs.Int.{w32, w64, from_be_bytes}
 use Rattle.gix_base.specs.declared.hash.ObjectId.{ObjectId}

@@ -1,6 +1,0 @@
-use Rattle.std.proofs.Common.{ℕ, ◌+◌, ◌<◌}
-use Rattle.gix_commitgraph.specs.FileChecks.{Rises}
-use Rattle.gix_commitgraph.proofs.commit_graph.check.check_order.Given as goal
-
-abbrev pub invariant-loop-i : goal.invariant-loop-i
-invariant-loop-i l = (i : ℕ) → i + 1 < l.i → Rises l.bytes l.l i

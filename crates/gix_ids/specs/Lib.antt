@@ -1,0 +1,5 @@
+pub mod TableBytes
+pub mod TableForm
+pub mod TableLookup
+pub mod TableIds
+pub mod TableFaultText
