@@ -24,7 +24,8 @@ fan-before s t b =
     let d : b + 1 - 1 ≡ b = omega arith in
     rw (e, d) refl
 
-first-of : (s : List ℕ) (at : ℕ) → slice_index (id_from s at).0 0 ≡ slice_index s at
+-- the first byte of an id is the byte where it begins
+pub first-of : (s : List ℕ) (at : ℕ) → slice_index (id_from s at).0 0 ≡ slice_index s at
 unfolding id_from
 first-of s at =
     let e : at + 0 ≡ at = omega arith in

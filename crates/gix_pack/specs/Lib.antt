@@ -1,0 +1,10 @@
+pub mod PackNumbers
+pub mod EntryForm
+pub mod DeltaForm
+pub mod DeltaSteps
+pub mod IndexForm
+pub mod PackIds
+pub mod PartForm
+pub mod PackObjects
+pub mod PackLaws
+pub mod PackTexts

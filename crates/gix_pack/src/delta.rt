@@ -1,0 +1,8 @@
+//! Applies deltas between objects (gitformat-pack, "Deltified representation").
+
+mod fault;
+mod function;
+mod step;
+
+pub use fault::{ApplyError, DeltaFault};
+pub use function::{Sizes, apply, read_sizes};

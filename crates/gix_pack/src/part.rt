@@ -1,0 +1,209 @@
+//! Looks up an id in parts of an index, so that the index is not read whole.
+//!
+//! [`Head`] has the first bytes of the file. It says where the ids with a first byte are
+//! ([`Head::span`]). [`position`] finds an id among them, and [`read_offset`] and [`read_large_offset`] read
+//! its offset from where the head says.
+
+ghost use Rattle.std.specs.Prelude.{◌≡◌, ◌↔◌, ℕ, ◌+◌, ◌*◌, ◌/◌, ◌^◌, ◌≤◌, ◌<◌, length, IsOk, IfOk, IfErr, MatchOption};
+ghost use Rattle.gix_ids.specs.TableBytes.{word, long};
+ghost use Rattle.gix_ids.specs.TableForm.{fan, fan_below};
+ghost use Rattle.gix_ids.specs.TableLookup.{IsAt, IsAbsent};
+ghost use Rattle.gix_pack.specs.IndexForm.{count_of, table_of, offsets_from, large_from, offset_said, IsFaulty};
+ghost use Rattle.gix_pack.specs.PartForm.{IsHead, part_of, AreRising};
+
+use crate::index::{OpenError, OpenFault, check_header};
+use gix_base::hash::ObjectId;
+use gix_ids::{Span, Table, below, check_fanout, long_at, narrow, word_at};
+use std::alloc::Global;
+use std::convert::AsSlice;
+use std::marker::Model;
+
+/// The length of the head of an index: header and fanout table.
+pub const HEAD_LEN: usize = 1032;
+
+/// The head of an index, read in place.
+///
+/// The bytes are owned, or borrowed as `Head<&[u8]>`.
+#[derive(Drop)]
+pub struct Head<B: AsSlice<u8> + Drop = Vec<u8, Global>> {
+    bytes: B,
+}
+
+impl<B: AsSlice<u8> + Drop> Model for Head<B> {
+    ghost use Rattle.std.specs.Prelude.{List, ℕ};
+    ghost use Rattle.gix_pack.specs.PartForm.{IsHead};
+
+    ghost Value = { List ℕ };
+
+    ghost view = { λ g. B.items g.bytes };
+
+    ghost invariant = { λ g. IsHead (B.items g.bytes) };
+}
+
+/// Returns where an index has its ids and its fanout table.
+#[tactic(auto, unfolding(crate::specs::IndexForm::table_of))]
+pub(crate) fn table_of(bytes: &[u8]) -> Table
+    requires { 1032 ≤ length bytes.now }
+    ensures value { result ≡ table_of bytes.now }
+    ensures count { result.count ≡ count_of bytes.now }
+    ensures fanout { result.fanout ≡ 8 }
+    ensures ids { result.ids ≡ 1032 }
+{
+    Table {
+        count: word_at(bytes, 1028),
+        fanout: 8,
+        ids: HEAD_LEN,
+    }
+}
+
+/// Checks the head of an index.
+fn check_head(bytes: &[u8]) -> Result<(), OpenFault>
+    ensures head { IsOk result ↔ IsHead bytes.now }
+    ensures faulty { IfErr result (IsFaulty bytes.now) }
+{
+    check_header(bytes)?;
+    check_fanout(bytes, table_of(bytes))?;
+    Ok(())
+}
+
+/// Returns the positions of the ids whose first byte is `byte`, by the fanout table.
+fn span(bytes: &[u8], byte: u8) -> Span
+    requires { IsHead bytes.now }
+    ensures low { result.low ≡ fan_below bytes.now (table_of bytes.now) byte }
+    ensures high { result.high ≡ fan bytes.now (table_of bytes.now) byte }
+    ensures order { result.low ≤ result.high }
+    ensures within { result.high ≤ count_of bytes.now }
+{
+    let table = table_of(bytes);
+    Span {
+        low: below(bytes, table, byte),
+        high: word_at(bytes, table.fanout + 4 * byte as usize),
+    }
+}
+
+impl<B: AsSlice<u8> + Drop> Head<B> {
+    /// Opens the first [`HEAD_LEN`] bytes of an index of version 2. More bytes may follow them.
+    ///
+    /// Succeeds exactly if the header is that of an index, and the fanout table does not fall. See
+    /// gitformat-pack, "Version 2 pack-*.idx files".
+    ///
+    /// # Errors
+    ///
+    /// Returns the bytes, with one thing that is wrong with them.
+    pub fn open(bytes: B) -> Result<Head<B>, OpenError<B>>
+        ensures same { IfOk result (λ head. head ≡ B.items bytes) }
+        ensures opened { IsOk result ↔ IsHead (B.items bytes) }
+        ensures back { IfErr result (λ error. error.bytes ≡ bytes) }
+        ensures refused { IfErr result (λ error. IsFaulty (B.items bytes) error.fault) }
+    {
+        match check_head(bytes.as_slice()) {
+            Ok(()) => Ok(Head { bytes }),
+            Err(fault) => Err(OpenError { bytes, fault }),
+        }
+    }
+
+    /// Returns the number of objects.
+    pub fn len(&self) -> usize
+        ensures value { result ≡ count_of self.now }
+        ensures small { result < 2 ^ 32 }
+    {
+        word_at(self.bytes.as_slice(), 1028)
+    }
+
+    /// Returns the positions of the ids whose first byte is `byte`, by the fanout table.
+    pub fn span(&self, byte: u8) -> Span
+        ensures low { result.low ≡ fan_below self.now (table_of self.now) byte }
+        ensures high { result.high ≡ fan self.now (table_of self.now) byte }
+        ensures order { result.low ≤ result.high }
+        ensures within { result.high ≤ count_of self.now }
+    {
+        span(self.bytes.as_slice(), byte)
+    }
+
+    /// Returns the offset in the index of the id at `position`. The next id follows its 20 bytes.
+    #[tactic(auto, unfolding(crate::specs::IndexForm::table_of))]
+    pub fn id_place(&self, position: u32) -> u64
+        ensures { result ≡ (table_of self.now).ids + 20 * position }
+    {
+        HEAD_LEN as u64 + 20 * u64::from(position)
+    }
+
+    /// Returns the offset in the index of the 4 bytes for [`read_offset`] of the object at `position`.
+    pub fn offset_place(&self, position: u32) -> u64
+        ensures { result ≡ offsets_from self.now + 4 * position }
+    {
+        1032 + 24 * self.len() as u64 + 4 * u64::from(position)
+    }
+
+    /// Returns the offset in the index of the 8 bytes for [`read_large_offset`] that an
+    /// [`Offset::Large`] names.
+    ///
+    /// A malformed index may not have them. Its last 40 bytes are hashes.
+    pub fn large_place(&self, entry: u32) -> u64
+        ensures { result ≡ large_from self.now + 8 * entry }
+    {
+        1032 + 28 * self.len() as u64 + 8 * u64::from(entry)
+    }
+}
+
+/// Returns the position of `id` among `ids`, which have 20 bytes each.
+///
+/// Bytes after the last whole id do not matter. If the ids do not rise, `None` may be the answer
+/// although they have `id`.
+pub fn position(ids: &[u8], id: ObjectId) -> Option<usize>
+    ensures { MatchOption result (AreRising ids.now → IsAbsent ids.now (part_of ids.now) id) (IsAt ids.now (part_of ids.now) id) }
+{
+    let count = ids.len() / 20;
+    let table = Table {
+        count,
+        fanout: 0,
+        ids: 0,
+    };
+    let span = Span {
+        low: 0,
+        high: count,
+    };
+    match narrow(ids, table, span, id) {
+        Ok(place) => Some(place),
+        Err(_) => None,
+    }
+}
+
+/// What the 4 bytes for the offset of an object say.
+#[derive(Clone, Copy, Debug, PartialEq, Eq)]
+pub enum Offset {
+    /// The offset in the pack.
+    Small(u32),
+    /// Which of the offsets of 8 bytes is the offset in the pack.
+    Large(u32),
+}
+
+/// Returns what 4 bytes say, as a number.
+#[tactic(auto, unfolding(crate::specs::IndexForm::offset_said))]
+pub(crate) fn offset_said(word: usize) -> Offset
+    requires { word < 2 ^ 32 }
+    ensures { result ≡ offset_said word }
+{
+    if word < 0x8000_0000 {
+        Offset::Small(word as u32)
+    } else {
+        Offset::Large((word - 0x8000_0000) as u32)
+    }
+}
+
+/// Reads the 4 bytes for the offset of an object.
+///
+/// If their highest bit is set, they name an offset of 8 bytes. See gitformat-pack, "A table of
+/// 4-byte offset values".
+pub fn read_offset(bytes: [u8; 4]) -> Offset
+    ensures { result ≡ offset_said (word bytes 0) }
+{
+    offset_said(word_at(&bytes, 0))
+}
+
+/// Reads an offset of 8 bytes.
+pub fn read_large_offset(bytes: [u8; 8]) -> u64
+    ensures { result ≡ long bytes 0 }
+{
+    long_at(&bytes, 0) as u64
+}
