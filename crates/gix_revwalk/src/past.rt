@@ -7,7 +7,7 @@
 //! The *spot* of an id is its place in this memory. A spot that a caller passes is a guess: the id
 //! stored there is compared, and a wrong guess costs a look-up by hash.
 
-ghost use Rattle.std.specs.Prelude.{◌≡◌, ◌≤◌, ◌+◌, [], is_some, false, cond, Some, None, IfSome, IfOk, OnOk, OnErr, map, take, drop, length};
+ghost use Rattle.std.specs.Prelude.{IsTrue, ◌≡◌, ◌≤◌, ◌+◌, [], is_some, false, cond, Some, None, IfSome, IfOk, OnOk, OnErr, map, take, drop, length};
 ghost use Rattle.std.specs.Option.{option_map};
 ghost use Rattle.std.specs.Int.{w64, to_le_bytes, from_le_bytes};
 ghost use Rattle.gix_base.specs.declared.hash.ObjectId.{ObjectId};
@@ -20,14 +20,13 @@ use crate::graph::Row;
 use crate::numbers::Number;
 use crate::seed::Seed;
 use gix_base::hash::ObjectId;
+use indexmap::IndexMap;
 use std::alloc::{AllocError, Allocator};
-use std::collections::HashMap;
 use std::marker::Model;
 
 /// What is remembered about one id.
 #[derive(Clone, Copy)]
 pub(crate) struct Memory {
-    pub(crate) id: ObjectId,
     /// Its number when it was last held.
     pub(crate) home: Option<Number>,
     /// Where its parents are stored, once the source has returned its commit.
@@ -81,38 +80,35 @@ pub(crate) fn is_same(a: &ObjectId, b: &ObjectId) -> bool
     word(a, 12) == word(b, 12)
 }
 
-/// All that is remembered, in the order of spots, with an index from ids to spots.
+/// All that is remembered, in the order of spots.
 ///
 /// It also has the parents of all commits that the source returned, row by row.
 #[derive(Drop)]
 pub(crate) struct Past<A: Allocator> {
-    memories: Vec<Memory, A>,
-    index: HashMap<ObjectId, Number, Seed, A>,
+    memories: IndexMap<ObjectId, Memory, Seed, A>,
     parents: Vec<ObjectId, A>,
     /// A guess at the spot of each parent, as far as these were looked up.
     guesses: Vec<usize, A>,
 }
 
 impl<A: Allocator> Model for Past<A> {
-    ghost use Rattle.gix_revwalk.specs.Pasts.{Pasts, kept_of, link_id, ArePast};
-    ghost use Rattle.std.specs.Prelude.{map};
+    ghost use Rattle.gix_revwalk.specs.Pasts.{Pasts, ArePast};
 
     ghost Value = { Pasts };
 
-    ghost view = { λ p. record { kept = map kept_of p.memories.items; parents = p.parents.items } };
+    ghost view = { λ p. record { kept = p.memories.entries; parents = p.parents.items } };
 
-    ghost invariant = { λ p. ArePast p.memories.items p.index.entries p.parents.items };
+    ghost invariant = { λ p. ArePast p.memories.entries p.parents.items };
 }
 
 impl<A: Allocator + Copy> Past<A> {
-    /// Creates an empty memory, whose index is seeded with `seed`.
+    /// Creates an empty memory, whose hashes are seeded with `seed`.
     pub(crate) fn new(alloc: A, seed: Seed) -> Self
         ensures homes { (q : ObjectId) → home_in result q ≡ None }
         ensures told { (q : ObjectId) → told_in result q ≡ None }
     {
         Past {
-            memories: Vec::new(alloc),
-            index: HashMap::with_hasher(alloc, seed),
+            memories: IndexMap::with_hasher(alloc, seed),
             parents: Vec::new(alloc),
             guesses: Vec::new(alloc),
         }
@@ -120,9 +116,20 @@ impl<A: Allocator + Copy> Past<A> {
 }
 
 impl<A: Allocator> Past<A> {
-    /// Returns the seed of the index.
+    /// Returns the seed of the hashes.
     pub(crate) fn seed(&self) -> Seed {
-        *self.index.hasher()
+        *self.memories.hasher()
+    }
+
+    /// Returns whether a guess is the spot of an id.
+    #[inline(always)]
+    fn is_spot(&self, id: &ObjectId, guess: usize) -> bool
+        ensures { IsTrue result → spot_in self.now id.now ≡ Some guess }
+    {
+        match self.memories.get_index(guess) {
+            Some((known, _)) => is_same(known, id),
+            None => false,
+        }
     }
 
     /// Returns the spot of an id; `None` if the id is not remembered.
@@ -130,15 +137,10 @@ impl<A: Allocator> Past<A> {
     fn spot(&self, id: &ObjectId, guess: usize) -> Option<usize>
         ensures { result ≡ spot_in self.now id.now }
     {
-        if let Some(memory) = self.memories.get(guess) {
-            if is_same(&memory.id, id) {
-                return Some(guess);
-            }
+        if self.is_spot(id, guess) {
+            return Some(guess);
         }
-        match self.index.get(id) {
-            Some(number) => Some(number.place()),
-            None => None,
-        }
+        self.memories.get_index_of(id)
     }
 
     /// Returns the number that an id had when it was last held.
@@ -178,25 +180,19 @@ impl<A: Allocator + Copy> Past<A> {
         ensures homes { SameHomes self.old self.new }
         ensures told { SameTold self.old self.new }
     {
-        if let Some(spot) = self.spot(&id, guess) {
-            return Ok(spot);
+        if self.is_spot(&id, guess) {
+            return Ok(guess);
         }
-        let spot = self.memories.len();
-        let Ok(number) = Number::at(spot) else {
-            return Err(AllocError);
-        };
         let memory = Memory {
-            id,
             home: None,
             row: None,
             time: 0,
         };
-        let Ok(()) = self.memories.push(memory) else {
+        let Ok((spot, known)) = self.memories.insert_full(id, memory) else {
             return Err(AllocError);
         };
-        if self.index.insert(id, number).is_err() {
-            self.memories.pop();
-            return Err(AllocError);
+        if let Some(memory) = known {
+            self.memories[spot] = memory;
         }
         Ok(spot)
     }
@@ -270,10 +266,9 @@ impl<A: Allocator + Copy> Past<A> {
                 return Ok(*guess);
             }
         }
-        let Some(number) = self.index.get(id) else {
+        let Some(spot) = self.memories.get_index_of(id) else {
             return Ok(NOWHERE);
         };
-        let spot = number.place();
         let Ok(()) = self.guesses.resize(self.parents.len(), NOWHERE) else {
             return Err(AllocError);
         };
