@@ -1,3 +1,4 @@
+pub mod Refused
 pub mod Same
 pub mod SameBases
 pub mod SameDescriptions

@@ -1,1 +1,4 @@
+pub mod Stores
+pub mod Refusals
+pub mod ErrorTexts
 pub mod Determined

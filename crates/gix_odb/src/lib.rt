@@ -1,4 +1,38 @@
-//! States what the ids of commits determine, up to a collision of SHA-1 that is at hand.
+//! Reads the objects of a repository by their ids (gitrepository-layout, "objects").
+//!
+//! A [`Store`] is opened on an `objects` folder. It finds loose objects, the objects in packs, and
+//! those of alternates. An object is returned only if the SHA-1 of its bytes, with git's header
+//! before them, is its id. So no file has to be trusted: what is read is authentic, or the call
+//! fails. That an object which the repository has is found is not proved.
+//!
+//! - [`Store::read`] returns an object, and [`Store::commit`] the parents and the commit date of a
+//!   commit.
+//! - [`files`] has the traits by which a store reaches files, and [`System`] implements them over
+//!   the file system.
+//! - Each call that fails can be repeated.
+//! - [`laws`] states what the ids of commits determine, up to a collision of SHA-1 that is at hand.
 #![tactic(auto)]
 
+mod alternates;
+mod cache;
+mod chain;
+pub mod error;
+mod failure;
+pub mod files;
+mod index;
 pub mod laws;
+mod loose;
+mod object;
+mod pack;
+mod packs;
+mod paths;
+mod source;
+mod store;
+mod stream;
+mod system;
+mod windows;
+
+pub use error::Error;
+pub use object::Object;
+pub use store::Store;
+pub use system::System;

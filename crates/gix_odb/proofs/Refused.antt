@@ -1,0 +1,15 @@
+-- An error of a read is one of a read as a commit.
+use Rattle.gix_base.specs.declared.hash.ObjectId.{ObjectId}
+use Rattle.gix_odb.specs.Refusals.{IsRefused, IsNoCommit}
+use Rattle.gix_odb.specs.declared.error.Error.{Error}
+use Rattle.gix_odb.specs.declared.error.Error.TheVariants.{Missing, Altered, NotACommit, Malformed, Damaged, Unsupported, Failed, OutOfMemory}
+
+pub refused_commit : (id : ObjectId) (e : Error) → IsRefused id e → IsNoCommit id e
+refused_commit id (Missing other) h = h
+refused_commit id (Altered other) h = h
+refused_commit id (NotACommit other kind) h = absurd h
+refused_commit id (Malformed other error) h = absurd h
+refused_commit id (Damaged file at damage) h = h
+refused_commit id (Unsupported file feature) h = h
+refused_commit id (Failed file kind) h = h
+refused_commit id OutOfMemory h = h

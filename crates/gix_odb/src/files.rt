@@ -1,0 +1,63 @@
+//! Has the traits by which a store reaches folders and files, so that a test can stand in for them.
+
+ghost use Rattle.std.specs.Prelude.{◌≤◌, length, IfOk};
+
+use std::alloc::{AllocError, AllocFailed, Allocator};
+use std::io::ErrorKind;
+
+/// Says why a file was not opened, listed or read.
+#[derive(Clone, Copy, Debug, PartialEq, Eq)]
+pub enum FileError {
+    /// The system failed.
+    Failed(ErrorKind),
+    /// The path is not UTF-8, and `std` opens no such path.
+    NotUtf8,
+    /// An allocation failed.
+    OutOfMemory,
+}
+
+impl From<AllocError> for FileError {
+    fn from(_e: AllocError) -> FileError {
+        FileError::OutOfMemory
+    }
+}
+
+impl<T: Drop> From<AllocFailed<T>> for FileError {
+    fn from(_e: AllocFailed<T>) -> FileError {
+        FileError::OutOfMemory
+    }
+}
+
+/// Is an open file.
+pub trait Opened: Drop {
+    /// Returns the length of the file in bytes.
+    fn size(&self) -> Result<u64, FileError>;
+
+    /// Reads bytes from `at` on into `buf`, and returns how many. It may read fewer than there are.
+    ///
+    /// It reads none only if `buf` is empty or the file ends there.
+    fn read_part(&self, at: u64, buf: &mut [u8]) -> Result<usize, FileError>
+        ensures { IfOk result (λ n. n ≤ length buf.new) };
+}
+
+/// Opens files and lists folders. Nothing is promised of what is in them.
+pub trait Folders {
+    type Opened: Opened;
+
+    /// Opens a file for reading. Returns `None` if there is no such file.
+    fn open(&self, path: &[u8]) -> Result<Option<Self::Opened>, FileError>;
+
+    /// Adds the names of all entries of a folder to `names`, each ended by a zero byte.
+    ///
+    /// Adds none if there is no such folder. The names `.` and `..` may be among them.
+    fn names<A: Allocator>(&self, path: &[u8], names: &mut Vec<u8, A>) -> Result<(), FileError>;
+
+    /// Adds the path of a folder to `real`, without symbolic links, so that a folder has one path.
+    ///
+    /// Returns `false`, and adds nothing, if there is no such folder.
+    fn real_path<A: Allocator>(
+        &self,
+        path: &[u8],
+        real: &mut Vec<u8, A>,
+    ) -> Result<bool, FileError>;
+}

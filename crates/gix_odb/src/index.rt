@@ -1,0 +1,152 @@
+//! Looks ids up in the index of a pack (gitformat-pack, "Version 2 pack-*.idx files").
+
+use crate::error::{Damage, Feature};
+use crate::failure::Fault;
+use crate::files::Opened;
+use crate::source::Source;
+use gix_base::hash::ObjectId;
+use gix_ids::Span;
+use gix_pack::index::OpenFault;
+use gix_pack::part::{HEAD_LEN, Head, Offset, position, read_large_offset, read_offset};
+use std::alloc::Allocator;
+
+/// How many bytes of ids and offsets are kept of an index. If there are more, all are dropped.
+const MOST_KEPT: usize = 1 << 26;
+
+/// Keeps the ids that begin with one byte, and the words of their offsets.
+#[derive(Drop)]
+struct Bucket<A: Allocator> {
+    ids: Vec<u8, A>,
+    offsets: Vec<u8, A>,
+}
+
+/// Is an open index. A bucket is read when it is first needed.
+#[derive(Drop)]
+pub(crate) struct Index<O: Opened, A: Allocator + Copy> {
+    source: Source<O>,
+    size: u64,
+    head: Head<Vec<u8, A>>,
+    buckets: Vec<Bucket<A>, A>,
+    kept: usize,
+}
+
+/// Makes room for the buckets of all first bytes.
+fn empty_buckets<A: Allocator + Copy>(alloc: A) -> Result<Vec<Bucket<A>, A>, Fault> {
+    let mut buckets = Vec::with_capacity(alloc, 256)?;
+    for _ in 0..256u32 {
+        buckets.push(Bucket {
+            ids: Vec::new(alloc),
+            offsets: Vec::new(alloc),
+        })?;
+    }
+    Ok(buckets)
+}
+
+/// Returns the fault of an index whose head is refused.
+fn refused<O: Opened>(source: &Source<O>, fault: OpenFault) -> Fault {
+    match fault {
+        OpenFault::Signature | OpenFault::Version => source.unsupported(Feature::IndexVersion),
+        OpenFault::TooShort => source.damaged(0, Damage::CutOff),
+        _ => source.damaged(8, Damage::Fanout),
+    }
+}
+
+impl<O: Opened, A: Allocator + Copy> Index<O, A> {
+    /// Reads the head of an index.
+    pub(crate) fn new(alloc: A, source: Source<O>) -> Result<Index<O, A>, Fault> {
+        let mut bytes = Vec::new(alloc);
+        source.read_into(0, HEAD_LEN, &mut bytes)?;
+        match Head::open(bytes) {
+            Ok(head) => Ok(Index {
+                size: source.size()?,
+                source,
+                head,
+                buckets: empty_buckets(alloc)?,
+                kept: 0,
+            }),
+            Err(error) => Err(refused(&source, error.fault)),
+        }
+    }
+
+    /// Returns the number of objects in the pack.
+    pub(crate) fn count(&self) -> usize {
+        self.head.len()
+    }
+
+    /// Returns where in the pack the object with this id begins; `None` if the pack does not have it.
+    pub(crate) fn find(&mut self, alloc: A, id: ObjectId) -> Result<Option<u64>, Fault> {
+        let first = id.0[0];
+        self.load(alloc, first)?;
+        let Some(bucket) = self.buckets.get(first as usize) else {
+            return Ok(None);
+        };
+        let Some(k) = position(&bucket.ids, id) else {
+            return Ok(None);
+        };
+        match bucket.offsets.get(k.saturating_mul(4)..) {
+            Some([a, b, c, d, ..]) => Ok(Some(self.offset([*a, *b, *c, *d])?)),
+            _ => Ok(None),
+        }
+    }
+
+    /// Reads the ids that begin with a byte, and their offsets, unless they are here.
+    fn load(&mut self, alloc: A, first: u8) -> Result<(), Fault> {
+        if self.kept > MOST_KEPT {
+            self.buckets = empty_buckets(alloc)?;
+            self.kept = 0;
+        }
+        let Span { low, high } = self.head.span(first);
+        let count = high.saturating_sub(low);
+        let low = u32::try_from(low).unwrap_or(u32::MAX);
+        let ids = self.head.id_place(low);
+        let offsets = self.head.offset_place(low);
+        let Some(bucket) = self.buckets.get_mut(first as usize) else {
+            return Ok(());
+        };
+        if bucket.offsets.is_empty() {
+            bucket.read(&self.source, self.size, (ids, offsets), count)?;
+            self.kept = self.kept.saturating_add(count.saturating_mul(24));
+        }
+        Ok(())
+    }
+
+    /// Returns the offset that four bytes say, or one of eight bytes to which they lead.
+    fn offset(&self, bytes: [u8; 4]) -> Result<u64, Fault> {
+        match read_offset(bytes) {
+            Offset::Small(offset) => Ok(u64::from(offset)),
+            Offset::Large(entry) => {
+                let at = self.head.large_place(entry);
+                let mut bytes = [0u8; 8];
+                if self.source.fill(at, bytes.as_mut_slice())? < 8 {
+                    return Err(self.source.damaged(at, Damage::CutOff));
+                }
+                Ok(read_large_offset(bytes))
+            }
+        }
+    }
+}
+
+impl<A: Allocator> Bucket<A> {
+    /// Reads so many ids and offsets from their places in a file of this size.
+    ///
+    /// If the call fails, there are no offsets.
+    fn read<O: Opened>(
+        &mut self,
+        source: &Source<O>,
+        size: u64,
+        (ids, offsets): (u64, u64),
+        count: usize,
+    ) -> Result<(), Fault> {
+        let end = offsets.saturating_add(count.saturating_mul(4) as u64);
+        if size < end {
+            return Err(source.damaged(size, Damage::CutOff));
+        }
+        source.read_into(ids, count.saturating_mul(20), &mut self.ids)?;
+        source.read_into(offsets, count.saturating_mul(4), &mut self.offsets)?;
+        if self.offsets.len() < count.saturating_mul(4) {
+            self.offsets.clear();
+            return Err(source.damaged(offsets, Damage::CutOff));
+        }
+        Ok(())
+    }
+}

@@ -1,0 +1,32 @@
+//! Compares objects with their ids.
+
+ghost use Rattle.std.specs.Prelude.{IfOk};
+ghost use Rattle.gix_odb.specs.Stores.{IsObject};
+
+use crate::failure::Failure;
+use gix_base::hash::ObjectId;
+use gix_base::object::Kind;
+use gix_object::is_authentic;
+use std::alloc::{Allocator, Global};
+
+/// Is an object: its kind and its content.
+#[derive(Drop)]
+pub struct Object<A: Allocator = Global> {
+    pub kind: Kind,
+    pub content: Vec<u8, A>,
+}
+
+/// Takes what was read as the object with this id, if its id is this one.
+pub(crate) fn accepted<A: Allocator>(
+    id: ObjectId,
+    kind: Kind,
+    content: Vec<u8, A>,
+) -> Result<Object<A>, Failure>
+    ensures { IfOk result (λ o. IsObject id o.kind o.content.items) }
+{
+    if is_authentic(id, kind, &content) {
+        Ok(Object { kind, content })
+    } else {
+        Err(Failure::Altered)
+    }
+}

@@ -1,0 +1,108 @@
+//! Reaches folders and files of the system, by `std::fs`.
+
+ghost use Rattle.std.specs.Prelude.{◌≤◌, length, IfOk};
+
+use crate::files::{FileError, Folders, Opened};
+use std::alloc::Allocator;
+use std::fs::{File, Files, OpenFile};
+use std::io::{self, ErrorKind, Read};
+use std::os::unix::fs::FileExt;
+
+/// Is the file system. It opens only paths that are UTF-8.
+#[derive(Clone, Copy, Drop)]
+pub struct System<'a>(pub &'a HostRuntime);
+
+/// Tells whether an error says that there is no such file or folder.
+fn is_missing(kind: ErrorKind) -> bool {
+    matches!(kind, ErrorKind::NotFound | ErrorKind::NotADirectory)
+}
+
+/// Returns the error of a file for one of the system.
+fn file_error(error: io::Error) -> FileError {
+    match error.kind() {
+        ErrorKind::OutOfMemory => FileError::OutOfMemory,
+        kind => FileError::Failed(kind),
+    }
+}
+
+impl Opened for File {
+    fn size(&self) -> Result<u64, FileError> {
+        match self.metadata() {
+            Ok(metadata) => Ok(metadata.len()),
+            Err(error) => Err(file_error(error)),
+        }
+    }
+
+    fn read_part(&self, at: u64, buf: &mut [u8]) -> Result<usize, FileError>
+        ensures { IfOk result (λ n. n ≤ length buf.new) }
+    {
+        for _ in 0..u64::MAX {
+            match self.read_at(buf, at) {
+                Ok(n) => return Ok(n),
+                Err(error) if error.kind() == ErrorKind::Interrupted => {}
+                Err(error) => return Err(file_error(error)),
+            }
+        }
+        Ok(0)
+    }
+}
+
+impl<'a> Folders for System<'a> {
+    type Opened = File;
+
+    fn open(&self, path: &[u8]) -> Result<Option<File>, FileError> {
+        let Ok(path) = str::from_utf8(path) else {
+            return Err(FileError::NotUtf8);
+        };
+        match File::open(self.0, path) {
+            Ok(file) => Ok(Some(file)),
+            Err(error) if is_missing(error.kind()) => Ok(None),
+            Err(error) => Err(file_error(error)),
+        }
+    }
+
+    fn names<A: Allocator>(&self, path: &[u8], names: &mut Vec<u8, A>) -> Result<(), FileError> {
+        let Ok(path) = str::from_utf8(path) else {
+            return Err(FileError::NotUtf8);
+        };
+        match self.0.open_dir(path) {
+            Ok(mut folder) => read_names(&mut folder, names),
+            Err(error) if is_missing(error.kind()) => Ok(()),
+            Err(error) => Err(file_error(error)),
+        }
+    }
+
+    fn real_path<A: Allocator>(
+        &self,
+        path: &[u8],
+        real: &mut Vec<u8, A>,
+    ) -> Result<bool, FileError> {
+        let Ok(path) = str::from_utf8(path) else {
+            return Err(FileError::NotUtf8);
+        };
+        match self.0.canonicalize(self.0.alloc(), path) {
+            Ok(found) => {
+                real.extend_from_slice(found.as_str().as_bytes())?;
+                Ok(true)
+            }
+            Err(error) if is_missing(error.kind()) => Ok(false),
+            Err(error) => Err(file_error(error)),
+        }
+    }
+}
+
+/// Adds all names of a folder to `names`.
+fn read_names<R: Read, A: Allocator>(
+    folder: &mut R,
+    names: &mut Vec<u8, A>,
+) -> Result<(), FileError> {
+    let mut buf = [0u8; 4096];
+    for _ in 0..u64::MAX {
+        match folder.read(&mut buf) {
+            Ok(0) => break,
+            Ok(n) => names.extend_from_slice(&buf[..n])?,
+            Err(error) => return Err(file_error(error)),
+        }
+    }
+    Ok(())
+}
