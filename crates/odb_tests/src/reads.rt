@@ -1,0 +1,121 @@
+//! Reads all objects while each call on a file, and each allocation, fails in turn.
+
+use crate::fake::{Fake, Turn};
+use crate::tables::{IDS, all_written};
+use gix_base::hash::ObjectId;
+use gix_odb::{Error, Store};
+use refusing::Refusing;
+use std::alloc::{Allocator, Global};
+use std::cell::Cell;
+use std::io::ErrorKind;
+use std::test::Fail;
+
+/// Tells whether an error says that a call on a file or an allocation failed.
+fn is_refusal(error: Error) -> bool {
+    matches!(
+        error,
+        Error::Failed(_, ErrorKind::Other) | Error::OutOfMemory
+    )
+}
+
+/// Opens the store, once more if the first try was refused.
+fn opened<'a, A: Allocator + Copy>(alloc: A, fake: Fake<'a>) -> Option<Store<Fake<'a>, A>> {
+    match Store::open(alloc, fake, b"first") {
+        Ok(store) => Some(store),
+        Err(error) if is_refusal(error) => Store::open(alloc, fake, b"first").ok(),
+        Err(_) => None,
+    }
+}
+
+/// Tells whether the object with this id is read, at the second try if the first was refused.
+fn is_read<A: Allocator + Copy>(alloc: A, store: &mut Store<Fake<'_>, A>, id: ObjectId) -> bool {
+    match store.read(alloc, id) {
+        Ok(_) => true,
+        Err(error) => is_refusal(error) && store.read(alloc, id).is_ok(),
+    }
+}
+
+/// Tells whether a missing object is reported, at the second try if the first was refused.
+fn is_missing<A: Allocator + Copy>(alloc: A, store: &mut Store<Fake<'_>, A>) -> bool {
+    let id = ObjectId([0xf3; 20]);
+    match store.read(alloc, id) {
+        Ok(_) => false,
+        Err(Error::Missing(_)) => true,
+        Err(error) => is_refusal(error) && matches!(store.read(alloc, id), Err(Error::Missing(_))),
+    }
+}
+
+/// Tells whether all objects are read, and no other.
+fn are_read<A: Allocator + Copy>(alloc: A, store: &mut Store<Fake<'_>, A>) -> bool {
+    for digits in &IDS {
+        let Ok(id) = ObjectId::from_hex(digits.as_bytes()) else {
+            return false;
+        };
+        if !is_read(alloc, store, id) {
+            return false;
+        }
+    }
+    is_missing(alloc, store)
+}
+
+/// Tells whether a new store reads all objects.
+fn reads_all<A: Allocator + Copy>(alloc: A, fake: Fake<'_>) -> bool {
+    match opened(alloc, fake) {
+        Some(mut store) => are_read(alloc, &mut store),
+        None => false,
+    }
+}
+
+/// Returns how many calls on files there are, each of which fails in turn, while all objects are
+/// read at the first or the second try. Returns 0 if an object is not read.
+fn failed_calls(alloc: Global, files: &[Vec<u8>], most: usize) -> u64 {
+    for fails in 0..100_000u64 {
+        let calls = Cell::new(0u64);
+        let turn = Turn {
+            calls: &calls,
+            fails,
+        };
+        if !reads_all(alloc, Fake { files, turn, most }) {
+            return 0;
+        }
+        if calls.get() <= fails {
+            return fails;
+        }
+    }
+    0
+}
+
+/// Returns how many allocations there are, each of which fails in turn, in the same way.
+fn failed_allocations(alloc: Global, files: &[Vec<u8>]) -> u64 {
+    for before in 0..100_000u64 {
+        let calls = Cell::new(0u64);
+        let turn = Turn {
+            calls: &calls,
+            fails: u64::MAX,
+        };
+        let most = usize::MAX;
+        let memory = Refusing::new(alloc, before);
+        if !reads_all(&memory, Fake { files, turn, most }) {
+            return 0;
+        }
+        if !memory.has_refused() {
+            return before;
+        }
+    }
+    0
+}
+
+#[test]
+fn survives_each_failed_call(rt: HostRuntime) -> Result<(), Fail> {
+    let files = all_written(rt.alloc())?;
+    assert!(rt; failed_calls(rt.alloc(), &files, usize::MAX) > 30);
+    assert!(rt; failed_calls(rt.alloc(), &files, 100) > 60);
+    Ok(())
+}
+
+#[test]
+fn survives_each_failed_allocation(rt: HostRuntime) -> Result<(), Fail> {
+    let files = all_written(rt.alloc())?;
+    assert!(rt; failed_allocations(rt.alloc(), &files) > 30);
+    Ok(())
+}
