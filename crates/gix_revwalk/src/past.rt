@@ -121,7 +121,7 @@ impl<A: Allocator> Past<A> {
         *self.memories.hasher()
     }
 
-    /// Returns whether a guess is the spot of an id.
+    /// Returns `true` only if a guess is the spot of an id.
     #[inline(always)]
     fn is_spot(&self, id: &ObjectId, guess: usize) -> bool
         ensures { IsTrue result → spot_in self.now id.now ≡ Some guess }
@@ -191,6 +191,7 @@ impl<A: Allocator + Copy> Past<A> {
         let Ok((spot, known)) = self.memories.insert_full(id, memory) else {
             return Err(AllocError);
         };
+        // An id that was known keeps what is remembered about it.
         if let Some(memory) = known {
             self.memories[spot] = memory;
         }
