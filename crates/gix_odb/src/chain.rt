@@ -49,7 +49,7 @@ impl<O: Opened, A: Allocator + Copy> Body<O, A> {
     }
 }
 
-/// Is one object of a chain: where it begins, where its stream does, and the size of what that holds.
+/// Is one object of a chain: where it begins, where its stream does, and the size of the content.
 #[derive(Clone, Copy)]
 struct Link {
     at: u64,

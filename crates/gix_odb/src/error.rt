@@ -74,7 +74,7 @@ pub enum Damage {
     Fanout,
     /// No object begins at this offset.
     Header,
-    /// The zlib stream is malformed or cut off, or its content has another size than the header says.
+    /// The zlib stream is malformed or cut off, or its content has another size than it should.
     Stream,
     /// A delta does not fit its base, or is malformed.
     Delta,
@@ -99,7 +99,7 @@ pub enum Feature {
 
 /// Says why an object is not read.
 ///
-/// Several copies of an object may be there. If no copy is authentic, the first failure is returned.
+/// There may be several copies of an object. If none is authentic, the first failure is returned.
 #[derive(Clone, Copy, Debug, PartialEq, Eq, Drop, StdError)]
 pub enum Error {
     /// No copy of the object was found.

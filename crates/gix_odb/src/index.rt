@@ -73,7 +73,7 @@ impl<O: Opened, A: Allocator + Copy> Index<O, A> {
         self.head.len()
     }
 
-    /// Returns where in the pack the object with this id begins; `None` if the pack does not have it.
+    /// Returns where in the pack the object with this id begins; `None` if it is not there.
     pub(crate) fn find(&mut self, alloc: A, id: ObjectId) -> Result<Option<u64>, Fault> {
         let first = id.0[0];
         self.load(alloc, first)?;

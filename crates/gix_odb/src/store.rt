@@ -59,8 +59,8 @@ fn parsed<A: Allocator + Copy>(
 impl<F: Folders + Drop, A: Allocator + Copy> Store<F, A> {
     /// Opens the store of an `objects` folder, and lists its alternates and packs.
     ///
-    /// An alternate that does not exist is passed over. So is an `objects` folder that does not: then
-    /// all objects are missing.
+    /// An alternate that does not exist is passed over. If the `objects` folder does not exist, all
+    /// objects are missing.
     ///
     /// # Errors
     ///
@@ -93,7 +93,9 @@ impl<F: Folders + Drop, A: Allocator + Copy> Store<F, A> {
         self.chains.set_limit(limit);
     }
 
-    /// Returns the path of the `objects` folder with a number, as in [`FileName`](crate::error::FileName).
+    /// Returns the path of the `objects` folder with a number.
+    ///
+    /// A [`FileName`](crate::error::FileName) has this number.
     pub fn folder(&self, number: usize) -> Option<&[u8]> {
         match self.folders.get(number) {
             Some(folder) => Some(folder.path.as_slice()),

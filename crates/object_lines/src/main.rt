@@ -1,13 +1,14 @@
 //! Prints the objects whose ids are on the lines of its input.
 //!
-//! - `object_lines OBJECTS` prints each object of an `objects` folder as `git cat-file --batch` does:
-//!   `ID KIND SIZE`, and after that line the content and a line feed.
+//! - `object_lines OBJECTS` prints each object of an `objects` folder as `git cat-file --batch`
+//!   does: `ID KIND SIZE`, and after that line the content and a line feed.
 //! - `object_lines --commits OBJECTS` prints the line of each commit as `git rev-list --timestamp
 //!   --parents --no-walk` does: `TIME ID PARENT..`.
 //!
-//! If there is no such object, or a line is not an id, the answer is `LINE missing`. If an object is
-//! not read, the answer is `LINE error: TEXT`. The status is 1 if the store cannot be opened, or input
-//! or output fails, and 2 if the command line is not one of these. `tests/objects` runs this program.
+//! If there is no such object, or a line is not an id, the answer is `LINE missing`. If an object
+//! is not read, the answer is `LINE error: TEXT`. The status is 1 if the store cannot be opened, or
+//! if input or output fails. It is 2 if the command line is not one of these. The scripts of
+//! `tests/objects` run this program.
 #![tactic(auto)]
 
 use gix_base::hash::ObjectId;
