@@ -1,5 +1,5 @@
 # What the comparisons with git share: a room of their own, with no settings of the user's, commits at given times, and
-# the questions that are put to git and to bin/revtool. To be sourced by the scripts of tests/git.
+# the questions that are put to git and to bin/revtool. To be sourced by the scripts of tests/git and tests/objects.
 set -euo pipefail
 top=$(CDPATH='' cd -- "$(dirname -- "$(readlink -f -- "$0")")/../.." && pwd -P)
 
