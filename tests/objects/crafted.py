@@ -10,7 +10,7 @@ from collections.abc import Callable, Iterator
 from dataclasses import dataclass, field
 
 from objects import Object, id_of
-from packs import ID_DELTA, KINDS, LARGE, OFFSET_DELTA, Index, Pack, copied, delta, entry_head, index_of, inserted, number_of
+from packs import ID_DELTA, KINDS, LARGE, OFFSET_DELTA, Index, Pack, copied, delta, index_of, inserted, number_of
 from packs import offset_back, stored_object
 
 GOOD: Object = ("blob", b"A good blob.\n")
@@ -90,23 +90,7 @@ def indexes(source: random.Random) -> Iterator[Store]:
         found.add_pack(pack.text(), index.text() if text is None else text)
         return found
 
-    def fan_out(*rows: int) -> Callable[[Index], None]:
-        return lambda index: index.fan_out.__setitem__(slice(256 - len(rows), 256), rows)
-
-    good = store("that is good", lambda index: None)
-    good.wanted = dict.fromkeys(good.wanted, "R")
-    yield good
-    for claim in (7, 1000, 1 << 16, LARGE - 1, LARGE, (1 << 32) - 1):
-        yield store(f"that claims {claim} objects", fan_out(claim))
-        yield store(f"whose fan-out is {claim}", fan_out(*[claim] * 256))
-    yield store("whose fan-out is 0", fan_out(*[0] * 256))
-    yield store("whose fan-out falls to 0", fan_out(0))
-    yield store("whose fan-out falls", fan_out(*reversed(index_of(pack).fan_out)))
-    for _ in range(30):
-        rows = [source.choice([0, 1, 5, 6, 7, 100, LARGE, (1 << 32) - 1, source.getrandbits(32)]) for _ in range(256)]
-        yield store("with a random fan-out", fan_out(*rows))
-        yield store("with a random fan-out that rises", fan_out(*sorted(rows)))
-        yield store("with one odd row in its fan-out", lambda index: index.fan_out.__setitem__(source.randrange(256), rows[0]))
+    yield from fan_outs(source, store)
     yield store("whose ids fall", lambda index: index.names.reverse())
     yield store("whose ids are one", lambda index: index.names.__setitem__(slice(6), index.names[:1] * 6))
     yield store("of another pack", lambda index: index.text().replace(index.pack, bytes(20)))
@@ -121,6 +105,29 @@ def indexes(source: random.Random) -> Iterator[Store]:
     yield from offsets(pack, whole)
 
 
+def fan_outs(source: random.Random, store: Callable[[str, Callable[[Index], None]], Store]) -> Iterator[Store]:
+    """Yields stores whose index has an odd fan-out, and first a good one."""
+
+    def fan_out(*rows: int) -> Callable[[Index], None]:
+        return lambda index: index.fan_out.__setitem__(slice(256 - len(rows), 256), rows)
+
+    good = store("that is good", lambda index: None)
+    good.wanted = dict.fromkeys(good.wanted, "R")
+    yield good
+    for claim in (7, 1000, 1 << 16, LARGE - 1, LARGE, (1 << 32) - 1):
+        yield store(f"that claims {claim} objects", fan_out(claim))
+        yield store(f"whose fan-out is {claim}", fan_out(*[claim] * 256))
+    yield store("whose fan-out is 0", fan_out(*[0] * 256))
+    yield store("whose fan-out falls to 0", fan_out(0))
+    yield store("whose fan-out falls", lambda index: index.fan_out.reverse())
+    for _ in range(30):
+        rows = [source.choice([0, 1, 5, 6, 7, 100, LARGE, (1 << 32) - 1, source.getrandbits(32)]) for _ in range(256)]
+        yield store("with a random fan-out", fan_out(*rows))
+        yield store("with a random fan-out that rises", fan_out(*sorted(rows)))
+        at = source.randrange(256)
+        yield store("with one odd row in its fan-out", lambda index: index.fan_out.__setitem__(at, rows[0]))
+
+
 def offsets(pack: Pack, whole: list[Object]) -> Iterator[Store]:
     """Yields stores with an index in which one offset leads elsewhere. The other objects have to be right."""
     size, odd = len(pack.text()), id_of(*whole[2])
@@ -130,7 +137,8 @@ def offsets(pack: Pack, whole: list[Object]) -> Iterator[Store]:
     far = [0, at + 1, size, LARGE, 1 << 32, (1 << 63) - 1, 1 << 63, (1 << 64) - 20, (1 << 64) - 1]
     rows = [(f"the offset {to}", to, []) for to in near]
     rows += [(f"the 64-bit offset {to}", LARGE, [to]) for to in far]
-    rows += [("no 64-bit offset", LARGE, []), ("no such 64-bit offset", LARGE + 5, [at]), ("the last 64-bit offset", (1 << 32) - 1, [at])]
+    rows += [("no 64-bit offset", LARGE, [])]
+    rows += [(f"the 64-bit offset number {number}", LARGE + number, [at]) for number in (1, 5, LARGE - 1)]
     for name, to, large in rows:
         store, index = Store(f"an index with {name}"), index_of(pack)
         for found in whole:
@@ -174,7 +182,6 @@ def entries(source: random.Random) -> Iterator[Store]:
             yield entry(f"of kind {kind} that claims {size} bytes", kind, size, stream)
     for size in ((1 << 64) + 13, (1 << 68) + 13, (1 << 700) + 13):
         yield entry(f"that claims {size % 1000} bytes and many more", 3, size, stream, "RE")
-    yield entry("that claims its bytes with zeros before", 3, 13 | 1 << 40, stream)
     for what, body in streams(text):
         yield entry(f"whose stream {what}", 3, 13, body, "RE" if "after" in what else "E")
     made = zlib.compress(delta(210, 13, inserted(text)))
@@ -281,8 +288,6 @@ def deltas() -> Iterator[Store]:
     for size in (b"\xff" * 3, b"\xff" * 30, b"\xff" * 3000):
         yield from store("with an endless size", size)
         yield from store("with an endless second size", number_of(210) + size)
-    yield from circles()
-    yield from chains()
 
 
 def circles() -> Iterator[Store]:
@@ -340,7 +345,9 @@ def chains() -> Iterator[Store]:
         name = pack.object("blob", base)
         for at, size in ((0, 65_536), (4464, 65_536), (69_999, 1), (1, 69_999)):
             text = base[at : at + size]
-            pack.id_delta(id_of("blob", text), name, delta(70_000, size, b"\x8f" + at.to_bytes(4, "little") if size == 65_536 else copied(at, size)))
+            # A size of 0 means 65,536.
+            copy = b"\x8f" + at.to_bytes(4, "little") if size == 65_536 else copied(at, size)
+            pack.id_delta(id_of("blob", text), name, delta(70_000, size, copy))
             store.want("R", id_of("blob", text), ("blob", text))
 
     yield in_pack("copies of 65,536 bytes", long_copy)
@@ -357,7 +364,8 @@ def packs() -> Iterator[Store]:
     pack.object(*inside)
     text, index = pack.text(), index_of(pack).text()
     both = index_of(pack)
-    both.names, both.fan_out, both.offsets, both.checks = both.names * 2, [2 * it for it in both.fan_out], both.offsets * 2, both.checks * 2
+    both.fan_out = [2 * it for it in both.fan_out]
+    both.names, both.offsets, both.checks = both.names * 2, both.offsets * 2, both.checks * 2
     rows = [
         ("that counts 0 entries", pack.text(count=0), index),
         ("that counts 2 entries", pack.text(count=2), index),
@@ -382,6 +390,14 @@ def packs() -> Iterator[Store]:
         store.add_pack(bytes_of_pack, bytes_of_index)
         store.want_object("REM", inside)
         yield store
+
+
+def packs_beside() -> Iterator[Store]:
+    """Yields stores that lack a file of a pack, or have more than one pack with an object."""
+    pack = Pack()
+    inside: Object = ("blob", b"In the odd pack.\n")
+    pack.object(*inside)
+    text, index = pack.text(), index_of(pack).text()
     for end in (".pack", ".idx"):
         store = in_pack(f"a pack without {end}", lambda pack, store: None)
         store.add_pack(text, index)
@@ -429,10 +445,12 @@ def loose() -> Iterator[Store]:
     yield store("with another kind", zlib.compress(b"tree 5\0hello"), "E")
     yield store("with a commit", zlib.compress(b"commit 5\0hello"), "E")
     yield store("that is a folder", None, "EM")
-    for head in ("blob 4", "blob 6", "blob 0", "blob 999", f"blob {1 << 31}", f"blob {1 << 60}", f"blob {(1 << 64) - 1}", "blab 5", "blob -5", "blob"):
+    wrong = ["blob 4", "blob 6", "blob 0", "blob 999", "blab 5", "blob -5", "blob"]
+    for head in wrong + [f"blob {size}" for size in (1 << 31, 1 << 60, (1 << 64) - 1)]:
         yield store(f"that begins with {head}", zlib.compress(head.encode() + b"\0hello"), "E")
-    odd = ["blob 05", "blob 5 ", "blob  5", "blob +5", "Blob 5", "blob5", " blob 5", "", "blob 0x5", "blob\t5", "blob 5\n", "blobblob 5", "blob 5.0"]
-    odd += [f"blob {(1 << 64) + 5}", f"blob {10 ** 40 + 5}", "blob " + "0" * 1000 + "5", "blob" + " " * 1000 + "5", "b" * 1000]
+    odd = ["blob 05", "blob 5 ", "blob  5", "blob +5", "Blob 5", "blob5", " blob 5", "", "blob 0x5", "blob\t5"]
+    odd += ["blob 5\n", "blobblob 5", "blob 5.0"]
+    odd += [f"blob {(1 << 64) + 5}", f"blob {10 ** 40 + 5}", f"blob {'0' * 1000}5", f"blob{' ' * 1000}5", "b" * 1000]
     for head in odd:
         yield store(f"that begins with {head[:30]}", zlib.compress(head.encode() + b"\0hello"), "RE")
     for text in (b"", b"b", b"blob", b"blob ", b"blob 5", b"blob 5\0", b"blob 5\0hell", b"blob 5\0hello!", b"hello", b"blob 5\nhello"):
@@ -546,7 +564,7 @@ def bombs() -> Iterator[Store]:
         for at in range(4):
             made = bytes(16 * size) if at == 0 else b""
             target = id_of("blob", made) if made else NONE[at]
-            piece = [copied(at * (1 << 23), min(1 << 23, size - at * (1 << 23))) for at in range(-(-size // (1 << 23)))]
+            piece = [copied(at, min(1 << 23, size - at)) for at in range(0, size, 1 << 23)]
             pack.id_delta(target, name, delta(size, 16 * size, *piece * 16))
             store.want("R" if made else "E", target, ("blob", made) if made else None)
             name, size = target, 16 * size
@@ -564,7 +582,10 @@ def stores(source: random.Random) -> Iterator[Store]:
     yield from indexes(source)
     yield from entries(source)
     yield from deltas()
+    yield from circles()
+    yield from chains()
     yield from packs()
+    yield from packs_beside()
     yield from loose()
     yield from alternates()
     yield from growing()

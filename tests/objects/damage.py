@@ -19,7 +19,7 @@ from dataclasses import dataclass
 from glob import glob
 
 from crafted import Store, stores
-from objects import ask, commit_answers, content_answer, git, history, lines_of, objects_in, outcomes, read, write
+from objects import Answered, ask, commit_answers, content_answer, git, history, lines_of, objects_in, outcomes, read, write
 from packs import stored_object
 
 # A program that has not answered after so many seconds hangs.
@@ -106,8 +106,8 @@ class Small:
         """Adds a pack of a history of its own, and returns the ids in it."""
         stream = history(source, 12, branch, is_line=True, words=60)
         git(outside, "fast-import", "--quiet", "--force", given=stream)
-        listed = git(outside, "rev-list", "--objects", branch).decode().splitlines()
-        names = [line.split(" ")[0] for line in listed] + git(outside, "for-each-ref", "--format=%(objectname)", "refs/tags").decode().split()
+        names = [line.split(" ")[0] for line in git(outside, "rev-list", "--objects", branch).decode().splitlines()]
+        names += git(outside, "for-each-ref", "--format=%(objectname)", "refs/tags").decode().split()
         git(outside, "update-ref", "--stdin", given=git(outside, "for-each-ref", "--format=delete %(refname)", "refs/tags"))
         git(self.folder, "--git-dir", outside, "pack-objects", "-q", *words, f"{self.objects}/pack/pack", given=lines_of(names))
         return names
@@ -191,6 +191,12 @@ class Trial:
         elif sum(self.faults.values()) == 200:
             sys.exit("200 faults")
 
+    def is_refused(self, answered: Answered) -> bool:
+        """Tests whether the program refuses a whole store for its alternates, by name and with status 1. git reads on."""
+        is_so = answered.status == 1 and not answered.text and b"alternate" in answered.errors
+        self.counts["refused"] += is_so
+        return is_so
+
     def count(self, outcome: str) -> None:
         self.counts[outcome if outcome in ("right", "missing") else "error"] += 1
 
@@ -203,14 +209,17 @@ class Trial:
         right = small.lines if commits else small.right
         answered = ask(self.program, small.objects, names, commits, SECONDS)
         write(file.path, file.text)
+        if file.kind == "alternates" and self.is_refused(answered):
+            return
         suffering, may_be_missing = file.suffering(at, new is None)
         found = outcomes(answered, names, right)
         for place, outcome in enumerate(found):
             name = names[place] if place < len(names) else "the end"
             self.count(outcome)
             if not self.is_allowed(small, name, outcome, commits, name in suffering, may_be_missing):
-                what = f"{os.path.relpath(file.path, small.objects)}, " + (f"cut at {at}" if new is None else f"byte {at} is {new.hex()}")
-                self.fault(file.kind, f"{what}{', commits' if commits else ''}: {name}: {outcome[:200]}")
+                what = f"cut at {at}" if new is None else f"with {new.hex()} at {at}"
+                where = f"{os.path.relpath(file.path, small.objects)} {what}{', commits' if commits else ''}"
+                self.fault(file.kind, f"{where}: {name}: {outcome[:200]}")
                 return
 
     def is_allowed(self, small: Small, name: str, outcome: str, commits: bool, suffers: bool, may_be_missing: bool) -> bool:
@@ -236,6 +245,8 @@ class Trial:
         names = list(store.wanted)
         for commits in (False,) if store.is_large else (False, True):
             answered = ask(self.program, objects, names, commits, SECONDS)
+            if "info/alternates" in store.files and self.is_refused(answered):
+                continue
             for place, outcome in enumerate(outcomes(answered, names, {} if commits else right)):
                 name = names[place] if place < len(names) else "the end"
                 self.count(outcome)
@@ -243,9 +254,11 @@ class Trial:
                 if commits:
                     wanted = wanted.replace("R", "E")
                 is_allowed = ("R" in wanted and outcome == "right") or ("M" in wanted and outcome == "missing")
-                is_allowed |= "E" in wanted and outcome.startswith("error: ") and (store.is_large or not outcome.startswith(NO_MEMORY))
+                has_memory = store.is_large or not outcome.startswith(NO_MEMORY)
+                is_allowed |= "E" in wanted and outcome.startswith("error: ") and has_memory
                 if not is_allowed:
-                    self.fault("stores", f"{store.name}{', commits' if commits else ''}: {name}: {outcome[:200]}, wanted one of {wanted}")
+                    where = f"{store.name}{', commits' if commits else ''}"
+                    self.fault(store.name, f"{where}: {name}: {outcome[:200].strip()}, wanted one of {wanted}")
                     break
 
     def judged_by_git(self, folder: str, store: Store) -> None:
@@ -276,8 +289,10 @@ def main() -> int:
             trial.judged_by_git(folder, store)
         tried += 1
     counts = ", ".join(f"{trial.counts[it]} {it}" for it in ("right", "error", "missing"))
-    print(f"{count} damages and {tried} odd stores: {counts}" + (f"; {sum(trial.faults.values())} faults" if trial.faults else ""))
-    return 1 if trial.faults else 0
+    counts += f"; {trial.counts['refused']} stores refused"
+    faults = sum(trial.faults.values())
+    print(f"{count} damages and {tried} odd stores: {counts}" + (f"; {faults} faults" if faults else ""))
+    return 1 if faults else 0
 
 
 sys.exit(main())

@@ -391,7 +391,8 @@ class Comparison:
         lines += self.source.sample(absent, min(50, len(absent)))
         lines += [f"{self.source.getrandbits(160):040x}" for _ in range(20)] + ["12AB" * 10, "ab" * 19 + "Cd"]
         lines += [it[:-1] + ("0" if it[-1] != "0" else "1") for it in names[:20]]
-        lines += ["0" * 40, "f" * 40, "g" * 40, "no id", "-", f"{'12' * 20}0", f"{'12' * 20} ", f" {'12' * 20}", f"{'12' * 20} blob"]
+        odd = "12" * 20
+        lines += ["0" * 40, "f" * 40, "g" * 40, "no id", "-", f"{odd}0", f"{odd} ", f" {odd}", f"{odd} blob"]
         self.source.shuffle(lines)
         return lines
 
@@ -404,9 +405,10 @@ class Comparison:
         if answered.status != 0 or answered.errors:
             self.fault(f"{name}: status {answered.status}, {answered.errors[:200].decode(errors='replace')}")
         elif answered.text != wanted:
-            at = next((at for at, (a, b) in enumerate(zip(answered.text, wanted)) if a != b), min(len(answered.text), len(wanted)))
-            begin = wanted.rfind(b"\n", 0, max(at - 50, 0)) + 1
-            self.fault(f"{name}: at byte {at}\n  answered {answered.text[begin : at + 50]!r}\n  git      {wanted[begin : at + 50]!r}")
+            pairs = enumerate(zip(answered.text, wanted))
+            at = next((at for at, (a, b) in pairs if a != b), min(len(answered.text), len(wanted)))
+            here = slice(max(at - 60, 0), at + 60)
+            self.fault(f"{name}: at byte {at}\n  answered {answered.text[here]!r}\n  git      {wanted[here]!r}")
 
     def of_commits(self, name: str, folder: str, found: dict[str, Object]) -> None:
         """Compares the lines of all commits, and checks that no other object is taken for a commit."""
@@ -420,7 +422,8 @@ class Comparison:
         answers = answered.text.splitlines(keepends=True)
         self.commits += len(lines)
         if answered.status != 0 or answered.errors or len(answers) != len(lines):
-            self.fault(f"{name}, commits: status {answered.status}, {len(answers)} answers to {len(lines)} ids {answered.errors[:200]!r}")
+            count = f"{len(answers)} answers to {len(lines)} ids"
+            self.fault(f"{name}, commits: status {answered.status}, {count} {answered.errors[:200]!r}")
             return
         for line, answer in zip(lines, answers):
             if line in by_git:
@@ -481,10 +484,8 @@ def main() -> int:
         compared.of_repository(name, make(room))
     compared.of_old_index(room)
     compared.of_repack(room)
-    print(
-        f"{len(REPOSITORIES) + 2} repositories: {compared.objects} answers about contents, {compared.missing} of them missing, and"
-        f" {compared.commits} about commits" + (f"; {compared.faults} differ" if compared.faults else " are git's")
-    )
+    counts = f"{compared.objects} answers about contents, {compared.missing} of them missing, and {compared.commits} about commits"
+    print(f"{len(REPOSITORIES) + 2} repositories: {counts}" + (f"; {compared.faults} differ" if compared.faults else " are git's"))
     return 1 if compared.faults else 0
 
 
