@@ -10,8 +10,8 @@ from collections.abc import Callable, Iterator
 from dataclasses import dataclass, field
 
 from objects import Object, id_of
-from packs import ID_DELTA, KINDS, LARGE, OFFSET_DELTA, Index, Pack, copied, delta, index_of, inserted, number_of
-from packs import offset_back, stored_object
+from pack_writer import ID_DELTA, KINDS, LARGE, OFFSET_DELTA, Index, Pack, copied, delta, index_of, inserted, number_of
+from pack_writer import offset_back, stored_object
 
 GOOD: Object = ("blob", b"A good blob.\n")
 BASE: Object = ("blob", b"The base of a delta.\n" * 10)

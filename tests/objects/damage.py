@@ -20,7 +20,7 @@ from glob import glob
 
 from crafted import Store, stores
 from objects import Answered, ask, commit_answers, content_answer, git, history, lines_of, objects_in, outcomes, read, write
-from packs import stored_object
+from pack_writer import stored_object
 
 # A program that has not answered after so many seconds hangs.
 SECONDS = 60

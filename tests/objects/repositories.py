@@ -19,7 +19,7 @@ from glob import glob
 
 from objects import Answered, Object, ask, commit_answers, content_answer, git, history, data, edited, lines_of, objects_in
 from objects import outcomes, read, text_of, write
-from packs import ID_DELTA, OFFSET_DELTA
+from pack_writer import ID_DELTA, OFFSET_DELTA
 
 # The empty tree is the only object that git has in every repository.
 EMPTY_TREE = "4b825dc642cb6eb9a060e54bf8d69288fbee4904"
