@@ -3,6 +3,7 @@
 use crate::fake::{Fake, Turn};
 use crate::tables::{IDS, all_written};
 use gix_base::hash::ObjectId;
+use gix_odb::files::Folders;
 use gix_odb::{Error, Store};
 use refusing::Refusing;
 use std::alloc::{Allocator, Global};
@@ -18,17 +19,30 @@ fn is_refusal(error: Error) -> bool {
     )
 }
 
+/// Returns the files. The call on them with the number `fails` fails.
+fn fake<'a>(files: &'a [Vec<u8>], calls: &'a Cell<u64>, fails: u64, most: usize) -> Fake<'a> {
+    let turn = Turn { calls, fails };
+    Fake { files, turn, most }
+}
+
 /// Opens the store, once more if the first try was refused.
-fn opened<'a, A: Allocator + Copy>(alloc: A, fake: Fake<'a>) -> Option<Store<Fake<'a>, A>> {
-    match Store::open(alloc, fake, b"first") {
+fn opened<F: Folders + Copy + Drop, A: Allocator + Copy>(
+    alloc: A,
+    files: F,
+) -> Option<Store<F, A>> {
+    match Store::open(alloc, files, b"first") {
         Ok(store) => Some(store),
-        Err(error) if is_refusal(error) => Store::open(alloc, fake, b"first").ok(),
+        Err(error) if is_refusal(error) => Store::open(alloc, files, b"first").ok(),
         Err(_) => None,
     }
 }
 
 /// Tells whether the object with this id is read, at the second try if the first was refused.
-fn is_read<A: Allocator + Copy>(alloc: A, store: &mut Store<Fake<'_>, A>, id: ObjectId) -> bool {
+fn is_read<F: Folders + Drop, A: Allocator + Copy>(
+    alloc: A,
+    store: &mut Store<F, A>,
+    id: ObjectId,
+) -> bool {
     match store.read(alloc, id) {
         Ok(_) => true,
         Err(error) => is_refusal(error) && store.read(alloc, id).is_ok(),
@@ -36,7 +50,7 @@ fn is_read<A: Allocator + Copy>(alloc: A, store: &mut Store<Fake<'_>, A>, id: Ob
 }
 
 /// Tells whether a missing object is reported, at the second try if the first was refused.
-fn is_missing<A: Allocator + Copy>(alloc: A, store: &mut Store<Fake<'_>, A>) -> bool {
+fn is_missing<F: Folders + Drop, A: Allocator + Copy>(alloc: A, store: &mut Store<F, A>) -> bool {
     let id = ObjectId([0xf3; 20]);
     match store.read(alloc, id) {
         Ok(_) => false,
@@ -46,7 +60,7 @@ fn is_missing<A: Allocator + Copy>(alloc: A, store: &mut Store<Fake<'_>, A>) -> 
 }
 
 /// Tells whether all objects are read, and no other.
-fn are_read<A: Allocator + Copy>(alloc: A, store: &mut Store<Fake<'_>, A>) -> bool {
+fn are_read<F: Folders + Drop, A: Allocator + Copy>(alloc: A, store: &mut Store<F, A>) -> bool {
     for digits in &IDS {
         let Ok(id) = ObjectId::from_hex(digits.as_bytes()) else {
             return false;
@@ -59,8 +73,8 @@ fn are_read<A: Allocator + Copy>(alloc: A, store: &mut Store<Fake<'_>, A>) -> bo
 }
 
 /// Tells whether a new store reads all objects.
-fn reads_all<A: Allocator + Copy>(alloc: A, fake: Fake<'_>) -> bool {
-    match opened(alloc, fake) {
+fn reads_all<F: Folders + Copy + Drop, A: Allocator + Copy>(alloc: A, files: F) -> bool {
+    match opened(alloc, files) {
         Some(mut store) => are_read(alloc, &mut store),
         None => false,
     }
@@ -71,11 +85,7 @@ fn reads_all<A: Allocator + Copy>(alloc: A, fake: Fake<'_>) -> bool {
 fn failed_calls(alloc: Global, files: &[Vec<u8>], most: usize) -> u64 {
     for fails in 0..100_000u64 {
         let calls = Cell::new(0u64);
-        let turn = Turn {
-            calls: &calls,
-            fails,
-        };
-        if !reads_all(alloc, Fake { files, turn, most }) {
+        if !reads_all(alloc, fake(files, &calls, fails, most)) {
             return 0;
         }
         if calls.get() <= fails {
@@ -89,13 +99,8 @@ fn failed_calls(alloc: Global, files: &[Vec<u8>], most: usize) -> u64 {
 fn failed_allocations(alloc: Global, files: &[Vec<u8>]) -> u64 {
     for before in 0..100_000u64 {
         let calls = Cell::new(0u64);
-        let turn = Turn {
-            calls: &calls,
-            fails: u64::MAX,
-        };
-        let most = usize::MAX;
         let memory = Refusing::new(alloc, before);
-        if !reads_all(&memory, Fake { files, turn, most }) {
+        if !reads_all(&memory, fake(files, &calls, u64::MAX, usize::MAX)) {
             return 0;
         }
         if !memory.has_refused() {
