@@ -191,12 +191,6 @@ class Trial:
         elif sum(self.faults.values()) == 200:
             sys.exit("200 faults")
 
-    def is_refused(self, answered: Answered) -> bool:
-        """Tests whether the program refuses a whole store for its alternates, by name and with status 1. git reads on."""
-        is_so = answered.status == 1 and not answered.text and b"alternate" in answered.errors
-        self.counts["refused"] += is_so
-        return is_so
-
     def count(self, outcome: str) -> None:
         self.counts[outcome if outcome in ("right", "missing") else "error"] += 1
 
@@ -209,8 +203,6 @@ class Trial:
         right = small.lines if commits else small.right
         answered = ask(self.program, small.objects, names, commits, SECONDS)
         write(file.path, file.text)
-        if file.kind == "alternates" and self.is_refused(answered):
-            return
         suffering, may_be_missing = file.suffering(at, new is None)
         found = outcomes(answered, names, right)
         for place, outcome in enumerate(found):
@@ -245,8 +237,6 @@ class Trial:
         names = list(store.wanted)
         for commits in (False,) if store.is_large else (False, True):
             answered = ask(self.program, objects, names, commits, SECONDS)
-            if "info/alternates" in store.files and self.is_refused(answered):
-                continue
             for place, outcome in enumerate(outcomes(answered, names, {} if commits else right)):
                 name = names[place] if place < len(names) else "the end"
                 self.count(outcome)
@@ -289,7 +279,6 @@ def main() -> int:
             trial.judged_by_git(folder, store)
         tried += 1
     counts = ", ".join(f"{trial.counts[it]} {it}" for it in ("right", "error", "missing"))
-    counts += f"; {trial.counts['refused']} stores refused"
     faults = sum(trial.faults.values())
     print(f"{count} damages and {tried} odd stores: {counts}" + (f"; {faults} faults" if faults else ""))
     return 1 if faults else 0

@@ -74,9 +74,9 @@ class Answered:
     errors: bytes
 
 
-def ask(program: str, objects: str, names: list[str], commits: bool = False, seconds: float = 60) -> Answered:
+def ask(program: str, objects: str, names: list[str], commits: bool = False, seconds: float = 60, mode: str = "") -> Answered:
     """Asks a program about ids, and waits for at most so many seconds."""
-    words = [program, *(["--commits"] if commits else []), objects]
+    words = [program, *(["--commits"] if commits else [mode] if mode else []), objects]
     try:
         # Without close_fds=False a process would take twice as long to start.
         run = subprocess.run(words, input=lines_of(names), capture_output=True, close_fds=False, timeout=seconds)

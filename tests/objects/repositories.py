@@ -244,6 +244,22 @@ def circle_of_alternates(room: Room) -> str:
     return one
 
 
+def quoted_alternates(room: Room) -> str:
+    """A repository whose alternates are in quotes, with escapes: a tab, a quote, a line end and bytes of UTF-8."""
+    folder = room.new()
+    paths = []
+    for at, name in enumerate(['plain', 'a "quote"', "a\tab", "two\nlines", "grün", "back\\slash"]):
+        it = f"{room.new()}/{name}"
+        git(folder, "init", "-q", "--bare", it)
+        stored(it, b"%d\n" % at)
+        paths += [f"{it}/objects"]
+    escapes = {"\t": "\\t", "\n": "\\n", '"': '\\"', "\\": "\\\\", "ü": "\\303\\274"}
+    lines = ['"' + "".join(escapes.get(letter, letter) for letter in path) + '"\n' for path in paths]
+    write(f"{folder}/objects/info/alternates", "".join([*lines, '"unfinished\n', '"wrong\\q"\n']).encode())
+    assert len(objects_in(folder)) == len(paths)
+    return folder
+
+
 def without_objects(room: Room) -> str:
     return room.new()
 
@@ -349,6 +365,7 @@ REPOSITORIES: dict[str, Callable[[Room], str]] = {
     "alternates": alternates,
     "nested alternates": nested_alternates,
     "alternates in a circle": circle_of_alternates,
+    "alternates in quotes": quoted_alternates,
     "no object": without_objects,
     "small objects": smallest,
     "small objects in a pack": smallest_packed,
@@ -381,6 +398,8 @@ class Comparison:
         self.of_contents(f"{name}, in the order of files", folder, order)
         self.of_contents(f"{name}, in random order", folder, self.shuffled(found))
         self.of_commits(name, folder, found)
+        self.of_tags(name, folder, found)
+        self.of_ids(name, folder, found)
 
     def shuffled(self, found: dict[str, Object]) -> list[str]:
         """Returns lines in random order: the ids of the objects, some of them twice or in capitals, ids that are not there, and
@@ -436,6 +455,43 @@ class Comparison:
                 is_right = answer == wanted
             if not is_right:
                 self.fault(f"{name}, commits\n  answered {answer[:200]!r}\n  git      {wanted[:200]!r}")
+
+    def of_answers(self, name: str, folder: str, mode: str, wanted: dict[str, bytes]) -> None:
+        """Compares the answers to lines in a mode of the program."""
+        answered = ask(self.program, f"{folder}/objects", list(wanted), mode=mode)
+        answers = answered.text.splitlines()
+        self.objects += len(wanted)
+        if answered.status != 0 or answered.errors or len(answers) != len(wanted):
+            count = f"{len(answers)} answers to {len(wanted)} lines"
+            self.fault(f"{name}, {mode}: status {answered.status}, {count} {answered.errors[:200]!r}")
+            return
+        for line, answer in zip(wanted, answers):
+            if answer != wanted[line]:
+                self.fault(f"{name}, {mode}, {line}\n  answered {answer[:200]!r}\n  wanted   {wanted[line][:200]!r}")
+
+    def of_tags(self, name: str, folder: str, found: dict[str, Object]) -> None:
+        """Compares what tags say with the lines of their contents, and checks that no other object is taken for a tag."""
+        wanted = {}
+        for line in self.source.sample(list(found), min(40, len(found))) + [it for it in found if found[it][0] == "tag"]:
+            kind, content = found[line]
+            wanted[line] = b"%s error: not a tag: object %s is a %s" % (line.encode(), line.encode(), kind.encode())
+            if kind == "tag":
+                rows = dict(row.split(b" ", 1) for row in content.split(b"\n\n")[0].split(b"\n"))
+                date = rows[b"tagger"].split()[-2] if b"tagger" in rows else b"0"
+                wanted[line] = b" ".join([rows[b"object"], rows[b"type"], date, rows[b"tag"]])
+        self.of_answers(name, folder, "--tags", wanted)
+
+    def of_ids(self, name: str, folder: str, found: dict[str, Object]) -> None:
+        """Compares which ids begin with some digits."""
+        names = sorted(found)
+        lines = [it[: self.source.choice([4, 5, 6, 7, 39, 40])] for it in self.source.sample(names, min(60, len(names)))]
+        lines += [f"{self.source.getrandbits(16):04x}" for _ in range(20)] + ["0000", "ffff", "f" * 40]
+        lines += [it[:5].upper() for it in names[:5]]
+        wanted = {}
+        for line in lines:
+            ids = [it for it in names if it.startswith(line.lower())][:16]
+            wanted[line] = " ".join([f"{line}:", *ids]).encode()
+        self.of_answers(name, folder, "--ids", wanted)
 
     def of_old_index(self, room: Room) -> None:
         """Compares an index of version 1, which the program may refuse by name."""

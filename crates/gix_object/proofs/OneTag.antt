@@ -7,14 +7,20 @@ use Rattle.gix_object.specs.TagForm.{IsTag, IsRefused}
 use Rattle.gix_object.specs.declared.tag.ParseError.{ParseError}
 use Rattle.gix_object.specs.declared.tag.ParseError.TheVariants.{BadObject, BadType, UnknownType, NoName}
 
-pub no-tag : (text : List ℕ) (error : ParseError) (target : ObjectId) (kind : Kind) → IsRefused text error → ¬ IsTag text target kind
-no-tag text BadObject target kind wrong is = wrong is.object
-no-tag text BadType target kind wrong is = wrong.1 is.type
-no-tag text UnknownType target kind wrong is = wrong.2 kind is.says
-no-tag text NoName target kind wrong is = wrong.3 is.name
+pub no-tag :
+    (text : List ℕ) (error : ParseError) (target : ObjectId) (kind : Kind) (name : List ℕ) (date : ℕ)
+    → IsRefused text error → ¬ IsTag text target kind name date
+no-tag text BadObject target kind name date wrong is = wrong is.object
+no-tag text BadType target kind name date wrong is = wrong.1 is.type
+no-tag text UnknownType target kind name date wrong is = wrong.2 kind is.says
+no-tag text NoName target kind name date wrong is = wrong.3 is.named
 
-pub one-tag : (text : List ℕ) (target other : ObjectId) (kind more : Kind) → IsTag text target kind → IsTag text other more → (target ≡ other) × (kind ≡ more)
-one-tag text target other kind more a b = (a.names ∙ sym b.names, one-name kind more (a.says ∙ sym b.says))
+pub one-tag :
+    (text : List ℕ) (target other : ObjectId) (kind more : Kind) (name word : List ℕ) (date moment : ℕ)
+    → IsTag text target kind name date → IsTag text other more word moment
+    → (target ≡ other) × (kind ≡ more) × (name ≡ word) × (date ≡ moment)
+one-tag text target other kind more name word date moment a b =
+    (a.names ∙ sym b.names, one-name kind more (a.says ∙ sym b.says), a.calls ∙ sym b.calls, a.dates ∙ sym b.dates)
 
 pub one-error : (text : List ℕ) (error other : ParseError) → IsRefused text error → IsRefused text other → error ≡ other
 one-error text BadObject BadObject p q = refl

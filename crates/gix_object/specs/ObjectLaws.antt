@@ -27,17 +27,18 @@ OneCommitError =
     (text : List ℕ) (error other : ParseError) → error ≢ OutOfMemory → other ≢ OutOfMemory
     → commit.IsRefused text error → commit.IsRefused text other → error ≡ other
 
--- A content is the one of a tag with one target and one kind.
+-- A content is the one of a tag with one target, one kind, one name and one date.
 abbrev pub OneTag : Type 0
 OneTag =
-    (text : List ℕ) (target other : ObjectId) (kind more : Kind)
-    → tag.IsTag text target kind → tag.IsTag text other more → (target ≡ other) × (kind ≡ more)
+    (text : List ℕ) (target other : ObjectId) (kind more : Kind) (name word : List ℕ) (date moment : ℕ)
+    → tag.IsTag text target kind name date → tag.IsTag text other more word moment
+    → (target ≡ other) × (kind ≡ more) × (name ≡ word) × (date ≡ moment)
 
 -- A content with an error is not the one of a tag.
 abbrev pub RefusedIsNoTag : Type 0
 RefusedIsNoTag =
-    (text : List ℕ) (error : TagError) (target : ObjectId) (kind : Kind)
-    → tag.IsRefused text error → ¬ tag.IsTag text target kind
+    (text : List ℕ) (error : TagError) (target : ObjectId) (kind : Kind) (name : List ℕ) (date : ℕ)
+    → tag.IsRefused text error → ¬ tag.IsTag text target kind name date
 
 -- A content has at most one error as the content of a tag.
 abbrev pub OneTagError : Type 0

@@ -6,7 +6,7 @@ ghost use Rattle.gix_object.specs.Authentic.{IsAuthentic};
 ghost use Rattle.gix_object.specs.AuthenticErrors.{IsRefused};
 ghost use Rattle.gix_object.specs.ErrorTexts.{read_error_text};
 
-use crate::commit::{Commit, ParseError, parse};
+use crate::commit::{ParseError, parse};
 use crate::object::is_authentic;
 use gix_base::hash::ObjectId;
 use gix_base::object::Kind;
@@ -55,11 +55,7 @@ pub fn read<A: Allocator>(
         return Err(ReadError::WrongId);
     }
     match parse(alloc, content) {
-        Ok(Commit { parents, time }) => Ok(SourceCommit {
-            parents,
-            time,
-            generation: None,
-        }),
+        Ok(commit) => Ok(commit.into_source()),
         Err(error) => Err(ReadError::Parse(error)),
     }
 }

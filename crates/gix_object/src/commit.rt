@@ -1,26 +1,42 @@
 //! Reads the content of a commit (git-commit-tree, "DESCRIPTION"), as git's own walks do.
 
-ghost use Rattle.std.specs.Prelude.{◌≡◌, ◌++◌, ◌<◌, ◌^◌, pos, MatchOption, Some, SomeIff, IfOk, IfErr, OnOk, ◌∷◌, []};
+ghost use Rattle.std.specs.Prelude.{◌≡◌, ◌++◌, ◌<◌, ◌^◌, pos, MatchOption, Some, None, SomeIff, IfOk, IfErr, OnOk, ◌∷◌, []};
 ghost use Rattle.gix_object.specs.Lines.{id_at};
-ghost use Rattle.gix_object.specs.CommitTime.{date_at, committed_at, seconds_at};
+ghost use Rattle.gix_object.specs.CommitTime.{committed_at, seconds_at};
 ghost use Rattle.gix_object.specs.CommitForm.{is_parent, IsParent, AreParents, IsUnread, IsCommit, IsRefused};
 ghost use Rattle.gix_object.specs.ErrorTexts.{commit_error_text};
 
 use crate::bytes::{after, after_line, begins, line_id};
-use crate::digits::{signed, without_space};
+use crate::digits::date;
 use gix_base::hash::ObjectId;
+use gix_revwalk::graph::SourceCommit;
 use std::alloc::{AllocError, Allocator, Global};
 use std::fmt;
 use thiserror::Error as StdError;
 
-/// Is what git's walks take from a commit.
+/// What git's walks take from a commit.
 #[derive(Drop)]
 #[derive_where(Debug, PartialEq, Eq)]
 pub struct Commit<A: Allocator = Global> {
-    /// Has the ids of the parents, in order.
+    /// The ids of the parents, in order.
     pub parents: Vec<ObjectId, A>,
-    /// Is the time of the committer, in seconds since the Unix epoch.
+    /// The time of the committer, in seconds since the Unix epoch.
     pub time: i64,
+}
+
+impl<A: Allocator> Commit<A> {
+    /// Returns the commit as a source has it, without a generation number.
+    pub fn into_source(self) -> SourceCommit<A>
+        ensures parents { result.parents ≡ self.parents }
+        ensures time { result.time ≡ self.time }
+        ensures no_generation { result.generation ≡ None }
+    {
+        SourceCommit {
+            parents: self.parents,
+            time: self.time,
+            generation: None,
+        }
+    }
 }
 
 /// Says why the content of a commit is not read.
@@ -106,18 +122,6 @@ fn parents<A: Allocator>(
         rest = after_line(rest, 48);
     }
     Ok((ids, rest))
-}
-
-// Returns the number at the front of a date, or 0 if the date's line is not followed by anything.
-#[tactic(auto, unfolding(crate::specs::CommitTime::date_at))]
-fn date(text: &[u8]) -> u64
-    ensures { result ≡ date_at text.now }
-{
-    if after(text, b'\n').is_empty() {
-        0
-    } else {
-        signed(without_space(text))
-    }
 }
 
 // Returns the date in the committer's line, or 0 if `text` does not begin with one.

@@ -1,8 +1,10 @@
-//! Reads the number in a commit's date, as C's `strtoumax` does.
+//! Reads the number in the date of a commit or a tag, as C's `strtoumax` does.
 
 ghost use Rattle.std.specs.Prelude.{◌≡◌, ◌+◌, ◌-◌, ◌*◌, ◌^◌, ◌<◌, SomeIff};
 ghost use Rattle.std.specs.List.{prefix_len};
-ghost use Rattle.gix_object.specs.CommitTime.{is_space, without_space, number_of, negated, capped, signed_at};
+ghost use Rattle.gix_object.specs.CommitTime.{is_space, without_space, number_of, negated, capped, signed_at, date_at};
+
+use crate::bytes::after;
 
 // Returns whether a byte is white space.
 fn is_space(byte: u8) -> bool
@@ -23,9 +25,9 @@ fn space_length(text: &[u8]) -> usize
     text.len()
 }
 
-/// Returns `text` without the white space at its front.
+// Returns `text` without the white space at its front.
 #[tactic(auto, unfolding(crate::specs::CommitTime::without_space))]
-pub(crate) fn without_space(text: &[u8]) -> &[u8]
+fn without_space(text: &[u8]) -> &[u8]
     ensures { result.now ≡ without_space text.now }
 {
     let count = space_length(text);
@@ -80,14 +82,26 @@ fn negated(text: &[u8]) -> u64
     }
 }
 
-/// Returns the number that `text` begins with, which may have a sign.
+// Returns the number that `text` begins with, which may have a sign.
 #[tactic(auto, unfolding(crate::specs::CommitTime::signed_at))]
-pub(crate) fn signed(text: &[u8]) -> u64
+fn signed(text: &[u8]) -> u64
     ensures { result ≡ signed_at text.now }
 {
     match text {
         [b'-', digits @ ..] => negated(digits),
         [b'+', digits @ ..] => capped(digits),
         _ => capped(text),
+    }
+}
+
+/// Returns the number at the front of a date, or 0 if the date's line is not followed by anything.
+#[tactic(auto, unfolding(crate::specs::CommitTime::date_at))]
+pub(crate) fn date(text: &[u8]) -> u64
+    ensures { result ≡ date_at text.now }
+{
+    if after(text, b'\n').is_empty() {
+        0
+    } else {
+        signed(without_space(text))
     }
 }

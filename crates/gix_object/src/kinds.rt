@@ -6,17 +6,24 @@ ghost use Rattle.gix_object.specs.ObjectForm.{kind_name};
 
 use gix_base::object::Kind;
 
-/// Returns the name of a kind.
+/// Returns the name of a kind, as git writes it (gitglossary, "object type").
 #[tactic(auto, unfolding(crate::specs::ObjectForm::kind_name))]
-pub(crate) fn name(kind: Kind) -> &'static [u8]
+pub fn kind_name(kind: Kind) -> &'static str
     ensures { result.now ≡ kind_name kind }
 {
     match kind {
-        Kind::Tree => b"tree",
-        Kind::Blob => b"blob",
-        Kind::Commit => b"commit",
-        Kind::Tag => b"tag",
+        Kind::Tree => "tree",
+        Kind::Blob => "blob",
+        Kind::Commit => "commit",
+        Kind::Tag => "tag",
     }
+}
+
+/// Returns the bytes of the name of a kind.
+pub(crate) fn name(kind: Kind) -> &'static [u8]
+    ensures { result.now ≡ kind_name kind }
+{
+    kind_name(kind).as_bytes()
 }
 
 /// Returns the kind that has the name `text`.

@@ -15,7 +15,7 @@ pub fn refused_is_no_commit()
     ensures one { OneCommitError }
 {}
 
-/// States that a content is the content of a tag of one object.
+/// States that a content is the content of a tag with one target, one name and one date.
 pub fn one_tag()
     ensures { OneTag }
 {}

@@ -14,4 +14,5 @@ pub mod loose;
 mod object;
 pub mod tag;
 
+pub use kinds::kind_name;
 pub use object::{is_authentic, object_id};

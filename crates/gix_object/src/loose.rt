@@ -10,7 +10,10 @@ use crate::kinds::kind_of_name;
 use gix_base::object::Kind;
 use itoa::Buffer;
 
-/// Is the header of a loose object.
+/// How many bytes a header has at most.
+pub const MOST_HEADER: usize = 28;
+
+/// The header of a loose object.
 #[derive(Clone, Copy, Debug, PartialEq, Eq)]
 pub struct Header {
     pub kind: Kind,
@@ -63,8 +66,8 @@ fn kind_and_size(text: &[u8]) -> Option<(Kind, u64)>
 /// Returns the header at the front of `bytes`, or `None` if they do not begin with a header.
 ///
 /// A header has the name of the kind, a space, the size in decimal digits without needless zeros,
-/// and a byte 0 (gitformat-loose). It has at most 28 bytes, so that the first 28 bytes of an object
-/// are enough. Sizes of 2^64 and more are refused.
+/// and a byte 0 (gitformat-loose). It has at most [`MOST_HEADER`] bytes, so that so many bytes of an
+/// object are enough. Sizes of 2^64 and more are refused.
 pub fn parse_header(bytes: &[u8]) -> Option<Header>
     ensures header { MatchOption result
         ((kind : Kind) → (size : ℕ) → (rest : List ℕ) → size < 2 ^ 64

@@ -1,23 +1,29 @@
-//! Reads the content of a tag (git-mktag, "TAG FORMAT"), as git does when it peels the tag.
+//! Reads the content of a tag (git-mktag, "TAG FORMAT"), as git's own readers of tags do.
 
-ghost use Rattle.std.specs.Prelude.{◌≡◌, ◌↔◌, IsTrue, Some, MatchOption, IfOk, IfErr};
+ghost use Rattle.std.specs.Prelude.{◌≡◌, Some, MatchOption, IfOk, IfErr};
 ghost use Rattle.gix_object.specs.Lines.{before, after, id_at};
-ghost use Rattle.gix_object.specs.TagForm.{HasObject, HasType, type_of, HasName, IsTag, IsRefused};
+ghost use Rattle.gix_object.specs.TagForm.{HasObject, HasType, type_of, HasName, name_of, tagged_at, date_in, IsTag, IsRefused};
 ghost use Rattle.gix_object.specs.ErrorTexts.{tag_error_text};
 
 use crate::bytes::{after, after_line, before, begins, line_id, place_of};
+use crate::digits::date;
 use crate::kinds::kind_of_name;
 use gix_base::hash::ObjectId;
 use gix_base::object::Kind;
 use std::fmt;
 use thiserror::Error as StdError;
 
-/// Is what git reads from a tag to peel it: the object that the tag names.
+/// What a tag says of its target, and its own name and date.
 #[derive(Clone, Copy, Debug, PartialEq, Eq)]
-pub struct Tag {
+pub struct Tag<'a> {
+    /// The id of the object that is tagged.
     pub target: ObjectId,
-    /// Is the kind of the target, as the tag says.
+    /// The kind of the target.
     pub kind: Kind,
+    /// The name in the tag line, which may be empty.
+    pub name: &'a [u8],
+    /// The tagger's date in seconds since the Unix epoch, modulo 2^64. It is 0 if git finds none.
+    pub date: u64,
 }
 
 /// Says why the content of a tag is not read.
@@ -80,16 +86,35 @@ fn type_name(text: &[u8]) -> Option<&[u8]>
     }
 }
 
-// Returns whether `text` begins with a tag line.
-fn has_name(text: &[u8]) -> bool
-    ensures { IsTrue result ↔ HasName text.now }
+// Returns the date in the tagger's line, or 0 if `text` does not begin with one.
+#[tactic(auto, unfolding(crate::specs::TagForm::tagged_at))]
+fn tagged(text: &[u8]) -> u64
+    ensures { result ≡ tagged_at text.now }
 {
-    begins(text, b"tag ") && before(&text[4..], b'\n').is_some()
+    if begins(text, b"tagger ") {
+        date(after(text, b'>'))
+    } else {
+        0
+    }
 }
 
-/// Returns the object that a tag names, read from the tag's content.
+// Returns the name in the tag line at the front of `text`, and the date after this line.
+fn name_and_date(text: &[u8]) -> Option<(&[u8], u64)>
+    ensures { MatchOption result (¬ HasName text.now)
+        (λ p. HasName text.now × (p.0.now ≡ name_of text.now) × (p.1 ≡ date_in text.now)) }
+{
+    if !begins(text, b"tag ") {
+        return None;
+    }
+    let line = &text[4..];
+    let name = before(line, b'\n')?;
+    Some((name, tagged(after(line, b'\n'))))
+}
+
+/// Returns what a tag says, read from the tag's content.
 ///
-/// Malformed contents are read as git reads them. Nothing is checked after the line of the name.
+/// Malformed contents are read as git reads them. Nothing is checked after the line of the name. If
+/// no well-formed line of a tagger follows, the date is 0.
 ///
 /// # Errors
 ///
@@ -99,23 +124,27 @@ fn has_name(text: &[u8]) -> bool
 /// - [`ParseError::BadType`]: no `type` line follows, or its type has 20 bytes or more.
 /// - [`ParseError::UnknownType`]: the type is not one of the four.
 /// - [`ParseError::NoName`]: no `tag` line follows.
-pub fn parse(text: &[u8]) -> Result<Tag, ParseError>
-    ensures read { IfOk result (λ tag. IsTag text.now tag.target tag.kind) }
+pub fn parse(text: &[u8]) -> Result<Tag<'_>, ParseError>
+    ensures read { IfOk result (λ tag. IsTag text.now tag.target tag.kind tag.name.now tag.date) }
     ensures refused { IfErr result (IsRefused text.now) }
 {
     let Some(target) = object(text) else {
         return Err(ParseError::BadObject);
     };
     let text = after_line(text, 48);
-    let Some(name) = type_name(text) else {
+    let Some(type_name) = type_name(text) else {
         return Err(ParseError::BadType);
     };
-    let Some(kind) = kind_of_name(name) else {
+    let Some(kind) = kind_of_name(type_name) else {
         return Err(ParseError::UnknownType);
     };
-    if has_name(after(text, b'\n')) {
-        Ok(Tag { target, kind })
-    } else {
-        Err(ParseError::NoName)
+    match name_and_date(after(text, b'\n')) {
+        Some((name, date)) => Ok(Tag {
+            target,
+            kind,
+            name,
+            date,
+        }),
+        None => Err(ParseError::NoName),
     }
 }

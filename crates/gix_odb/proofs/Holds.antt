@@ -3,8 +3,9 @@ use Rattle.std.proofs.Common.{inl, inr, [], ◌∷◌}
 use Rattle.gix_revwalk.specs.History.{History}
 use Rattle.gix_object.specs.Authentic.{IsClosed, Agree}
 use Rattle.gix_object.proofs.Determined.{agree-or}
-use Rattle.gix_odb.specs.Determined.{HoldsOrCollides, AncestryIsDetermined, BasesAreDetermined, OctopusBasesAreDetermined, OctopusBaseIsDetermined, DescriptionsAreDetermined}
+use Rattle.gix_odb.specs.Determined.{HoldsOrCollides, AncestryIsDetermined, RangesAreDetermined, ListsAreDetermined, CountsAreDetermined, BasesAreDetermined, OctopusBasesAreDetermined, OctopusBaseIsDetermined, DescriptionsAreDetermined}
 use Rattle.gix_odb.proofs.Same.{turned, swapped, first-of, go, back}
+use Rattle.gix_odb.proofs.SameRanges.{beyond-over, beyond-back, lists-over, counts-over}
 use Rattle.gix_odb.proofs.SameBases.{bases-over, octopus-bases-over, octopus-base-over}
 use Rattle.gix_odb.proofs.SameDescriptions.{described-over}
 
@@ -20,6 +21,24 @@ pub ancestry : AncestryIsDetermined
 ancestry = holds _ (λ h k agree closed-h closed-k a c both. (
   go h k agree closed-h closed-k a c (first-of h k a [] both).1,
   back h k agree closed-h closed-k a c (first-of h k a [] both).0,
+))
+
+pub ranges : RangesAreDetermined
+ranges = holds _ (λ h k agree closed-h closed-k shown hidden c s t. (
+  beyond-over h k agree closed-h closed-k shown hidden s t c,
+  beyond-back h k agree closed-h closed-k shown hidden s t c,
+))
+
+pub lists : ListsAreDetermined
+lists = holds _ (λ h k agree closed-h closed-k shown hidden ids s t. (
+  lists-over h k agree closed-h closed-k shown hidden s t ids,
+  lists-over k h (turned h k agree) closed-k closed-h shown hidden (swapped h k shown s) (swapped h k hidden t) ids,
+))
+
+pub counts : CountsAreDetermined
+counts = holds _ (λ h k agree closed-h closed-k shown hidden n s t. (
+  counts-over h k agree closed-h closed-k shown hidden s t n,
+  counts-over k h (turned h k agree) closed-k closed-h shown hidden (swapped h k shown s) (swapped h k hidden t) n,
 ))
 
 pub bases : BasesAreDetermined

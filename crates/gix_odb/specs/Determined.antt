@@ -1,7 +1,9 @@
 -- What ids determine: the answers are the same over each history that is authentic and closed.
-use Rattle.std.specs.Prelude.{◌⊎◌, ◌↔◌, ℕ, ◌∷◌, [], List, Bool, IsTrue, Option}
+use Rattle.std.specs.Prelude.{◌≡◌, ◌⊎◌, ◌↔◌, ℕ, ◌∷◌, [], List, length, Bool, IsTrue, Option}
+use Rattle.std.specs.List.Sorted.{IsStrictlySortedBy}
+use Rattle.gix_base.specs.Hash.{id_order}
 use Rattle.gix_base.specs.declared.hash.ObjectId.{ObjectId}
-use Rattle.gix_revwalk.specs.History.{History, Has, IsAncestor, is_one_of}
+use Rattle.gix_revwalk.specs.History.{History, Has, IsAncestor, IsAncestorOfOne, is_one_of}
 use Rattle.gix_merge_base.specs.Bases.{AreBases}
 use Rattle.gix_merge_base.specs.Octopus.{AreOctopusBases, IsOctopusBase}
 use Rattle.gix_describe.specs.Described.{Names, Description, IsDescribed}
@@ -22,6 +24,38 @@ HoldsOrCollides S =
 abbrev pub AncestryIsDetermined : Type 0
 AncestryIsDetermined = HoldsOrCollides (λ h k.
     (a c : ObjectId) → BothHave h k (a ∷ []) → IsAncestor h a c ↔ IsAncestor k a c)
+
+-- One of the shown commits reaches commit c, and none of the hidden ones does (gitrevisions,
+-- "Specifying Ranges").
+abbrev pub IsBeyond : History → List ObjectId → List ObjectId → ObjectId → Type 0
+IsBeyond h shown hidden c = IsAncestorOfOne h shown c × (¬ IsAncestorOfOne h hidden c)
+
+-- The list ids has the commits that shown reach and hidden do not, each once, in rising order.
+pub record ListsBeyond (h : History) (shown hidden ids : List ObjectId) : Type 0 where
+  pub beyond : (c : ObjectId) → IsTrue (is_one_of ids c) ↔ IsBeyond h shown hidden c
+  pub rising : IsStrictlySortedBy id_order ids
+
+-- There are n commits that shown reach and hidden do not (git-rev-list, "--count").
+abbrev pub CountsBeyond : History → List ObjectId → List ObjectId → ℕ → Type 0
+CountsBeyond h shown hidden n = (ids : List ObjectId) × ListsBeyond h shown hidden ids × (length ids ≡ n)
+
+-- A range is the same in both histories (gitrevisions, "Specifying Ranges").
+abbrev pub RangesAreDetermined : Type 0
+RangesAreDetermined = HoldsOrCollides (λ h k.
+    (shown hidden : List ObjectId) (c : ObjectId) → BothHave h k shown → BothHave h k hidden
+    → IsBeyond h shown hidden c ↔ IsBeyond k shown hidden c)
+
+-- The list of a range is the same in both histories (git-rev-list, "Description").
+abbrev pub ListsAreDetermined : Type 0
+ListsAreDetermined = HoldsOrCollides (λ h k.
+    (shown hidden ids : List ObjectId) → BothHave h k shown → BothHave h k hidden
+    → ListsBeyond h shown hidden ids ↔ ListsBeyond k shown hidden ids)
+
+-- The number of commits in a range is the same in both histories (git-rev-list, "--count").
+abbrev pub CountsAreDetermined : Type 0
+CountsAreDetermined = HoldsOrCollides (λ h k.
+    (shown hidden : List ObjectId) (n : ℕ) → BothHave h k shown → BothHave h k hidden
+    → CountsBeyond h shown hidden n ↔ CountsBeyond k shown hidden n)
 
 -- The merge bases of f and os are the same in both histories (git-merge-base, "Discussion").
 abbrev pub BasesAreDetermined : Type 0

@@ -12,7 +12,7 @@ const LONGEST: usize = 1 << 16;
 /// How many bytes are kept in all.
 const MOST_KEPT: usize = 1 << 24;
 
-/// Is an object with the number of its pack and its offset there.
+/// An object with the number of its pack and its offset there.
 #[derive(Drop)]
 struct Slot<A: Allocator> {
     pack: u64,

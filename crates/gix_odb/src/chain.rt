@@ -13,7 +13,7 @@ use gix_pack::delta::{ApplyError, apply};
 use gix_pack::entry::{self, Body as Form, Entry};
 use std::alloc::Allocator;
 
-/// Is an open pack, with the number under which its objects are kept.
+/// An open pack, with the number under which its objects are kept.
 #[derive(Drop)]
 pub(crate) struct Body<O: Opened, A: Allocator + Copy> {
     source: Source<O>,
@@ -49,7 +49,7 @@ impl<O: Opened, A: Allocator + Copy> Body<O, A> {
     }
 }
 
-/// Is one object of a chain: where it begins, where its stream does, and the size of the content.
+/// One object of a chain: where it begins, where its stream does, and the size of the content.
 #[derive(Clone, Copy)]
 struct Link {
     at: u64,

@@ -1,20 +1,24 @@
-//! Has the reasons why an object is not read.
+//! The reasons why an object is not read.
 
-ghost use Rattle.std.specs.Prelude.{Some};
-ghost use Rattle.gix_odb.specs.ErrorTexts.{damage_text, feature_text};
+ghost use Rattle.std.specs.Prelude.{◌≡◌, ◌≤◌, Some};
 
+use bstr::BStr;
 use gix_base::hash::ObjectId;
 use gix_base::object::Kind;
 use gix_object::commit::ParseError;
+use gix_object::kind_name;
+use gix_object::tag::ParseError as TagError;
+use std::alloc::AllocError;
 use std::fmt;
 use std::io::ErrorKind;
 use thiserror::Error as StdError;
 
-/// Is the name of a pack, without the extension: its first bytes, if it is longer than 48.
+/// The name of a pack, without the extension: its first bytes, if it is longer than 48.
 #[derive(Clone, Copy, Debug, PartialEq, Eq)]
 pub struct PackName {
     bytes: [u8; 48],
     len: usize,
+    ghost short: { len ≤ 48 },
 }
 
 impl PackName {
@@ -29,13 +33,15 @@ impl PackName {
             len: name.len().min(48),
         }
     }
+}
 
-    /// Returns the name as text; `?` if it is not UTF-8.
-    fn as_str(&self) -> &str {
-        match str::from_utf8(self.bytes.get(..self.len).unwrap_or(&[])) {
-            Ok(text) => text,
-            Err(_) => "?",
-        }
+impl fmt::Display for PackName {
+    ghost use Rattle.gix_odb.specs.ErrorTexts.{pack_text};
+
+    ghost output = { λ name. Some (pack_text name) };
+
+    fn fmt<W: fmt::Write>(&self, f: &mut fmt::Formatter<W>) -> fmt::Result {
+        BStr::new(&self.bytes[..self.len]).fmt(f)
     }
 }
 
@@ -91,8 +97,6 @@ pub enum Feature {
     IndexVersion,
     /// An object of more bytes than the store's limit.
     LargeObject,
-    /// A line of `info/alternates` in quotes.
-    QuotedPath,
     /// A path that is not UTF-8.
     NotUtf8,
 }
@@ -100,16 +104,24 @@ pub enum Feature {
 /// Says why an object is not read.
 ///
 /// There may be several copies of an object. If none is authentic, the first failure is returned.
+///
+/// `Damaged`, `Unsupported` and `Failed` say what a call on a file returned, or what its bytes were.
+/// No contract says so, because files have no model: they may change between two reads. For the same
+/// reason, `Missing` says only that no file was found that should have the object.
 #[derive(Clone, Copy, Debug, PartialEq, Eq, Drop, StdError)]
 pub enum Error {
     /// No copy of the object was found.
     Missing(ObjectId),
-    /// The bytes that were found under this id have another id.
-    Altered(ObjectId),
+    /// The bytes that were found under this id have another id, the second one.
+    Altered(ObjectId, ObjectId),
     /// The object is authentic, and not a commit.
     NotACommit(ObjectId, Kind),
     /// The object is an authentic commit, and git refuses it, or its date does not fit.
     Malformed(ObjectId, ParseError),
+    /// The object is authentic, and not a tag.
+    NotATag(ObjectId, Kind),
+    /// The object is an authentic tag, and git refuses it.
+    MalformedTag(ObjectId, TagError),
     /// A file is damaged at this byte.
     Damaged(FileName, u64, Damage),
     /// A file has something that is not supported.
@@ -120,20 +132,38 @@ pub enum Error {
     OutOfMemory,
 }
 
+impl From<AllocError> for Error {
+    ghost use Rattle.gix_odb.specs.declared.error.Error.TheVariants.{OutOfMemory};
+
+    ghost from_gives = { λ _ error. error ≡ OutOfMemory };
+
+    fn from(_e: AllocError) -> Error {
+        Error::OutOfMemory
+    }
+}
+
 impl fmt::Display for FileKind {
+    ghost use Rattle.gix_odb.specs.ErrorTexts.{file_kind_text};
+
+    ghost output = { λ kind. Some (file_kind_text kind) };
+
     fn fmt<W: fmt::Write>(&self, f: &mut fmt::Formatter<W>) -> fmt::Result {
         match self {
             FileKind::Objects => f.write_str("the objects folder"),
             FileKind::Alternates => f.write_str("'info/alternates'"),
             FileKind::Packs => f.write_str("the folder 'pack'"),
-            FileKind::Index(name) => write!(f, "'pack/{}.idx'", name.as_str()),
-            FileKind::Pack(name) => write!(f, "'pack/{}.pack'", name.as_str()),
+            FileKind::Index(name) => write!(f, "'pack/{name}.idx'"),
+            FileKind::Pack(name) => write!(f, "'pack/{name}.pack'"),
             FileKind::Loose(id) => write!(f, "loose object {id}"),
         }
     }
 }
 
 impl fmt::Display for FileName {
+    ghost use Rattle.gix_odb.specs.ErrorTexts.{file_name_text};
+
+    ghost output = { λ name. Some (file_name_text name) };
+
     fn fmt<W: fmt::Write>(&self, f: &mut fmt::Formatter<W>) -> fmt::Result {
         let kind = self.kind;
         let folder = self.folder;
@@ -146,6 +176,8 @@ impl fmt::Display for FileName {
 }
 
 impl fmt::Display for Damage {
+    ghost use Rattle.gix_odb.specs.ErrorTexts.{damage_text};
+
     ghost output = { λ damage. Some (damage_text damage) };
 
     fn fmt<W: fmt::Write>(&self, f: &mut fmt::Formatter<W>) -> fmt::Result {
@@ -162,37 +194,36 @@ impl fmt::Display for Damage {
 }
 
 impl fmt::Display for Feature {
+    ghost use Rattle.gix_odb.specs.ErrorTexts.{feature_text};
+
     ghost output = { λ feature. Some (feature_text feature) };
 
     fn fmt<W: fmt::Write>(&self, f: &mut fmt::Formatter<W>) -> fmt::Result {
         match self {
             Feature::IndexVersion => f.write_str("index of another version than 2"),
             Feature::LargeObject => f.write_str("object is larger than the limit"),
-            Feature::QuotedPath => f.write_str("path in quotes"),
             Feature::NotUtf8 => f.write_str("path is not UTF-8"),
         }
     }
 }
 
-/// Returns the name of a kind, as git writes it.
-fn kind_text(kind: Kind) -> &'static str {
-    match kind {
-        Kind::Tree => "tree",
-        Kind::Blob => "blob",
-        Kind::Commit => "commit",
-        Kind::Tag => "tag",
-    }
-}
-
 impl fmt::Display for Error {
+    ghost use Rattle.gix_odb.specs.ErrorTexts.{error_text};
+
+    ghost output = { error_text };
+
     fn fmt<W: fmt::Write>(&self, f: &mut fmt::Formatter<W>) -> fmt::Result {
         match self {
             Error::Missing(id) => write!(f, "object {id} is missing"),
-            Error::Altered(id) => write!(f, "altered: the bytes of object {id} have another id"),
+            Error::Altered(id, _) => write!(f, "altered: the bytes of object {id} have another id"),
             Error::NotACommit(id, kind) => {
-                write!(f, "not a commit: object {id} is a {}", kind_text(*kind))
+                write!(f, "not a commit: object {id} is a {}", kind_name(*kind))
             }
             Error::Malformed(id, error) => write!(f, "malformed commit: {id}: {error}"),
+            Error::NotATag(id, kind) => {
+                write!(f, "not a tag: object {id} is a {}", kind_name(*kind))
+            }
+            Error::MalformedTag(id, error) => write!(f, "malformed tag: {id}: {error}"),
             Error::Damaged(file, at, damage) => {
                 write!(f, "damaged: {file} at byte {at}: {damage}")
             }

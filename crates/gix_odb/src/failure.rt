@@ -1,7 +1,10 @@
-//! Has the reasons why a copy of an object is not taken.
+//! The reasons why a copy of an object is not taken.
 
 ghost use Rattle.gix_base.specs.declared.hash.ObjectId.{ObjectId};
-ghost use Rattle.gix_odb.specs.Refusals.{IsRefused};
+ghost use Rattle.std.specs.Prelude.{◌≡◌};
+ghost use Rattle.gix_odb.specs.Refusals.{IsFailure, IsRefused};
+ghost use Rattle.gix_odb.specs.declared.failure.Failure.TheVariants.{InFile};
+ghost use Rattle.gix_odb.specs.declared.failure.Fault.TheVariants.{OutOfMemory};
 
 use crate::error::{Damage, Error, Feature, FileName};
 use gix_base::hash::ObjectId;
@@ -22,8 +25,8 @@ pub(crate) enum Fault {
 pub(crate) enum Failure {
     /// There is no copy.
     Missing,
-    /// Its bytes have another id.
-    Altered,
+    /// Its bytes have this other id.
+    Altered(ObjectId),
     InFile(Fault),
 }
 
@@ -40,12 +43,16 @@ impl<T: Drop> From<AllocFailed<T>> for Fault {
 }
 
 impl From<Fault> for Failure {
+    ghost from_gives = { λ fault failure. failure ≡ InFile fault };
+
     fn from(fault: Fault) -> Failure {
         Failure::InFile(fault)
     }
 }
 
 impl From<AllocError> for Failure {
+    ghost from_gives = { λ _ failure. failure ≡ InFile OutOfMemory };
+
     fn from(_e: AllocError) -> Failure {
         Failure::InFile(Fault::OutOfMemory)
     }
@@ -72,7 +79,9 @@ impl Failure {
     }
 
     /// Returns the failure of two copies: the first, unless that copy is missing.
-    pub(crate) fn or(self, next: Failure) -> Failure {
+    pub(crate) fn or(self, next: Failure) -> Failure
+        ensures { (id : ObjectId) → IsFailure id self → IsFailure id next → IsFailure id result }
+    {
         match self {
             Failure::Missing => next,
             first => first,
@@ -81,11 +90,12 @@ impl Failure {
 
     /// Returns the error for the object with this id.
     pub(crate) fn error(self, id: ObjectId) -> Error
+        requires { IsFailure id self }
         ensures { IsRefused id result }
     {
         match self {
             Failure::Missing => Error::Missing(id),
-            Failure::Altered => Error::Altered(id),
+            Failure::Altered(other) => Error::Altered(id, other),
             Failure::InFile(fault) => fault.error(),
         }
     }

@@ -1,4 +1,4 @@
-//! Has the traits by which a store reaches folders and files, so that a test can stand in for them.
+//! The traits by which a store reaches folders and files, so that a test can stand in for them.
 
 ghost use Rattle.std.specs.Prelude.{◌≤◌, length, IfOk};
 
@@ -28,7 +28,7 @@ impl<T: Drop> From<AllocFailed<T>> for FileError {
     }
 }
 
-/// Is an open file.
+/// An open file.
 pub trait Opened: Drop {
     /// Returns the length of the file in bytes.
     fn size(&self) -> Result<u64, FileError>;

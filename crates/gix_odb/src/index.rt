@@ -1,5 +1,6 @@
 //! Looks ids up in the index of a pack (gitformat-pack, "Version 2 pack-*.idx files").
 
+use crate::completions::Completions;
 use crate::error::{Damage, Feature};
 use crate::failure::Fault;
 use crate::files::Opened;
@@ -7,7 +8,7 @@ use crate::source::Source;
 use gix_base::hash::ObjectId;
 use gix_ids::Span;
 use gix_pack::index::OpenFault;
-use gix_pack::part::{HEAD_LEN, Head, Offset, position, read_large_offset, read_offset};
+use gix_pack::part::{HEAD_LEN, Head, Offset, position, read_large_offset, read_offset, search};
 use std::alloc::Allocator;
 
 /// How many bytes of ids and offsets are kept of an index. If there are more, all are dropped.
@@ -20,7 +21,7 @@ struct Bucket<A: Allocator> {
     offsets: Vec<u8, A>,
 }
 
-/// Is an open index. A bucket is read when it is first needed.
+/// An open index. A bucket is read when it is first needed.
 #[derive(Drop)]
 pub(crate) struct Index<O: Opened, A: Allocator + Copy> {
     source: Source<O>,
@@ -86,6 +87,20 @@ impl<O: Opened, A: Allocator + Copy> Index<O, A> {
         match bucket.offsets.get(k.saturating_mul(4)..) {
             Some([a, b, c, d, ..]) => Ok(Some(self.offset([*a, *b, *c, *d])?)),
             _ => Ok(None),
+        }
+    }
+
+    /// Adds the ids that begin with the prefix to those that were found.
+    pub(crate) fn complete(&mut self, alloc: A, found: &mut Completions<A>) -> Result<(), Fault> {
+        let least = found.least();
+        let first = least.0[0];
+        self.load(alloc, first)?;
+        let Some(bucket) = self.buckets.get(first as usize) else {
+            return Ok(());
+        };
+        match search(&bucket.ids, least) {
+            Ok(k) => found.add_from(&bucket.ids, k),
+            Err(k) => found.add_from(&bucket.ids, k),
         }
     }
 

@@ -5,12 +5,21 @@
 //! or two contents with one id are at hand.
 
 ghost use Rattle.gix_odb.specs.Determined.{AncestryIsDetermined, BasesAreDetermined};
+ghost use Rattle.gix_odb.specs.Determined.{RangesAreDetermined, ListsAreDetermined, CountsAreDetermined};
 ghost use Rattle.gix_odb.specs.Determined.{OctopusBasesAreDetermined, OctopusBaseIsDetermined};
 ghost use Rattle.gix_odb.specs.Determined.{DescriptionsAreDetermined};
 
 /// States that ids determine which commits they reach.
 pub fn ancestry_is_determined()
     ensures { AncestryIsDetermined }
+{}
+
+/// States that ids determine the commits that some of them reach and others do not, the list of these
+/// commits, and how many there are.
+pub fn ranges_are_determined()
+    ensures all { RangesAreDetermined }
+    ensures list { ListsAreDetermined }
+    ensures count { CountsAreDetermined }
 {}
 
 /// States that ids determine their merge bases.

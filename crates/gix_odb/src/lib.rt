@@ -5,8 +5,9 @@
 //! before them, is its id. So no file has to be trusted: what is read is authentic, or the call
 //! fails. That an object which the repository has is found is not proved.
 //!
-//! - [`Store::read`] returns an object, and [`Store::commit`] the parents and the commit date of a
-//!   commit.
+//! - [`Store::read`] returns an object, [`Store::commit`] the parents and the commit date of a
+//!   commit, and [`Store::tag`] what an annotated tag says.
+//! - [`Store::has`] and [`Store::completions`] look ids up, and read no object.
 //! - [`files`] has the traits by which a store reaches files, and [`System`] implements them over
 //!   the file system.
 //! - Each call that fails can be repeated.
@@ -16,6 +17,7 @@
 mod alternates;
 mod cache;
 mod chain;
+mod completions;
 pub mod error;
 mod failure;
 pub mod files;
@@ -30,9 +32,11 @@ mod source;
 mod store;
 mod stream;
 mod system;
+mod tag;
 mod windows;
 
 pub use error::Error;
 pub use object::Object;
 pub use store::Store;
 pub use system::System;
+pub use tag::Tag;

@@ -1,38 +1,59 @@
 //! Reads loose objects (gitformat-loose).
 
-ghost use Rattle.std.specs.Prelude.{IfOk};
+ghost use Rattle.std.specs.Prelude.{IfOk, IfErr};
+ghost use Rattle.gix_odb.specs.Refusals.{IsFailure};
 ghost use Rattle.gix_odb.specs.Stores.{IsObject};
 
+use crate::completions::Completions;
 use crate::error::{Damage, Feature, FileKind, FileName};
 use crate::failure::{Failure, Fault};
 use crate::files::{Folders, Opened};
 use crate::object::{Object, accepted};
-use crate::paths::loose_path;
-use crate::source::{Source, open};
+use crate::paths::{id_of_name, loose_folder, loose_path};
+use crate::source::{Source, fault_of, open};
 use crate::stream::inflated;
 use gix_base::hash::ObjectId;
-use gix_object::loose::{self, Header, parse_header};
+use gix_object::loose::{self, Header, MOST_HEADER, parse_header};
 use gix_zlib::{InflateError, inflate_front};
 use std::alloc::Allocator;
 
 /// How many bytes of a file are read first.
 const FIRST: usize = 4096;
 
-/// How many bytes the header of an object has at most.
-const HEADER: usize = 28;
+/// How many times four times as many bytes of a file are read to find the header, at most.
+const MOST_TRIES: u32 = 8;
+
+/// Inflates the front of a file, of which the first bytes are in `first`.
+///
+/// Reads more of the file into `first` if these bytes end before the header does.
+fn front<O: Opened, A: Allocator + Copy>(
+    alloc: A,
+    source: &Source<O>,
+    first: &mut Vec<u8, A>,
+) -> Result<Vec<u8, A>, Fault> {
+    for _ in 0..MOST_TRIES {
+        match inflate_front(alloc, first, MOST_HEADER) {
+            Ok(front) => return Ok(front),
+            Err(InflateError::OutOfMemory) => return Err(Fault::OutOfMemory),
+            Err(_) => {}
+        }
+        let len = first.len();
+        source.read_into(0, len.saturating_mul(4), first)?;
+        if first.len() <= len {
+            break;
+        }
+    }
+    Err(source.damaged(0, Damage::Stream))
+}
 
 /// Returns how many bytes the header and the content have, if the header says a size in the limit.
 fn whole_size<O: Opened, A: Allocator + Copy>(
     alloc: A,
     source: &Source<O>,
-    first: &[u8],
+    first: &mut Vec<u8, A>,
     limit: usize,
 ) -> Result<usize, Fault> {
-    let front = match inflate_front(alloc, first, HEADER) {
-        Ok(front) => front,
-        Err(InflateError::OutOfMemory) => return Err(Fault::OutOfMemory),
-        Err(_) => return Err(source.damaged(0, Damage::Stream)),
-    };
+    let front = front(alloc, source, first)?;
     match parse_header(&front) {
         Some(Header { size, len, .. }) if size <= limit as u64 => {
             Ok(len.saturating_add(size as usize))
@@ -49,15 +70,24 @@ fn read_from<O: Opened, A: Allocator + Copy>(
     id: ObjectId,
     limit: usize,
 ) -> Result<Object<A>, Failure>
-    ensures { IfOk result (λ o. IsObject id o.kind o.content.items) }
+    ensures found { IfOk result (λ o. IsObject id o.kind o.content.items) }
+    ensures failed { IfErr result (IsFailure id) }
 {
     let mut first = Vec::new(alloc);
     source.read_into(0, FIRST, &mut first)?;
-    let size = whole_size(alloc, source, &first, limit)?;
+    let size = whole_size(alloc, source, &mut first, limit)?;
     let bytes = inflated(alloc, source, 0, &first, size)?;
     match loose::parse(&bytes) {
         Some((kind, content)) => accepted(id, kind, content.to_vec(alloc)?),
         None => Err(Failure::InFile(source.damaged(0, Damage::Header))),
+    }
+}
+
+/// Names the loose file of an object.
+fn name(folder: usize, id: ObjectId) -> FileName {
+    FileName {
+        folder,
+        kind: FileKind::Loose(id),
     }
 }
 
@@ -70,15 +100,55 @@ pub(crate) fn read<F: Folders, A: Allocator + Copy>(
     id: ObjectId,
     limit: usize,
 ) -> Result<Object<A>, Failure>
-    ensures { IfOk result (λ o. IsObject id o.kind o.content.items) }
+    ensures found { IfOk result (λ o. IsObject id o.kind o.content.items) }
+    ensures failed { IfErr result (IsFailure id) }
 {
     let path = loose_path(alloc, folder, id)?;
-    let name = FileName {
-        folder: number,
-        kind: FileKind::Loose(id),
-    };
-    match open(files, &path, name)? {
+    match open(files, &path, name(number, id))? {
         Some(source) => read_from(alloc, &source, id, limit),
         None => Err(Failure::Missing),
     }
+}
+
+/// Succeeds if there is a loose file for this id. Fails with `Missing` if not.
+pub(crate) fn has<F: Folders, A: Allocator + Copy>(
+    alloc: A,
+    files: &F,
+    number: usize,
+    folder: &[u8],
+    id: ObjectId,
+) -> Result<(), Failure> {
+    let path = loose_path(alloc, folder, id)?;
+    match open(files, &path, name(number, id))? {
+        Some(_) => Ok(()),
+        None => Err(Failure::Missing),
+    }
+}
+
+/// Adds the ids that loose files have and that begin with the prefix to those that were found.
+pub(crate) fn complete<F: Folders, A: Allocator + Copy>(
+    alloc: A,
+    files: &F,
+    number: usize,
+    folder: &[u8],
+    found: &mut Completions<A>,
+) -> Result<(), Fault> {
+    let near = found.least();
+    let path = loose_folder(alloc, folder, near)?;
+    let mut names = Vec::new(alloc);
+    if let Err(error) = files.names(&path, &mut names) {
+        return Err(fault_of(
+            FileName {
+                folder: number,
+                kind: FileKind::Objects,
+            },
+            error,
+        ));
+    }
+    for name in names.split(|b| *b == 0) {
+        if let Some(id) = id_of_name(alloc, near, name)? {
+            found.add(id)?;
+        }
+    }
+    Ok(())
 }

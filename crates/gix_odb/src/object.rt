@@ -1,15 +1,16 @@
 //! Compares objects with their ids.
 
-ghost use Rattle.std.specs.Prelude.{IfOk};
+ghost use Rattle.std.specs.Prelude.{IfOk, IfErr};
 ghost use Rattle.gix_odb.specs.Stores.{IsObject};
+ghost use Rattle.gix_odb.specs.Refusals.{IsFailure};
 
 use crate::failure::Failure;
 use gix_base::hash::ObjectId;
 use gix_base::object::Kind;
-use gix_object::is_authentic;
+use gix_object::object_id;
 use std::alloc::{Allocator, Global};
 
-/// Is an object: its kind and its content.
+/// An object: its kind and its content.
 #[derive(Drop)]
 pub struct Object<A: Allocator = Global> {
     pub kind: Kind,
@@ -22,11 +23,13 @@ pub(crate) fn accepted<A: Allocator>(
     kind: Kind,
     content: Vec<u8, A>,
 ) -> Result<Object<A>, Failure>
-    ensures { IfOk result (λ o. IsObject id o.kind o.content.items) }
+    ensures found { IfOk result (λ o. IsObject id o.kind o.content.items) }
+    ensures failed { IfErr result (IsFailure id) }
 {
-    if is_authentic(id, kind, &content) {
+    let other = object_id(kind, &content);
+    if other == id {
         Ok(Object { kind, content })
     } else {
-        Err(Failure::Altered)
+        Err(Failure::Altered(other))
     }
 }

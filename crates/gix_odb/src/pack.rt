@@ -1,11 +1,13 @@
 //! Reads objects from a pack (gitformat-pack).
 
-ghost use Rattle.std.specs.Prelude.{IfOk};
+ghost use Rattle.std.specs.Prelude.{IfOk, IfErr};
+ghost use Rattle.gix_odb.specs.Refusals.{IsFailure};
 ghost use Rattle.gix_odb.specs.Stores.{IsObject};
 
 use crate::chain::{Body, Chains};
+use crate::completions::Completions;
 use crate::error::{FileKind, FileName, PackName};
-use crate::failure::Failure;
+use crate::failure::{Failure, Fault};
 use crate::files::Folders;
 use crate::index::Index;
 use crate::object::{Object, accepted};
@@ -14,7 +16,7 @@ use crate::source::open;
 use gix_base::hash::ObjectId;
 use std::alloc::Allocator;
 
-/// Is a pack of an `objects` folder. Its index and the pack itself are opened when they are needed.
+/// A pack of an `objects` folder. Its index and the pack itself are opened when they are needed.
 #[derive(Drop)]
 pub(crate) struct Pack<F: Folders, A: Allocator + Copy> {
     /// The number of the `objects` folder.
@@ -42,10 +44,10 @@ impl<F: Folders, A: Allocator + Copy> Pack<F, A> {
         self.body = None;
     }
 
-    /// Opens the index, unless it is open. Fails with `Missing` if it is not there.
-    fn open_index(&mut self, alloc: A, files: &F, folder: &[u8]) -> Result<(), Failure> {
+    /// Opens the index, unless it is open. Returns whether it is there.
+    fn open_index(&mut self, alloc: A, files: &F, folder: &[u8]) -> Result<bool, Fault> {
         if self.index.is_some() {
-            return Ok(());
+            return Ok(true);
         }
         let name = FileName {
             folder: self.folder,
@@ -55,22 +57,22 @@ impl<F: Folders, A: Allocator + Copy> Pack<F, A> {
         match open(files, &path, name)? {
             Some(source) => {
                 self.index = Some(Index::new(alloc, source)?);
-                Ok(())
+                Ok(true)
             }
-            None => Err(Failure::Missing),
+            None => Ok(false),
         }
     }
 
-    /// Opens the pack itself, unless it is open. Fails with `Missing` if it is not there.
+    /// Opens the pack itself, unless it is open. Returns whether it is there.
     fn open_body(
         &mut self,
         alloc: A,
         files: &F,
         folder: &[u8],
         chains: &mut Chains<A>,
-    ) -> Result<(), Failure> {
+    ) -> Result<bool, Fault> {
         if self.body.is_some() {
-            return Ok(());
+            return Ok(true);
         }
         let name = FileName {
             folder: self.folder,
@@ -80,20 +82,32 @@ impl<F: Folders, A: Allocator + Copy> Pack<F, A> {
         match open(files, &path, name)? {
             Some(source) => {
                 self.body = Some(Body::new(alloc, source, chains.next_number()));
-                Ok(())
+                Ok(true)
             }
-            None => Err(Failure::Missing),
+            None => Ok(false),
         }
     }
 
-    /// Returns where the object with this id begins. Fails with `Missing` if it is not in the pack.
-    fn find(&mut self, alloc: A, id: ObjectId) -> Result<u64, Failure> {
+    /// Returns where the object with this id begins; `None` if it, or the pack, is not there.
+    fn find(
+        &mut self,
+        alloc: A,
+        files: &F,
+        folder: &[u8],
+        id: ObjectId,
+        chains: &mut Chains<A>,
+    ) -> Result<Option<u64>, Fault> {
+        if !self.open_index(alloc, files, folder)? {
+            return Ok(None);
+        }
         let Some(index) = &mut self.index else {
-            return Err(Failure::Missing);
+            return Ok(None);
         };
-        match index.find(alloc, id)? {
-            Some(at) => Ok(at),
-            None => Err(Failure::Missing),
+        let at = index.find(alloc, id)?;
+        if at.is_some() && self.open_body(alloc, files, folder, chains)? {
+            Ok(at)
+        } else {
+            Ok(None)
         }
     }
 
@@ -105,7 +119,8 @@ impl<F: Folders, A: Allocator + Copy> Pack<F, A> {
         at: u64,
         chains: &mut Chains<A>,
     ) -> Result<Object<A>, Failure>
-        ensures { IfOk result (λ o. IsObject id o.kind o.content.items) }
+        ensures found { IfOk result (λ o. IsObject id o.kind o.content.items) }
+        ensures failed { IfErr result (IsFailure id) }
     {
         let (Some(index), Some(body)) = (&mut self.index, &mut self.body) else {
             return Err(Failure::Missing);
@@ -123,11 +138,51 @@ impl<F: Folders, A: Allocator + Copy> Pack<F, A> {
         id: ObjectId,
         chains: &mut Chains<A>,
     ) -> Result<Object<A>, Failure>
-        ensures { IfOk result (λ o. IsObject id o.kind o.content.items) }
+        ensures found { IfOk result (λ o. IsObject id o.kind o.content.items) }
+        ensures failed { IfErr result (IsFailure id) }
     {
+        match self.find(alloc, files, folder, id, chains)? {
+            Some(at) => self.take(alloc, id, at, chains),
+            None => Err(Failure::Missing),
+        }
+    }
+
+    /// Returns how many objects the pack has. Fails with `Missing` if its index is not there.
+    pub(crate) fn len(&mut self, alloc: A, files: &F, folder: &[u8]) -> Result<usize, Failure> {
         self.open_index(alloc, files, folder)?;
-        let at = self.find(alloc, id)?;
-        self.open_body(alloc, files, folder, chains)?;
-        self.take(alloc, id, at, chains)
+        match &self.index {
+            Some(index) => Ok(index.count()),
+            None => Err(Failure::Missing),
+        }
+    }
+
+    /// Succeeds if the pack is there and has the object with this id. Fails with `Missing` if not.
+    pub(crate) fn has(
+        &mut self,
+        alloc: A,
+        files: &F,
+        folder: &[u8],
+        id: ObjectId,
+        chains: &mut Chains<A>,
+    ) -> Result<(), Failure> {
+        match self.find(alloc, files, folder, id, chains)? {
+            Some(_) => Ok(()),
+            None => Err(Failure::Missing),
+        }
+    }
+
+    /// Adds the ids of the pack that begin with the prefix to those that were found.
+    pub(crate) fn complete(
+        &mut self,
+        alloc: A,
+        files: &F,
+        folder: &[u8],
+        found: &mut Completions<A>,
+    ) -> Result<(), Failure> {
+        self.open_index(alloc, files, folder)?;
+        match &mut self.index {
+            Some(index) => Ok(index.complete(alloc, found)?),
+            None => Err(Failure::Missing),
+        }
     }
 }

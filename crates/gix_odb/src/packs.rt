@@ -1,6 +1,6 @@
 //! Lists the packs of `objects` folders.
 
-use crate::alternates::Folder;
+use crate::alternates::{Folder, pass_over};
 use crate::error::{FileKind, FileName};
 use crate::failure::Fault;
 use crate::files::Folders;
@@ -41,26 +41,61 @@ fn keep_named<F: Folders, A: Allocator + Copy>(
     Ok(())
 }
 
+/// Keeps all packs of a folder that cannot be listed.
+fn keep_all<F: Folders, A: Allocator + Copy>(
+    old: &mut Vec<Pack<F, A>, A>,
+    new: &mut Vec<Pack<F, A>, A>,
+    folder: usize,
+) -> Result<(), Fault> {
+    for _ in 0..old.len() {
+        match old.iter().position(|pack| pack.folder == folder) {
+            Some(place) if place < old.len() => new.push(old.swap_remove(place))?,
+            _ => break,
+        }
+    }
+    Ok(())
+}
+
+/// Adds the packs of a folder to the new ones.
+fn list<F: Folders, A: Allocator + Copy>(
+    alloc: A,
+    files: &F,
+    old: &mut Vec<Pack<F, A>, A>,
+    new: &mut Vec<Pack<F, A>, A>,
+    number: usize,
+    folder: &[u8],
+) -> Result<(), Fault> {
+    let path = joined(alloc, folder, b"/pack", b"", b"")?;
+    let mut names = Vec::new(alloc);
+    match files.names(&path, &mut names) {
+        Ok(()) => keep_named(alloc, old, new, number, &names),
+        Err(error) => {
+            let name = FileName {
+                folder: number,
+                kind: FileKind::Packs,
+            };
+            keep_all(old, new, number)?;
+            Err(fault_of(name, error))
+        }
+    }
+}
+
 /// Returns the packs that are in the folders now. Those of the old ones that are there stay open.
+///
+/// If a folder cannot be listed, its old packs stay, and `fault` has the first fault.
 pub(crate) fn listed<F: Folders, A: Allocator + Copy>(
     alloc: A,
     files: &F,
     folders: &[Folder<A>],
     old: &mut Vec<Pack<F, A>, A>,
+    fault: &mut Option<Fault>,
 ) -> Result<Vec<Pack<F, A>, A>, Fault> {
     let mut new = Vec::new(alloc);
+    *fault = None;
     for (number, folder) in folders.iter().enumerate() {
-        let path = joined(alloc, &folder.path, b"/pack", b"", b"")?;
-        let mut names = Vec::new(alloc);
-        match files.names(&path, &mut names) {
-            Ok(()) => keep_named(alloc, old, &mut new, number, &names)?,
-            Err(error) => {
-                let name = FileName {
-                    folder: number,
-                    kind: FileKind::Packs,
-                };
-                return Err(fault_of(name, error));
-            }
+        if folder.is_reached {
+            let listed = list(alloc, files, old, &mut new, number, &folder.path);
+            pass_over(fault, listed)?;
         }
     }
     Ok(new)

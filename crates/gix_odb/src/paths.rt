@@ -32,3 +32,30 @@ pub(crate) fn loose_path<A: Allocator>(
     path.extend_from_slice(rest)?;
     Ok(path)
 }
+
+/// Returns the path of the folder that has the loose file of an object: `FOLDER/XX`.
+pub(crate) fn loose_folder<A: Allocator>(
+    alloc: A,
+    folder: &[u8],
+    id: ObjectId,
+) -> Result<Vec<u8, A>, AllocError> {
+    let mut digits = [0u8; 40];
+    id.write_hex(40, &mut digits);
+    joined(alloc, folder, b"/", &digits[..2], b"")
+}
+
+/// Returns the id of the object whose loose file has this name, in the folder that has the loose
+/// file of `near`.
+pub(crate) fn id_of_name<A: Allocator>(
+    alloc: A,
+    near: ObjectId,
+    name: &[u8],
+) -> Result<Option<ObjectId>, AllocError> {
+    let mut digits = [0u8; 40];
+    near.write_hex(40, &mut digits);
+    if name.len() != 38 {
+        return Ok(None);
+    }
+    let text = joined(alloc, &digits[..2], name, b"", b"")?;
+    Ok(ObjectId::from_hex(&text).ok())
+}

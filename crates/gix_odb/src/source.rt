@@ -7,7 +7,7 @@ use crate::failure::Fault;
 use crate::files::{FileError, Folders, Opened};
 use std::alloc::Allocator;
 
-/// Is an open file with its name.
+/// An open file with its name.
 #[derive(Drop)]
 pub(crate) struct Source<O: Opened> {
     file: O,

@@ -1,24 +1,30 @@
-//! Has the store, which reads objects by their ids.
+//! The store, which reads objects by their ids.
 
-ghost use Rattle.std.specs.Prelude.{IfOk, IfErr};
+ghost use Rattle.std.specs.Prelude.{◌≤◌, ℕ, List, length, IfOk, IfErr, All};
+ghost use Rattle.std.specs.List.Sorted.{IsStrictlySortedBy};
+ghost use Rattle.gix_base.specs.Hash.{id_order};
+ghost use Rattle.gix_base.specs.Prefix.{BeginsWith};
 ghost use Rattle.gix_revwalk.specs.Held.{entry_of};
-ghost use Rattle.gix_odb.specs.Stores.{IsObject, IsCommitOf};
-ghost use Rattle.gix_odb.specs.Refusals.{IsRefused, IsNoCommit};
+ghost use Rattle.gix_odb.specs.Stores.{IsObject, IsCommitOf, IsTagOf};
+ghost use Rattle.gix_odb.specs.Refusals.{IsRefused, IsNoCommit, IsNoTag};
 
-use crate::alternates::{Folder, folders};
+mod copies;
+mod finds;
+
+use crate::alternates::{Folder, Found, folders};
 use crate::chain::Chains;
+use crate::completions::Completions;
 use crate::error::Error;
 use crate::failure::{Failure, Fault};
 use crate::files::Folders;
-use crate::loose;
 use crate::object::Object;
 use crate::pack::Pack;
-use crate::packs::listed;
-use gix_base::hash::ObjectId;
+use crate::tag::{Tag, tagged};
+use gix_base::hash::{ObjectId, Prefix};
 use gix_base::object::Kind;
-use gix_object::commit::{Commit, ParseError, parse};
+use gix_object::commit::{ParseError, parse};
 use gix_revwalk::graph::SourceCommit;
-use std::alloc::{Allocator, Global};
+use std::alloc::{AllocError, Allocator, Global};
 
 /// How many bytes an object has at most, unless [`Store::set_limit`] says another limit.
 const LIMIT: usize = 1 << 30;
@@ -28,7 +34,11 @@ const LIMIT: usize = 1 << 30;
 pub struct Store<F: Folders + Drop, A: Allocator + Copy = Global> {
     files: F,
     folders: Vec<Folder<A>, A>,
+    /// The first fault of an alternate that was passed over.
+    folders_fault: Option<Fault>,
     packs: Vec<Pack<F, A>, A>,
+    /// The first fault of a folder whose packs were not listed.
+    packs_fault: Option<Fault>,
     chains: Chains<A>,
 }
 
@@ -46,11 +56,7 @@ fn parsed<A: Allocator + Copy>(
         return Err(Error::NotACommit(id, object.kind));
     }
     match parse(alloc, &object.content) {
-        Ok(Commit { parents, time }) => Ok(SourceCommit {
-            parents,
-            time,
-            generation: None,
-        }),
+        Ok(commit) => Ok(commit.into_source()),
         Err(ParseError::OutOfMemory) => Err(Error::OutOfMemory),
         Err(error) => Err(Error::Malformed(id, error)),
     }
@@ -60,19 +66,43 @@ impl<F: Folders + Drop, A: Allocator + Copy> Store<F, A> {
     /// Opens the store of an `objects` folder, and lists its alternates and packs.
     ///
     /// An alternate that does not exist is passed over. If the `objects` folder does not exist, all
-    /// objects are missing.
+    /// objects are missing, unless an alternate has them.
+    ///
+    /// An alternate that cannot be read is passed over as well, as in git. So are a folder whose packs
+    /// cannot be listed, and an `info/alternates` that cannot be read. The store remembers the first
+    /// of these failures, and returns it in place of `Missing`.
     ///
     /// # Errors
     ///
-    /// - `Failed` if `info/alternates` or a folder cannot be read.
-    /// - `Unsupported` if a path is in quotes or is not UTF-8.
+    /// - `Failed` if the system does not reach the `objects` folder.
+    /// - `Unsupported` if its path is not UTF-8.
     /// - `OutOfMemory` if an allocation failed.
     pub fn open(alloc: A, files: F, path: &[u8]) -> Result<Store<F, A>, Error> {
-        match folders(alloc, &files, path) {
-            Ok(folders) => Store {
+        Store::open_with(alloc, files, path, &[])
+    }
+
+    /// Opens the store of an `objects` folder and further ones, as [`Store::open`] does.
+    ///
+    /// The paths of `more` are those of `GIT_ALTERNATE_OBJECT_DIRECTORIES` (git, "ENVIRONMENT
+    /// VARIABLES"). A relative one begins at the current folder. These folders are tried before those
+    /// that `info/alternates` names.
+    ///
+    /// # Errors
+    ///
+    /// Those of [`Store::open`].
+    pub fn open_with(
+        alloc: A,
+        files: F,
+        path: &[u8],
+        more: &[&[u8]],
+    ) -> Result<Store<F, A>, Error> {
+        match folders(alloc, &files, path, more) {
+            Ok(Found { folders, fault }) => Store {
                 files,
                 folders,
+                folders_fault: fault,
                 packs: Vec::new(alloc),
+                packs_fault: None,
                 chains: Chains::new(alloc, LIMIT),
             }
             .with_packs(alloc),
@@ -103,112 +133,6 @@ impl<F: Folders + Drop, A: Allocator + Copy> Store<F, A> {
         }
     }
 
-    /// Lists the packs once more.
-    fn list_packs(&mut self, alloc: A) -> Result<(), Fault> {
-        self.packs = listed(alloc, &self.files, &self.folders, &mut self.packs)?;
-        Ok(())
-    }
-
-    /// Reads the object from the pack at a place among the packs.
-    fn read_pack(&mut self, alloc: A, place: usize, id: ObjectId) -> Result<Object<A>, Failure>
-        ensures { IfOk result (λ o. IsObject id o.kind o.content.items) }
-    {
-        let Some(pack) = self.packs.get_mut(place) else {
-            return Err(Failure::Missing);
-        };
-        let Some(folder) = self.folders.get(pack.folder) else {
-            return Err(Failure::Missing);
-        };
-        pack.read(alloc, &self.files, &folder.path, id, &mut self.chains)
-    }
-
-    /// Moves a pack to the front, since the next object is likely to be in it.
-    fn move_to_front(&mut self, place: usize) {
-        if place < self.packs.len() {
-            self.packs.swap(0, place);
-        }
-    }
-
-    /// Closes a pack whose copy failed, so that the next try opens it anew.
-    fn close(&mut self, place: usize) {
-        if let Some(pack) = self.packs.get_mut(place) {
-            pack.close();
-        }
-    }
-
-    /// Reads the object from the first pack with an authentic copy.
-    fn read_packed(&mut self, alloc: A, id: ObjectId) -> Result<Object<A>, Failure>
-        ensures { IfOk result (λ o. IsObject id o.kind o.content.items) }
-    {
-        let mut failure = Failure::Missing;
-        for place in 0..self.packs.len() {
-            match self.read_pack(alloc, place, id) {
-                Ok(object) => {
-                    self.move_to_front(place);
-                    return Ok(object);
-                }
-                Err(Failure::Missing) => {}
-                Err(next) if next.is_out_of_memory() => return Err(next),
-                Err(next) => {
-                    self.close(place);
-                    failure = failure.or(next);
-                }
-            }
-        }
-        Err(failure)
-    }
-
-    /// Reads the object from the first folder with an authentic loose copy.
-    fn read_loose(&self, alloc: A, id: ObjectId) -> Result<Object<A>, Failure>
-        ensures { IfOk result (λ o. IsObject id o.kind o.content.items) }
-    {
-        let mut failure = Failure::Missing;
-        for (number, folder) in self.folders.iter().enumerate() {
-            match loose::read(
-                alloc,
-                &self.files,
-                number,
-                &folder.path,
-                id,
-                self.chains.limit(),
-            ) {
-                Ok(object) => return Ok(object),
-                Err(next) if next.is_out_of_memory() => return Err(next),
-                Err(next) => failure = failure.or(next),
-            }
-        }
-        Err(failure)
-    }
-
-    /// Reads the object from the packs that are listed, or else from a loose file.
-    fn read_once(&mut self, alloc: A, id: ObjectId) -> Result<Object<A>, Failure>
-        ensures { IfOk result (λ o. IsObject id o.kind o.content.items) }
-    {
-        match self.read_packed(alloc, id) {
-            Ok(object) => Ok(object),
-            Err(first) if first.is_out_of_memory() => Err(first),
-            Err(first) => match self.read_loose(alloc, id) {
-                Ok(object) => Ok(object),
-                Err(next) if next.is_out_of_memory() => Err(next),
-                Err(next) => Err(first.or(next)),
-            },
-        }
-    }
-
-    /// Reads the object, and lists the packs once more if there is no authentic copy.
-    fn read_twice(&mut self, alloc: A, id: ObjectId) -> Result<Object<A>, Failure>
-        ensures { IfOk result (λ o. IsObject id o.kind o.content.items) }
-    {
-        match self.read_once(alloc, id) {
-            Ok(object) => Ok(object),
-            Err(failure) if failure.is_out_of_memory() => Err(failure),
-            Err(_) => {
-                self.list_packs(alloc)?;
-                self.read_once(alloc, id)
-            }
-        }
-    }
-
     /// Returns the object with this id.
     ///
     /// Packs are tried first, the one that had the last object before the others, then loose files.
@@ -229,7 +153,7 @@ impl<F: Folders + Drop, A: Allocator + Copy> Store<F, A> {
     {
         match self.read_twice(alloc, id) {
             Ok(object) => Ok(object),
-            Err(failure) => Err(failure.error(id)),
+            Err(failure) => Err(self.refusal(failure, id)),
         }
     }
 
@@ -252,5 +176,107 @@ impl<F: Folders + Drop, A: Allocator + Copy> Store<F, A> {
             Ok(object) => parsed(alloc, id, &object),
             Err(error) => Err(error),
         }
+    }
+    /// Returns what the annotated tag with this id says.
+    ///
+    /// # Errors
+    ///
+    /// - Those of [`Store::read`].
+    /// - `NotATag` if the object is authentic, and of another kind.
+    /// - `MalformedTag` if the object is authentic, and git refuses it as a tag.
+    #[tactic(auto, using(crate::proofs::Refused::refused_tag))]
+    pub fn tag(&mut self, alloc: A, id: ObjectId) -> Result<Tag<A>, Error>
+        // A content with this id says the target, its kind, the name and the date.
+        ensures found { IfOk result (λ t. IsTagOf id t.target t.kind t.name.items t.date) }
+
+        // Each error has its cause.
+        ensures refused { IfErr result (IsNoTag id) }
+    {
+        match self.read(alloc, id) {
+            Ok(object) => tagged(alloc, id, &object),
+            Err(error) => Err(error),
+        }
+    }
+
+    /// Returns the kind of the object with this id. It reads the object whole.
+    ///
+    /// # Errors
+    ///
+    /// Those of [`Store::read`].
+    pub fn kind(&mut self, alloc: A, id: ObjectId) -> Result<Kind, Error>
+        // A content of this kind has this id.
+        ensures found { IfOk result (λ kind. (content : List ℕ) × IsObject id kind content) }
+
+        // An error about an object is about this one, and none is about its kind.
+        ensures refused { IfErr result (IsRefused id) }
+    {
+        match self.read(alloc, id) {
+            Ok(object) => Ok(object.kind),
+            Err(error) => Err(error),
+        }
+    }
+
+    /// Returns whether a pack has the object with this id, by its index, or a loose file is there.
+    ///
+    /// The object is not read. If there is no copy, the packs are listed once more.
+    ///
+    /// # Errors
+    ///
+    /// - `Damaged`, `Unsupported` or `Failed` if no copy was found, and a file or folder was not read.
+    /// - `OutOfMemory` if an allocation failed.
+    pub fn has(&mut self, alloc: A, id: ObjectId) -> Result<bool, Error>
+        // An error about an object is about this one, and none is about its kind.
+        ensures refused { IfErr result (IsRefused id) }
+    {
+        match self.has_twice(alloc, id) {
+            Ok(()) => Ok(true),
+            Err(failure) => match self.unfound(failure) {
+                Some(fault) => Err(fault.error()),
+                None => Ok(false),
+            },
+        }
+    }
+
+    /// Returns the ids that begin with a prefix, by the indexes of packs and the names of loose files.
+    ///
+    /// The answer has the least of these ids, in order, and `most` of them if there are more. So two
+    /// are enough to tell whether the prefix is ambiguous. If there are none, the packs are listed
+    /// once more.
+    ///
+    /// # Errors
+    ///
+    /// - `Damaged`, `Unsupported` or `Failed` if fewer than `most` were found, and a file or folder was
+    ///   not read.
+    /// - `OutOfMemory` if an allocation failed.
+    pub fn completions(
+        &mut self,
+        alloc: A,
+        prefix: Prefix,
+        most: usize,
+    ) -> Result<Vec<ObjectId, A>, Error>
+        // Each id begins with the prefix.
+        ensures begin { IfOk result (λ ids. All (λ id. BeginsWith id prefix) ids.items) }
+
+        // The ids rise, so each is there once.
+        ensures rising { IfOk result (λ ids. IsStrictlySortedBy id_order ids.items) }
+
+        // There are `most` of them at most.
+        ensures few { IfOk result (λ ids. length ids.items ≤ most) }
+    {
+        let mut found = Completions::new(alloc, prefix, most);
+        match self.complete(alloc, &mut found) {
+            Ok(()) => Ok(found.sorted(alloc, prefix, most)?),
+            Err(fault) => Err(fault.error()),
+        }
+    }
+
+    /// Returns how many objects the packs have, by their indexes. An object of several packs counts
+    /// for each. A pack whose index is not read counts for nothing, as in git.
+    ///
+    /// # Errors
+    ///
+    /// [`AllocError`]: an allocation failed.
+    pub fn packed_len(&mut self, alloc: A) -> Result<u64, AllocError> {
+        self.packed(alloc)
     }
 }

@@ -7,12 +7,15 @@ use crate::source::Source;
 use gix_zlib::{InflateError, inflate};
 use std::alloc::Allocator;
 
-/// Returns how many bytes of a file can belong to a stream whose content has this size.
+/// How many bytes a stream may have that its content does not need.
+const MOST_PADDING: usize = 1 << 24;
+
+/// Returns after how many bytes of a file a stream is taken for malformed, if its content has this
+/// size.
 ///
-/// A compressor that gains nothing adds an eighth at most, and the header, the ends of blocks and
-/// the check value need some more.
+/// A compressor that gains nothing adds an eighth at most. Git reads empty blocks without end.
 fn longest(size: usize) -> usize {
-    size.saturating_add(size / 8).saturating_add(4096)
+    size.saturating_add(size / 8).saturating_add(MOST_PADDING)
 }
 
 /// Inflates a stream from these bytes; `None` if they may end before it does.

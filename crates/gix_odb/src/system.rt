@@ -8,7 +8,7 @@ use std::fs::{File, Files, OpenFile};
 use std::io::{self, ErrorKind, Read};
 use std::os::unix::fs::FileExt;
 
-/// Is the file system. It opens only paths that are UTF-8.
+/// The file system. It opens only paths that are UTF-8.
 #[derive(Clone, Copy, Drop)]
 pub struct System<'a>(pub &'a HostRuntime);
 

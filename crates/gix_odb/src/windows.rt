@@ -14,7 +14,7 @@ const STEP: u64 = 1 << 15;
 /// How many windows are kept.
 const WINDOWS: u64 = 16;
 
-/// Is a part of a file from `start` on.
+/// A part of a file from `start` on.
 #[derive(Drop)]
 struct Window<A: Allocator> {
     start: u64,

@@ -6,3 +6,4 @@ pub mod OneObject
 pub mod Objects
 pub mod Faults
 pub mod Parts
+pub mod Places

@@ -111,33 +111,3 @@ not-broken base fault text (here t some wrong) made (more u step tail some' is n
 not-broken base fault text (later t other some is b) made m =
     let c = first-made base text made m some other is in
     not-broken base fault other.rest b c.0 c.2
-
--- ---- by their size alone
-
--- some target is made so far, which leaves so many bytes of a size
-abbrev pub IsFollowedTo : List ℕ → List ℕ → List ℕ → ℕ → ℕ → Type 0
-IsFollowedTo base text rest left size = (made : List ℕ) × IsFollowed base text rest made × (length made + left ≡ size)
-
-pub sized-start : (base text : List ℕ) (size : ℕ) → IsFollowedTo base text text size size
-sized-start base text size = ([], followed-start base text [] refl, omega arith)
-
-pub sized-step : (base text rest next : List ℕ) (left less size : ℕ) (step : Addition) → IsFollowedTo base text rest left size → 0 < length rest → step_at base rest ≡ Ok step
-    → next ≡ step.rest → length step.added + less ≡ left → IsFollowedTo base text next less size
-sized-step base text rest next left less size step f some is n sum =
-    let sized = f.2 in
-    let long : length (f.0 ++ step.added) ≡ length f.0 + length step.added = length-append f.0 step.added in
-    (f.0 ++ step.added, followed-step base text rest f.0 next (f.0 ++ step.added) step f.1 some is n refl, omega (arith, sized, long, sum))
-
-pub sized-end : (base text rest : List ℕ) (left size : ℕ) → IsFollowedTo base text rest left size → length rest ≡ 0 → left ≡ 0 → (target : List ℕ) × Makes base text target × (size ≡ length target)
-sized-end base text rest left size f e none = let sized = f.2 in (f.0, followed-end base text rest f.0 f.1 e, omega (arith, sized, none))
-
-pub sized-other : (base text rest : List ℕ) (left size : ℕ) → IsFollowedTo base text rest left size → length rest ≡ 0 → left ≢ 0 → IsUnmade base text size TargetSize
-sized-other base text rest left size f e some = let sized = f.2 in other-size base text rest f.0 size f.1 e (λ same. some (omega (arith, sized, same)))
-
-pub sized-long : (base text rest : List ℕ) (left size : ℕ) (step : Addition) → IsFollowedTo base text rest left size → 0 < length rest → step_at base rest ≡ Ok step → left < length step.added
-    → IsUnmade base text size TargetSize
-sized-long base text rest left size step f some is long = let sized = f.2 in too-long base text rest f.0 size step f.1 some is (omega (arith, sized, long))
-
-pub sized-unmade : (base text rest : List ℕ) (left size : ℕ) (fault : DeltaFault) → IsFollowedTo base text rest left size → 0 < length rest → step_at base rest ≡ Err fault → IsStepFault fault
-    → IsUnmade base text size fault
-sized-unmade base text rest left size fault f some is own = unmade base text rest f.0 size fault f.1 some is own

@@ -22,9 +22,9 @@ not-wrong base delta Reserved target wrong is = not-broken base Reserved (instru
 pub no-delta : (base delta : List ℕ) (limit : ℕ) (error : ApplyError) (target : List ℕ) → error ≢ OutOfMemory → IsRefused base delta limit error → length target ≤ limit → ¬ IsDelta base delta target
 no-delta base delta limit (Malformed fault) target memory refused small is = not-wrong base delta fault target refused is
 no-delta base delta limit TooLarge target memory refused small is =
-    let same = ap length (one-target base delta refused.0 target refused.1 is) in
+    let sized = is.sized in
     let large = refused.2 in
-    absurd (omega (arith, same, large, small))
+    absurd (omega (arith, sized, large, small))
 no-delta base delta limit OutOfMemory target memory refused small is = memory refl
 
 -- the instructions and the size of a delta that is for a base

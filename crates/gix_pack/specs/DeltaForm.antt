@@ -87,11 +87,6 @@ pub data Breaks (base : List ℕ) (fault : DeltaFault) : List ℕ → Type 0 whe
   here : (text : List ℕ) → 0 < length text → step_at base text ≡ Err fault → Breaks base fault text
   later : (text : List ℕ) (step : Addition) → 0 < length text → step_at base text ≡ Ok step → Breaks base fault step.rest → Breaks base fault text
 
--- A delta begins with the size of its base and the size of its target.
-pub record HasSizes (delta : List ℕ) : Type 0 where
-  pub source : HasNumber delta
-  pub target : HasNumber (behind_number delta)
-
 -- The size of the base, by the delta.
 abbrev pub source_size : List ℕ → ℕ
 source_size delta = low_first (number_bytes delta)
@@ -125,8 +120,9 @@ IsWrong base delta Truncated = Breaks base Truncated (instructions delta)
 IsWrong base delta Outside = Breaks base Outside (instructions delta)
 IsWrong base delta Reserved = Breaks base Reserved (instructions delta)
 
--- Why a delta is not applied: it has a fault, it makes more than limit bytes, or memory ran out.
+-- Why a delta is not applied: it has a fault, it is for the base and says a target of more than limit
+-- bytes, or memory ran out.
 abbrev pub IsRefused : List ℕ → List ℕ → ℕ → ApplyError → Type 0
 IsRefused base delta limit (Malformed fault) = IsWrong base delta fault
-IsRefused base delta limit TooLarge = (target : List ℕ) × IsDelta base delta target × (limit < length target)
+IsRefused base delta limit TooLarge = IsFor base delta × HasNumber (behind_number delta) × (limit < target_size delta)
 IsRefused base delta limit OutOfMemory = Unit {0}

@@ -5,4 +5,4 @@ mod function;
 mod step;
 
 pub use fault::{ApplyError, DeltaFault};
-pub use function::{Sizes, apply, read_sizes};
+pub use function::apply;

@@ -1,19 +1,19 @@
 //! Looks up an id in parts of an index, so that the index is not read whole.
 //!
 //! [`Head`] has the first bytes of the file. It says where the ids with a first byte are
-//! ([`Head::span`]). [`position`] finds an id among them, and [`read_offset`] and [`read_large_offset`] read
-//! its offset from where the head says.
+//! ([`Head::span`]). [`position`] finds an id among them, and [`read_offset`] and
+//! [`read_large_offset`] read its offset from where the head says.
 
-ghost use Rattle.std.specs.Prelude.{◌≡◌, ◌↔◌, ℕ, ◌+◌, ◌*◌, ◌/◌, ◌^◌, ◌≤◌, ◌<◌, length, IsOk, IfOk, IfErr, MatchOption};
+ghost use Rattle.std.specs.Prelude.{◌≡◌, ◌↔◌, ℕ, ◌+◌, ◌*◌, ◌/◌, ◌^◌, ◌≤◌, ◌<◌, length, IsOk, IfOk, IfErr, MatchOption, MatchResult};
 ghost use Rattle.gix_ids.specs.TableBytes.{word, long};
 ghost use Rattle.gix_ids.specs.TableForm.{fan, fan_below};
-ghost use Rattle.gix_ids.specs.TableLookup.{IsAt, IsAbsent};
+ghost use Rattle.gix_ids.specs.TableLookup.{IsAt, IsAbsent, IsGap};
 ghost use Rattle.gix_pack.specs.IndexForm.{count_of, table_of, offsets_from, large_from, offset_said, IsFaulty};
 ghost use Rattle.gix_pack.specs.PartForm.{IsHead, part_of, AreRising};
 
 use crate::index::{OpenError, OpenFault, check_header};
 use gix_base::hash::ObjectId;
-use gix_ids::{Span, Table, below, check_fanout, long_at, narrow, word_at};
+use gix_ids::{Span, Table, below, check_fanout, id_at, long_at, narrow, word_at};
 use std::alloc::Global;
 use std::convert::AsSlice;
 use std::marker::Model;
@@ -146,12 +146,13 @@ impl<B: AsSlice<u8> + Drop> Head<B> {
     }
 }
 
-/// Returns the position of `id` among `ids`, which have 20 bytes each.
+/// Searches for `id` among `ids`, which have 20 bytes each.
 ///
-/// Bytes after the last whole id do not matter. If the ids do not rise, `None` may be the answer
-/// although they have `id`.
-pub fn position(ids: &[u8], id: ObjectId) -> Option<usize>
-    ensures { MatchOption result (AreRising ids.now → IsAbsent ids.now (part_of ids.now) id) (IsAt ids.now (part_of ids.now) id) }
+/// Returns the position of `id`, or as an error the position before which it would be. Bytes after
+/// the last whole id do not matter. If the ids do not rise, an error may be the answer although they
+/// have `id`.
+pub fn search(ids: &[u8], id: ObjectId) -> Result<usize, usize>
+    ensures { MatchResult result (IsAt ids.now (part_of ids.now) id) (λ k. AreRising ids.now → IsGap ids.now (part_of ids.now) id k) }
 {
     let count = ids.len() / 20;
     let table = Table {
@@ -163,9 +164,27 @@ pub fn position(ids: &[u8], id: ObjectId) -> Option<usize>
         low: 0,
         high: count,
     };
-    match narrow(ids, table, span, id) {
+    narrow(ids, table, span, id)
+}
+
+/// Returns the position of `id` among `ids`, as [`search`] does, or `None` if they do not have it.
+pub fn position(ids: &[u8], id: ObjectId) -> Option<usize>
+    ensures { MatchOption result (AreRising ids.now → IsAbsent ids.now (part_of ids.now) id) (IsAt ids.now (part_of ids.now) id) }
+{
+    match search(ids, id) {
         Ok(place) => Some(place),
         Err(_) => None,
+    }
+}
+
+/// Returns the id at a position of `ids`, which have 20 bytes each; `None` past the last one.
+pub fn id_in(ids: &[u8], position: usize) -> Option<ObjectId>
+    ensures { MatchOption result ((part_of ids.now).count ≤ position) (λ id. IsAt ids.now (part_of ids.now) id position) }
+{
+    if position < ids.len() / 20 {
+        Some(id_at(ids, 20 * position))
+    } else {
+        None
     }
 }
 

@@ -4,6 +4,9 @@
 //!   does: `ID KIND SIZE`, and after that line the content and a line feed.
 //! - `object_lines --commits OBJECTS` prints the line of each commit as `git rev-list --timestamp
 //!   --parents --no-walk` does: `TIME ID PARENT..`.
+//! - `object_lines --tags OBJECTS` prints what each tag says: `TARGET KIND DATE NAME`.
+//! - `object_lines --ids OBJECTS` prints the ids that begin with the digits on each line, at most 16,
+//!   after these digits and a colon: `DIGITS: ID..`.
 //!
 //! If there is no such object, or a line is not an id, the answer is `LINE missing`. If an object
 //! is not read, the answer is `LINE error: TEXT`. The status is 1 if the store cannot be opened, or
@@ -11,23 +14,25 @@
 //! `tests/objects` run this program.
 #![tactic(auto)]
 
-use gix_base::hash::ObjectId;
-use gix_base::object::Kind;
+use gix_base::hash::{ObjectId, Prefix};
+use gix_object::kind_name;
 use gix_odb::{Error, Object, Store, System};
 use std::alloc::Global;
 use std::env;
 use std::io::{self, BufRead, BufReader, BufWriter, Write};
 use std::process::ExitCode;
 
-/// Returns the name of a kind.
-fn kind_text(kind: Kind) -> &'static str {
-    match kind {
-        Kind::Tree => "tree",
-        Kind::Blob => "blob",
-        Kind::Commit => "commit",
-        Kind::Tag => "tag",
-    }
+/// What is printed of each line.
+#[derive(Clone, Copy, PartialEq, Eq)]
+enum Mode {
+    Objects,
+    Commits,
+    Tags,
+    Ids,
 }
+
+/// How many ids are printed for one prefix.
+const MOST_IDS: usize = 16;
 
 /// Prints why the object that a line names is not read.
 fn print_error<W: Write>(line: &str, error: Error, output: &mut W) -> io::Result<()> {
@@ -47,7 +52,7 @@ fn print_object<W: Write>(
 ) -> io::Result<()> {
     match store.read(alloc, id) {
         Ok(Object { kind, content }) => {
-            let kind = kind_text(kind);
+            let kind = kind_name(kind);
             let size = content.len();
             writeln!(output, "{id} {kind} {size}")?;
             output.write_all(&content)?;
@@ -78,36 +83,84 @@ fn print_commit<W: Write>(
     }
 }
 
-/// Prints the answer to a line.
-fn print_answer<W: Write>(
+/// Prints what a tag says.
+fn print_tag<W: Write>(
     alloc: Global,
     store: &mut Store<System<'_>>,
-    commits: bool,
+    id: ObjectId,
     line: &str,
     output: &mut W,
 ) -> io::Result<()> {
-    match ObjectId::from_hex(line.as_bytes()) {
-        Ok(id) if commits => print_commit(alloc, store, id, line, output),
-        Ok(id) => print_object(alloc, store, id, line, output),
-        Err(_) => writeln!(output, "{line} missing"),
+    match store.tag(alloc, id) {
+        Ok(tag) => {
+            let kind = kind_name(tag.kind);
+            write!(output, "{} {kind} {} ", tag.target, tag.date)?;
+            output.write_all(&tag.name)?;
+            output.write_all(b"\n")
+        }
+        Err(error) => print_error(line, error, output),
+    }
+}
+
+/// Prints the ids that begin with the digits of a line.
+fn print_ids<W: Write>(
+    alloc: Global,
+    store: &mut Store<System<'_>>,
+    line: &str,
+    output: &mut W,
+) -> io::Result<()> {
+    let Ok(prefix) = Prefix::from_hex(line.as_bytes()) else {
+        return writeln!(output, "{line} missing");
+    };
+    match store.completions(alloc, prefix, MOST_IDS) {
+        Ok(ids) => {
+            write!(output, "{line}:")?;
+            for id in ids.iter() {
+                write!(output, " {id}")?;
+            }
+            output.write_all(b"\n")
+        }
+        Err(error) => print_error(line, error, output),
+    }
+}
+
+/// Prints the answer to a line that is an id.
+fn print_answer<W: Write>(
+    alloc: Global,
+    store: &mut Store<System<'_>>,
+    mode: Mode,
+    line: &str,
+    output: &mut W,
+) -> io::Result<()> {
+    let Ok(id) = ObjectId::from_hex(line.as_bytes()) else {
+        return writeln!(output, "{line} missing");
+    };
+    match mode {
+        Mode::Commits => print_commit(alloc, store, id, line, output),
+        Mode::Tags => print_tag(alloc, store, id, line, output),
+        _ => print_object(alloc, store, id, line, output),
     }
 }
 
 /// Prints the answers to all lines of the input.
-fn print_answers(rt: &HostRuntime, store: &mut Store<System<'_>>, commits: bool) -> io::Result<()> {
+fn print_answers(rt: &HostRuntime, store: &mut Store<System<'_>>, mode: Mode) -> io::Result<()> {
     let alloc = rt.alloc();
     let mut output = BufWriter::new(alloc, io::writer(rt))?;
     for line in BufReader::new(alloc, rt.reader())?.lines(alloc) {
         let line = line?;
-        print_answer(alloc, store, commits, line.as_str(), &mut output)?;
+        if mode == Mode::Ids {
+            print_ids(alloc, store, line.as_str(), &mut output)?;
+        } else {
+            print_answer(alloc, store, mode, line.as_str(), &mut output)?;
+        }
     }
     output.flush()
 }
 
 /// Opens the store, and prints the answers. Returns the status.
-fn answer(rt: &HostRuntime, commits: bool, path: &str) -> ExitCode {
+fn answer(rt: &HostRuntime, mode: Mode, path: &str) -> ExitCode {
     match Store::open(rt.alloc(), System(rt), path.as_bytes()) {
-        Ok(mut store) => match print_answers(rt, &mut store, commits) {
+        Ok(mut store) => match print_answers(rt, &mut store, mode) {
             Ok(()) => ExitCode::SUCCESS,
             Err(_) => ExitCode::FAILURE,
         },
@@ -115,6 +168,19 @@ fn answer(rt: &HostRuntime, commits: bool, path: &str) -> ExitCode {
             let _ = eprintln!(rt; "object_lines: {error}");
             ExitCode::FAILURE
         }
+    }
+}
+
+/// Returns the mode that a word asks for.
+fn mode_of(word: &str) -> Option<Mode> {
+    if word == "--commits" {
+        Some(Mode::Commits)
+    } else if word == "--tags" {
+        Some(Mode::Tags)
+    } else if word == "--ids" {
+        Some(Mode::Ids)
+    } else {
+        None
     }
 }
 
@@ -127,10 +193,13 @@ fn main(rt: HostRuntime) -> ExitCode {
         return ExitCode::from(2);
     };
     let Some(second) = words.next() else {
-        return answer(&rt, false, first.as_str());
+        return answer(&rt, Mode::Objects, first.as_str());
     };
-    if first.as_str() != "--commits" || words.next().is_some() {
+    if words.next().is_some() {
         return ExitCode::from(2);
     }
-    answer(&rt, true, second.as_str())
+    match mode_of(first.as_str()) {
+        Some(mode) => answer(&rt, mode, second.as_str()),
+        None => ExitCode::from(2),
+    }
 }

@@ -42,7 +42,7 @@ impl fmt::Display for DeltaFault {
 pub enum ApplyError {
     /// The delta has a fault.
     Malformed(DeltaFault),
-    /// The delta makes a target of more bytes than the limit.
+    /// The delta says a target of more bytes than the limit.
     TooLarge,
     /// An allocation failed.
     OutOfMemory,

@@ -12,24 +12,26 @@ returns-in_default-kind_of_name-clause-refused c =
     let type = rw c.after_line-text.ensures.rest at c.in-Some-type_name.ensures in
     (c.in-Some.ensures.0, type.0, λ kind is. c.in_default-kind_of_name.ensures kind (is ∙ sym type.1))
 
-pub returns-then-has_name-clause-read : goal.returns-then-has_name-clause-read
-returns-then-has_name-clause-read c =
+pub returns-in-Some-name_and_date-clause-read : goal.returns-in-Some-name_and_date-clause-read
+returns-in-Some-name_and_date-clause-read c =
     let type = rw c.after_line-text.ensures.rest at c.in-Some-type_name.ensures in
-    let name = rw (c.after.ensures, c.after_line-text.ensures.rest) at c.has_name.ensures in
+    let name = rw (c.after.ensures, c.after_line-text.ensures.rest) at c.in-Some-name_and_date.ensures in
     record {
       object = c.in-Some.ensures.0;
       names = c.in-Some.ensures.1;
       type = type.0;
       says = c.in-Some-kind_of_name.ensures ∙ type.1;
-      name = name.0 c.if-has_name.true;
+      named = name.0;
+      calls = name.1;
+      dates = name.2;
     }
 
-pub returns-else-has_name-clause-refused : goal.returns-else-has_name-clause-refused
-returns-else-has_name-clause-refused c =
+pub returns-in-None-clause-refused : goal.returns-in-None-clause-refused
+returns-in-None-clause-refused c =
     let type = rw c.after_line-text.ensures.rest at c.in-Some-type_name.ensures in
-    let name = rw (c.after.ensures, c.after_line-text.ensures.rest) at c.has_name.ensures in (
+    let name = rw (c.after.ensures, c.after_line-text.ensures.rest) at c.in-None.ensures in (
       c.in-Some.ensures.0,
       type.0,
       (c.in-Some-kind_of_name.kind, c.in-Some-kind_of_name.ensures ∙ type.1),
-      λ has. let t = name.1 has in let f = c.if-has_name.false in cc,
+      name,
     )

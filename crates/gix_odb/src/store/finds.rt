@@ -1,0 +1,168 @@
+//! Finds ids without reading objects.
+
+use crate::completions::Completions;
+use crate::failure::{Failure, Fault};
+use crate::files::Folders;
+use crate::loose;
+use crate::store::Store;
+use gix_base::hash::ObjectId;
+use std::alloc::{AllocError, Allocator};
+
+/// Tells whether a look-up found a copy. Remembers its failure if it is another one than `Missing`.
+fn is_found(failure: &mut Failure, looked: Result<(), Failure>) -> Result<bool, Fault> {
+    match looked {
+        Ok(()) => Ok(true),
+        Err(Failure::InFile(Fault::OutOfMemory)) => Err(Fault::OutOfMemory),
+        Err(next) => {
+            *failure = failure.or(next);
+            Ok(false)
+        }
+    }
+}
+
+impl<F: Folders + Drop, A: Allocator + Copy> Store<F, A> {
+    /// Succeeds if the pack at a place among the packs has the object.
+    fn has_in_pack(&mut self, alloc: A, place: usize, id: ObjectId) -> Result<(), Failure> {
+        let Some(pack) = self.packs.get_mut(place) else {
+            return Err(Failure::Missing);
+        };
+        let Some(folder) = self.folders.get(pack.folder) else {
+            return Err(Failure::Missing);
+        };
+        pack.has(alloc, &self.files, &folder.path, id, &mut self.chains)
+    }
+
+    /// Succeeds if the folder with a number has a loose file of the object.
+    fn has_loose_in(&self, alloc: A, number: usize, id: ObjectId) -> Result<(), Failure> {
+        match self.folders.get(number) {
+            Some(folder) if folder.is_reached => {
+                loose::has(alloc, &self.files, number, &folder.path, id)
+            }
+            _ => Err(Failure::Missing),
+        }
+    }
+
+    /// Succeeds if a pack that is listed, or a loose file, has the object.
+    pub(super) fn has_once(&mut self, alloc: A, id: ObjectId) -> Result<(), Failure> {
+        let mut failure = Failure::Missing;
+        for place in 0..self.packs.len() {
+            let looked = self.has_in_pack(alloc, place, id);
+            if is_found(&mut failure, looked)? {
+                return Ok(());
+            }
+        }
+        for number in 0..self.folders.len() {
+            let looked = self.has_loose_in(alloc, number, id);
+            if is_found(&mut failure, looked)? {
+                return Ok(());
+            }
+        }
+        Err(failure)
+    }
+
+    /// Succeeds if there is a copy of the object. Lists the packs once more if none was found.
+    pub(super) fn has_twice(&mut self, alloc: A, id: ObjectId) -> Result<(), Failure> {
+        match self.has_once(alloc, id) {
+            Ok(()) => Ok(()),
+            Err(failure) if failure.is_out_of_memory() => Err(failure),
+            Err(_) => {
+                self.list_packs(alloc)?;
+                self.has_once(alloc, id)
+            }
+        }
+    }
+
+    /// Adds the ids in the pack at a place among the packs to those that were found.
+    fn complete_in_pack(
+        &mut self,
+        alloc: A,
+        place: usize,
+        found: &mut Completions<A>,
+    ) -> Result<(), Failure> {
+        let Some(pack) = self.packs.get_mut(place) else {
+            return Err(Failure::Missing);
+        };
+        let Some(folder) = self.folders.get(pack.folder) else {
+            return Err(Failure::Missing);
+        };
+        pack.complete(alloc, &self.files, &folder.path, found)
+    }
+
+    /// Adds the ids of loose files in the folder with a number to those that were found.
+    fn complete_loose_in(
+        &self,
+        alloc: A,
+        number: usize,
+        found: &mut Completions<A>,
+    ) -> Result<(), Failure> {
+        match self.folders.get(number) {
+            Some(folder) if folder.is_reached => {
+                Ok(loose::complete(alloc, &self.files, number, &folder.path, found)?)
+            }
+            _ => Ok(()),
+        }
+    }
+
+    /// Adds the ids in all packs and folders to those that were found. Returns the first failure, or
+    /// `Missing`.
+    fn complete_once(&mut self, alloc: A, found: &mut Completions<A>) -> Result<Failure, Fault> {
+        let mut failure = Failure::Missing;
+        for place in 0..self.packs.len() {
+            let looked = self.complete_in_pack(alloc, place, found);
+            is_found(&mut failure, looked)?;
+        }
+        for number in 0..self.folders.len() {
+            let looked = self.complete_loose_in(alloc, number, found);
+            is_found(&mut failure, looked)?;
+        }
+        Ok(failure)
+    }
+
+    /// Adds the ids in all packs and folders to those that were found.
+    ///
+    /// Lists the packs once more if none was found. Fails if a pack or a folder was not read, unless
+    /// as many ids were found as are wanted.
+    pub(super) fn complete(&mut self, alloc: A, found: &mut Completions<A>) -> Result<(), Fault> {
+        let mut failure = self.complete_once(alloc, found)?;
+        if found.len() == 0 {
+            self.list_packs(alloc)?;
+            failure = self.complete_once(alloc, found)?;
+        }
+        match self.unfound(failure) {
+            Some(fault) if !found.is_full() => Err(fault),
+            _ => Ok(()),
+        }
+    }
+
+    /// Returns the fault for which an id may not have been found.
+    pub(super) fn unfound(&self, failure: Failure) -> Option<Fault> {
+        match failure {
+            Failure::InFile(fault) => Some(fault),
+            _ => self.fault(),
+        }
+    }
+
+    /// Returns how many objects the pack at a place among the packs has.
+    fn pack_len(&mut self, alloc: A, place: usize) -> Result<usize, AllocError> {
+        let Some(pack) = self.packs.get_mut(place) else {
+            return Ok(0);
+        };
+        let Some(folder) = self.folders.get(pack.folder) else {
+            return Ok(0);
+        };
+        match pack.len(alloc, &self.files, &folder.path) {
+            Ok(count) => Ok(count),
+            Err(failure) if failure.is_out_of_memory() => Err(AllocError),
+            Err(_) => Ok(0),
+        }
+    }
+
+    /// Returns how many objects all packs have together.
+    pub(super) fn packed(&mut self, alloc: A) -> Result<u64, AllocError> {
+        let mut count = 0u64;
+        for place in 0..self.packs.len() {
+            count = count.saturating_add(self.pack_len(alloc, place)? as u64);
+        }
+        Ok(count)
+    }
+}
