@@ -1,0 +1,209 @@
+//! Has the reasons why a repository or its settings are refused.
+
+use std::alloc::{AllocError, AllocFailed, Allocator, Global};
+use std::fmt;
+use std::io::ErrorKind;
+
+/// Says why a repository is not found, or why it or its settings are refused.
+#[derive(Clone, Copy, Debug, PartialEq, Eq)]
+pub enum Reason {
+    /// There is no repository in the current folder or above it.
+    NoRepository,
+    /// There is none up to the mount point, and `GIT_DISCOVERY_ACROSS_FILESYSTEM` is not set.
+    NoRepositoryUpToMount,
+    /// The path, from `GIT_DIR` or from a file `.git`, does not lead to a repository.
+    NotARepository,
+    /// The file `.git` does not begin with `gitdir: `.
+    GitfileFormat,
+    /// The file `.git` has no path.
+    GitfileNoPath,
+    /// The file `.git` has more than 1 MiB.
+    GitfileTooLarge,
+    /// The file `commondir` is empty.
+    EmptyCommonDir,
+    /// The repository belongs to another user, and `safe.directory` does not name it.
+    DubiousOwnership,
+    /// The repository is bare, and `safe.bareRepository` is `explicit`.
+    BareRepositoryRefused,
+    /// `safe.bareRepository` has another value than `explicit` and `all`.
+    BadBareRepository,
+    /// `core.repositoryformatversion` is this number, greater than 1.
+    FormatVersion(i64),
+    /// A repository of version 1 has an extension that is not known.
+    UnknownExtension,
+    /// A repository of version 0 has an extension that only version 1 may have.
+    ExtensionNeedsVersion1,
+    /// `extensions.objectFormat` is not `sha1`.
+    ObjectFormat,
+    /// `extensions.refStorage` is not `files`.
+    RefStorage,
+    /// The config file has a malformed line with this number.
+    BadConfigLine(u64),
+    /// The setting has no value, and needs one.
+    MissingValue,
+    /// The value of the setting is not a boolean.
+    BadBoolean,
+    /// The value of the setting is not a number, or is too large.
+    BadNumber,
+    /// The length of abbreviated object names is not between 4 and 40.
+    BadAbbrev,
+    /// Config files include one another more than ten deep.
+    IncludeDepth,
+    /// A relative `include.path` does not come from a file.
+    RelativeInclude,
+    /// The path of an `include` begins with `~`, and cannot be expanded.
+    UnexpandedInclude,
+    /// The condition `hasconfig:` of an `includeIf` is not supported.
+    HasConfig,
+    /// `GIT_CONFIG_COUNT` is not a number, or too large.
+    BadConfigCount,
+    /// A variable `GIT_CONFIG_KEY_n` is missing.
+    MissingConfigKey(u64),
+    /// A variable `GIT_CONFIG_VALUE_n` is missing.
+    MissingConfigValue(u64),
+    /// `GIT_CONFIG_PARAMETERS` is malformed.
+    BadConfigParameters,
+    /// A key from the environment is malformed.
+    BadConfigKey,
+    /// The current folder cannot be read.
+    NoCurrentFolder,
+    /// A path of `GIT_ALTERNATE_OBJECT_DIRECTORIES` is in quotes.
+    QuotedPath,
+    /// The path is not UTF-8, and `std` opens no such path.
+    NotUtf8,
+    /// The system failed to look at, open or read a file.
+    Failed(ErrorKind),
+    /// An allocation failed.
+    OutOfMemory,
+}
+
+/// Is a reason, with the path or the setting that it is about.
+#[derive(Debug, Drop)]
+pub struct DiscoverError<A: Allocator = Global> {
+    pub reason: Reason,
+    /// Has the path, or the name of the setting, if the reason is about one.
+    pub subject: Option<Vec<u8, A>>,
+}
+
+impl<A: Allocator> From<AllocError> for DiscoverError<A> {
+    fn from(_e: AllocError) -> DiscoverError<A> {
+        DiscoverError {
+            reason: Reason::OutOfMemory,
+            subject: None,
+        }
+    }
+}
+
+impl<T: Drop, A: Allocator> From<AllocFailed<T>> for DiscoverError<A> {
+    fn from(_e: AllocFailed<T>) -> DiscoverError<A> {
+        DiscoverError {
+            reason: Reason::OutOfMemory,
+            subject: None,
+        }
+    }
+}
+
+impl<A: Allocator> From<Reason> for DiscoverError<A> {
+    fn from(reason: Reason) -> DiscoverError<A> {
+        DiscoverError {
+            reason,
+            subject: None,
+        }
+    }
+}
+
+/// Returns the error about a path or a setting.
+pub(crate) fn about<A: Allocator>(alloc: A, reason: Reason, subject: &[u8]) -> DiscoverError<A> {
+    match subject.to_vec(alloc) {
+        Ok(subject) => DiscoverError {
+            reason,
+            subject: Some(subject),
+        },
+        Err(_) => DiscoverError {
+            reason: Reason::OutOfMemory,
+            subject: None,
+        },
+    }
+}
+
+/// Writes bytes as text; `?` in place of a byte that is not printable ASCII.
+fn write_bytes<W: fmt::Write>(f: &mut fmt::Formatter<W>, bytes: &[u8]) -> fmt::Result {
+    match str::from_utf8(bytes) {
+        Ok(text) => f.write_str(text),
+        Err(_) => {
+            for byte in bytes {
+                let shown = if (b' '..=b'~').contains(byte) {
+                    *byte
+                } else {
+                    b'?'
+                };
+                f.write_char(char::from(shown))?;
+            }
+            Ok(())
+        }
+    }
+}
+
+/// Returns the text of a reason, up to its path or setting.
+fn reason_text(reason: Reason) -> &'static str {
+    match reason {
+        Reason::NoRepository | Reason::NoRepositoryUpToMount => {
+            "not a git repository (or any of the parent directories): .git"
+        }
+        Reason::NotARepository => "not a git repository",
+        Reason::GitfileFormat => "invalid gitfile format",
+        Reason::GitfileNoPath => "no path in gitfile",
+        Reason::GitfileTooLarge => "too large to be a .git file",
+        Reason::EmptyCommonDir => "failed to read",
+        Reason::DubiousOwnership => "detected dubious ownership in repository at",
+        Reason::BareRepositoryRefused => "cannot use bare repository",
+        Reason::BadBareRepository => "bad value of a setting",
+        Reason::FormatVersion(_) => "expected git repo version <= 1",
+        Reason::UnknownExtension => "unknown repository extension found",
+        Reason::ExtensionNeedsVersion1 => "repo version is 0, but v1-only extension found",
+        Reason::ObjectFormat => "unsupported object format",
+        Reason::RefStorage => "unsupported ref storage",
+        Reason::BadConfigLine(_) => "bad config line in file",
+        Reason::MissingValue => "missing value for",
+        Reason::BadBoolean => "bad boolean config value for",
+        Reason::BadNumber => "bad numeric config value for",
+        Reason::BadAbbrev => "abbrev length out of range",
+        Reason::IncludeDepth => "exceeded maximum include depth (10) at",
+        Reason::RelativeInclude => "relative config includes must come from files",
+        Reason::UnexpandedInclude => "could not expand include path",
+        Reason::HasConfig => "unsupported condition of includeIf",
+        Reason::BadConfigCount => "bogus count in GIT_CONFIG_COUNT",
+        Reason::MissingConfigKey(_) => "missing config key",
+        Reason::MissingConfigValue(_) => "missing config value",
+        Reason::BadConfigParameters => "bogus format in GIT_CONFIG_PARAMETERS",
+        Reason::BadConfigKey => "invalid config key",
+        Reason::NoCurrentFolder => "unable to read current working directory",
+        Reason::QuotedPath => "unsupported: path in quotes",
+        Reason::NotUtf8 => "unsupported: path is not UTF-8",
+        Reason::Failed(_) => "unable to access",
+        Reason::OutOfMemory => "out of memory",
+    }
+}
+
+/// Writes the number that a reason has, after its text.
+fn write_number<W: fmt::Write>(f: &mut fmt::Formatter<W>, reason: Reason) -> fmt::Result {
+    match reason {
+        Reason::FormatVersion(n) => write!(f, ", found {n}"),
+        Reason::BadConfigLine(n) => write!(f, " at line {n}"),
+        Reason::MissingConfigKey(n) => write!(f, " GIT_CONFIG_KEY_{n}"),
+        Reason::MissingConfigValue(n) => write!(f, " GIT_CONFIG_VALUE_{n}"),
+        _ => Ok(()),
+    }
+}
+
+impl<A: Allocator> fmt::Display for DiscoverError<A> {
+    fn fmt<W: fmt::Write>(&self, f: &mut fmt::Formatter<W>) -> fmt::Result {
+        f.write_str(reason_text(self.reason))?;
+        if let Some(subject) = &self.subject {
+            f.write_str(" '")?;
+            write_bytes(f, subject)?;
+            f.write_str("'")?;
+        }
+        write_number(f, self.reason)
+    }
+}

@@ -1,0 +1,127 @@
+//! Reads the files that lead to a repository: `.git` and `commondir` (gitrepository-layout).
+
+use crate::environment::{Environment, Variable};
+use crate::error::{DiscoverError, Reason, about};
+use crate::head::is_head;
+use crate::paths::{before_zero, resolved, within, without_line_end};
+use crate::places::{PathKind, Places};
+use crate::source::{is_folder, place, read_file, read_front};
+use std::alloc::Allocator;
+
+/// How many bytes a file `.git` has at most, as in git.
+const MOST_BYTES: usize = 1 << 20;
+
+/// Returns the path in the text of a file `.git` (gitglossary, "gitfile").
+///
+/// # Errors
+///
+/// - `GitfileFormat` if the text does not begin with `gitdir: `.
+/// - `GitfileNoPath` if no path follows.
+pub(crate) fn linked(text: &[u8]) -> Result<&[u8], Reason> {
+    match text.strip_prefix(b"gitdir: ") {
+        Some(rest) => match without_line_end(rest) {
+            [] => Err(Reason::GitfileNoPath),
+            path => Ok(before_zero(path)),
+        },
+        None => Err(Reason::GitfileFormat),
+    }
+}
+
+/// Returns the path to which a file `.git` in a folder leads. Its path is in that folder.
+pub(crate) fn read_gitfile<F: Places, A: Allocator + Copy>(
+    alloc: A,
+    files: &F,
+    folder: &[u8],
+    path: &[u8],
+) -> Result<Vec<u8, A>, DiscoverError<A>> {
+    let mut text = Vec::new(alloc);
+    if !read_front(alloc, files, path, MOST_BYTES, &mut text)? {
+        return Err(about(alloc, Reason::GitfileFormat, path));
+    }
+    if text.len() > MOST_BYTES {
+        return Err(about(alloc, Reason::GitfileTooLarge, path));
+    }
+    match linked(&text) {
+        Ok(target) => Ok(resolved(alloc, folder, target)?),
+        Err(reason) => Err(about(alloc, reason, path)),
+    }
+}
+
+/// Is the folder that the worktrees of a repository share, and whether it is another one.
+#[derive(Drop)]
+pub(crate) struct Common<A: Allocator> {
+    pub(crate) path: Vec<u8, A>,
+    /// Says whether a file `commondir` or `GIT_COMMON_DIR` names the folder.
+    pub(crate) is_named: bool,
+}
+
+/// Returns the folder that the worktrees of a repository share.
+pub(crate) fn common_dir<F: Places, A: Allocator + Copy>(
+    alloc: A,
+    files: &F,
+    environment: &Environment<A>,
+    git_dir: &[u8],
+) -> Result<Common<A>, DiscoverError<A>> {
+    if let Some(path) = environment.get(Variable::CommonDir) {
+        return Ok(Common {
+            path: path.to_vec(alloc)?,
+            is_named: true,
+        });
+    }
+    let file = within(alloc, git_dir, b"commondir")?;
+    let mut text = Vec::new(alloc);
+    if !read_file(alloc, files, &file, &mut text)? {
+        return Ok(Common {
+            path: git_dir.to_vec(alloc)?,
+            is_named: false,
+        });
+    }
+    if text.is_empty() {
+        return Err(about(alloc, Reason::EmptyCommonDir, &file));
+    }
+    let path = resolved(alloc, git_dir, before_zero(without_line_end(&text)))?;
+    Ok(Common {
+        path,
+        is_named: true,
+    })
+}
+
+/// Tells whether a folder has a valid `HEAD`.
+fn has_head<F: Places, A: Allocator + Copy>(
+    alloc: A,
+    files: &F,
+    path: &[u8],
+) -> Result<bool, DiscoverError<A>> {
+    let head = within(alloc, path, b"HEAD")?;
+    match place(alloc, files, &head)? {
+        Some(place) if place.kind == PathKind::File => {}
+        _ => return Ok(false),
+    }
+    let mut text = Vec::new(alloc);
+    if !read_front(alloc, files, &head, 256, &mut text)? {
+        return Ok(false);
+    }
+    Ok(is_head(&text))
+}
+
+/// Tells whether a folder is the git folder of a repository.
+///
+/// It has a valid `HEAD`, and the folders `objects` and `refs`, which may be in the folder that
+/// worktrees share.
+pub(crate) fn is_git_dir<F: Places, A: Allocator + Copy>(
+    alloc: A,
+    files: &F,
+    environment: &Environment<A>,
+    path: &[u8],
+) -> Result<bool, DiscoverError<A>> {
+    if !has_head(alloc, files, path)? {
+        return Ok(false);
+    }
+    let common = common_dir(alloc, files, environment, path)?;
+    let objects = match environment.get(Variable::ObjectDirectory) {
+        Some(objects) => objects.to_vec(alloc)?,
+        None => within(alloc, &common.path, b"objects")?,
+    };
+    let refs = within(alloc, &common.path, b"refs")?;
+    Ok(is_folder(alloc, files, &objects)? && is_folder(alloc, files, &refs)?)
+}

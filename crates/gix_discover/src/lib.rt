@@ -1,0 +1,39 @@
+//! Finds a git repository, and reads its settings (gitrepository-layout, git-config).
+//!
+//! - [`Environment`] has the environment variables that git reads, and the current folder.
+//! - [`discover`] finds the repository of the current folder, as git does, and returns its
+//!   [`Layout`].
+//! - [`Settings`] has what git's config files say, with their includes. Its calls answer for the
+//!   keys that reading a history needs, and [`Settings::values`] for every other.
+//! - [`shallow`] and [`grafts`] read two small files of a repository.
+//! - [`Places`] is the trait by which all of them reach files, beyond `gix_odb::files`.
+//!
+//! Nothing in a repository makes these calls run a command or fetch. They open only files that git
+//! opens, too. What git refuses is refused, and each [`Reason`] has a name.
+#![tactic(auto)]
+
+mod command_line;
+pub mod config;
+mod environment;
+mod error;
+mod format;
+mod gitfile;
+mod head;
+mod include;
+mod layout;
+mod owner;
+mod paths;
+mod places;
+mod settings;
+mod small;
+mod source;
+mod upwards;
+mod wildmatch;
+
+pub use environment::{Environment, Variable};
+pub use error::{DiscoverError, Reason};
+pub use layout::Layout;
+pub use places::{PathKind, Place, Places};
+pub use settings::{Abbrev, Settings};
+pub use small::{Graft, SmallFileError, grafts, shallow};
+pub use upwards::discover;
