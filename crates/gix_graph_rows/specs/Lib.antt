@@ -1,0 +1,4 @@
+pub mod ErrorTexts
+pub mod RowForm
+pub mod PlaceForm
+pub mod RowLaws

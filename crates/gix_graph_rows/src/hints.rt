@@ -1,0 +1,63 @@
+//! Keeps where the parents are that a walk has read, since it asks for these next.
+
+ghost use Rattle.std.specs.Prelude.{◌<◌, IfSome};
+
+use crate::error::Error;
+use crate::place::Place;
+use gix_base::hash::ObjectId;
+use std::alloc::Allocator;
+
+/// How many places are kept.
+const SPOTS: usize = 1 << 12;
+
+/// Is an id that was read, and its place.
+#[derive(Clone, Copy)]
+struct Hint {
+    id: ObjectId,
+    place: Place,
+}
+
+/// Keeps ids with their places, each where the last two bytes of the id say.
+#[derive(Drop)]
+pub(crate) struct Hints<A: Allocator> {
+    hints: Vec<Hint, A>,
+}
+
+/// Returns where an id is kept.
+fn spot_of(id: ObjectId) -> usize {
+    u16::from_be_bytes([id.0[18], id.0[19]]) as usize % SPOTS
+}
+
+impl<A: Allocator> Hints<A> {
+    /// Returns room for places, and keeps none.
+    pub(crate) fn new(alloc: A) -> Result<Hints<A>, Error> {
+        let place = Place {
+            layer: usize::MAX,
+            row: 0,
+        };
+        let none = Hint {
+            id: ObjectId([0; 20]),
+            place,
+        };
+        let mut hints = Vec::new(alloc);
+        hints.resize(SPOTS, none)?;
+        Ok(Hints { hints })
+    }
+
+    /// Returns the place of an id, if it is kept. The number of its file is less than `layers`.
+    pub(crate) fn place(&self, id: ObjectId, layers: usize) -> Option<Place>
+        ensures { IfSome result (λ p. p.layer < layers) }
+    {
+        match self.hints.get(spot_of(id)) {
+            Some(hint) if hint.place.layer < layers && hint.id == id => Some(hint.place),
+            _ => None,
+        }
+    }
+
+    /// Keeps the place of an id instead of the one that was there.
+    pub(crate) fn note(&mut self, id: ObjectId, place: Place) {
+        if let Some(hint) = self.hints.get_mut(spot_of(id)) {
+            *hint = Hint { id, place };
+        }
+    }
+}

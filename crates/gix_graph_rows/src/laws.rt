@@ -1,0 +1,8 @@
+//! States a law of rows, as the contract of a function.
+
+ghost use Rattle.gix_graph_rows.specs.RowLaws.{RowsSayTheSame};
+
+/// States that a row of a sound commit-graph file, read alone, says what the file says of a commit.
+pub fn rows_say_the_same()
+    ensures { RowsSayTheSame }
+{}

@@ -1,0 +1,136 @@
+//! Has the commit-graph of an `objects` folder.
+
+ghost use Rattle.std.specs.Prelude.{IfOk, IfSome};
+ghost use Rattle.gix_revwalk.specs.Held.{entry_of};
+ghost use Rattle.gix_graph_rows.specs.RowForm.{IsSaid};
+
+use crate::chain::{hashes, joined, layer_path};
+use crate::commit::commit_at;
+use crate::error::{Damage, Error, GraphFile};
+use crate::hints::Hints;
+use crate::layer::Layer;
+use crate::place::find;
+use crate::row::NO_PARENT;
+use crate::source::open;
+use gix_base::hash::ObjectId;
+use gix_odb::files::Folders;
+use gix_revwalk::graph::SourceCommit;
+use std::alloc::{Allocator, Global};
+
+/// Reads commits from a commit-graph file, or from a chain of them.
+///
+/// What was read is kept: up to 64 MiB of ids, and as many bytes of rows, for each file.
+#[derive(Drop)]
+pub struct GraphRows<F: Folders + Drop, A: Allocator + Copy = Global> {
+    files: F,
+    layers: Vec<Layer<F::Opened, A>, A>,
+    total: u32,
+    hints: Hints<A>,
+}
+
+impl<F: Folders + Drop, A: Allocator + Copy> GraphRows<F, A> {
+    /// Opens the commit-graph of an `objects` folder. Returns `None` if it has none.
+    ///
+    /// If there is a file `info/commit-graph`, the chain is not looked at, as in git. Each file of a
+    /// chain must be in the same folder. The front of each file is read: header, table of contents
+    /// and fanout table. See gitformat-commit-graph, "File Layout".
+    ///
+    /// # Errors
+    ///
+    /// git passes over a file that it cannot use, and so may the caller.
+    ///
+    /// - `Missing` if a file is missing that the chain names.
+    /// - `Damaged` if the front of a file is malformed, or is not that of a file in this chain.
+    /// - `Unsupported` if a file has another version or other ids, or a path is not UTF-8.
+    /// - `Failed` if a file cannot be opened or read.
+    /// - `OutOfMemory` if an allocation failed.
+    pub fn open(
+        alloc: A,
+        files: F,
+        objects_folder: &[u8],
+    ) -> Result<Option<GraphRows<F, A>>, Error> {
+        let mut rows = GraphRows {
+            files,
+            layers: Vec::new(alloc),
+            total: 0,
+            hints: Hints::new(alloc)?,
+        };
+        rows.add_files(alloc, objects_folder)?;
+        if rows.layers.is_empty() {
+            return Ok(None);
+        }
+        Ok(Some(rows))
+    }
+
+    /// Opens the single file, or else the files of the chain.
+    fn add_files(&mut self, alloc: A, folder: &[u8]) -> Result<(), Error> {
+        let path = joined(alloc, folder, b"/info/commit-graph", b"")?;
+        if self.add_file(alloc, &path, GraphFile::Single, &[])? {
+            return Ok(());
+        }
+        let hashes = hashes(alloc, &self.files, folder)?;
+        for (number, hash) in hashes.iter().enumerate() {
+            let name = GraphFile::Layer(*hash);
+            let path = layer_path(alloc, folder, *hash)?;
+            let before = hashes.get(..number).unwrap_or(&[]);
+            if !self.add_file(alloc, &path, name, before)? {
+                return Err(Error::Missing(name));
+            }
+        }
+        Ok(())
+    }
+
+    /// Opens a file, which comes after these files in a chain. Returns `false` if there is none.
+    fn add_file(
+        &mut self,
+        alloc: A,
+        path: &[u8],
+        name: GraphFile,
+        before: &[ObjectId],
+    ) -> Result<bool, Error> {
+        let Some(source) = open(&self.files, path, name)? else {
+            return Ok(false);
+        };
+        let layer = Layer::new(alloc, source, before)?;
+        let count = layer.count();
+        match self.total.checked_add(count) {
+            Some(total) if total <= NO_PARENT => self.total = total,
+            _ => return Err(Error::Damaged(name, 8, Damage::Commits)),
+        }
+        self.layers.push(layer)?;
+        Ok(true)
+    }
+
+    /// Returns the number of commits. A commit that two files of a chain have counts twice.
+    pub fn len(&self) -> u32 {
+        self.total
+    }
+
+    /// Looks up the commit `id`. Returns `None` if no file has it.
+    ///
+    /// The row of the commit is read, and what it names: the ids and levels of its parents. The
+    /// answer has the parents in order, the date, and as generation number the topological level,
+    /// if git has computed it. See gitformat-commit-graph, "Commit Data".
+    ///
+    /// # Errors
+    ///
+    /// - `Damaged` if a file ends too early, if the row has a parent that is no commit of this file
+    ///   or of one before it, if a list of parents does not end, or if the level of a parent is not
+    ///   less than the commit's.
+    /// - `Failed` if a file cannot be read.
+    /// - `OutOfMemory` if an allocation failed.
+    ///
+    /// The call can be repeated. Other commits can be looked up.
+    pub fn commit(&mut self, alloc: A, id: ObjectId) -> Result<Option<SourceCommit<A>>, Error>
+        ensures { IfOk result (λ found. IfSome found (λ c. IsSaid (entry_of c))) }
+    {
+        let known = self.hints.place(id, self.layers.len());
+        match find(alloc, &mut self.layers, known, id)? {
+            Some(place) => {
+                let commit = commit_at(alloc, &mut self.layers, &mut self.hints, place)?;
+                Ok(Some(commit))
+            }
+            None => Ok(None),
+        }
+    }
+}

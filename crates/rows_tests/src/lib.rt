@@ -1,0 +1,9 @@
+//! Tests of `gix_graph_rows` over files in memory: each read and each allocation fails in turn.
+#![tactic(auto)]
+
+#[cfg(test)]
+mod fake;
+#[cfg(test)]
+mod reads;
+#[cfg(test)]
+mod tables;
