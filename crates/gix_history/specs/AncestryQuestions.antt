@@ -1,0 +1,19 @@
+-- What the answers about ancestry mean.
+use Rattle.std.specs.Prelude.{◌≡◌, ◌↔◌, Bool, List, ◌∷◌, [], IsTrue, is_some}
+use Rattle.gix_base.specs.declared.hash.ObjectId.{ObjectId}
+use Rattle.gix_revwalk.specs.History.{History, IsAncestor, entry_at, same_id}
+use Rattle.gix_merge_base.specs.Premises.{GenerationsNeverRiseFrom}
+
+-- In the history h, `answer` says whether commit a is an ancestor of o (git-merge-base,
+-- "--is-ancestor").
+pub record MeansAncestor (h : History) (a o : ObjectId) (answer : Bool) : Type 0 where
+  pub exact : GenerationsNeverRiseFrom h (o ∷ []) → IsTrue answer ↔ IsAncestor h o a
+  pub reached : IsTrue answer → IsAncestor h o a
+  pub itself : IsTrue (same_id a o) → answer ≡ is_some (entry_at h o)
+
+-- In the history h, the answers say in order of which tips commit c is an ancestor
+-- (git-for-each-ref, "--contains").
+abbrev pub MeanContained : History → ObjectId → List ObjectId → List Bool → Type 0
+MeanContained h c [] [] = Unit {0}
+MeanContained h c (tip ∷ tips) (one ∷ answers) = MeansAncestor h c tip one × MeanContained h c tips answers
+MeanContained h c _ _ = ⊥

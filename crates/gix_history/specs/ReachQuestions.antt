@@ -1,0 +1,35 @@
+-- What the answers about what some commits reach and others do not mean.
+use Rattle.std.specs.Prelude.{ℕ, List, ◌∷◌, [], ◌++◌, IsTrue}
+use Rattle.gix_base.specs.declared.hash.ObjectId.{ObjectId}
+use Rattle.gix_revwalk.specs.History.{History, IsAncestor, IsAncestorOfOne, is_one_of}
+use Rattle.gix_revwalk.specs.Sizes.{HasSize, AtLeast, AtMost, Lists}
+use Rattle.gix_merge_base.specs.Keys.{IsInOrder}
+use Rattle.gix_merge_base.specs.Premises.{GenerationsNeverRiseFrom}
+use Rattle.gix_spec.specs.declared.spec.Spec.TheVariants.{Range}
+use Rattle.gix_resolve.specs.ListMeaning.{IsMeant}
+use Rattle.gix_resolve.specs.Reachable.{IsBeyond}
+
+-- In the history h, the list has the commits that the included ones reach and the excluded ones do
+-- not, newest first (git-rev-list, "Description").
+pub record MeansReachable (h : History) (included excluded ids : List ObjectId) : Type 0 where
+  pub reached : GenerationsNeverRiseFrom h (included ++ excluded) → Lists ids (IsBeyond h excluded included)
+  pub every : (c : ObjectId) → IsBeyond h excluded included c → IsTrue (is_one_of ids c)
+  pub shown : (c : ObjectId) → IsTrue (is_one_of ids c) → IsAncestorOfOne h included c
+  pub order : IsInOrder h ids
+
+-- In the history h, the included ones reach n commits that the excluded ones do not (git-rev-list,
+-- "--count").
+pub record MeansCountReachable (h : History) (included excluded : List ObjectId) (n : ℕ) : Type 0 where
+  pub size : GenerationsNeverRiseFrom h (included ++ excluded) → HasSize (IsBeyond h excluded included) n
+  pub no_less : AtMost n (IsBeyond h excluded included)
+  pub no_more : AtLeast n (IsAncestorOfOne h included)
+
+-- In the history h, a commits are only reachable from `ours`, and b only from `theirs`
+-- (git-rev-list, "--left-right").
+pub record MeansAheadBehind (h : History) (ours theirs : ObjectId) (a b : ℕ) : Type 0 where
+  pub ahead : GenerationsNeverRiseFrom h (ours ∷ theirs ∷ []) → HasSize (IsMeant h (Range theirs ours)) a
+  pub behind : GenerationsNeverRiseFrom h (ours ∷ theirs ∷ []) → HasSize (IsMeant h (Range ours theirs)) b
+  pub no_less_ahead : AtMost a (IsMeant h (Range theirs ours))
+  pub no_less_behind : AtMost b (IsMeant h (Range ours theirs))
+  pub no_more_ahead : AtLeast a (IsAncestor h ours)
+  pub no_more_behind : AtLeast b (IsAncestor h theirs)

@@ -1,0 +1,95 @@
+//! A history that is read as questions ask for it.
+
+ghost use Rattle.std.specs.Prelude.{◌≡◌, ◌++◌, IfOk, None};
+ghost use Rattle.gix_base.specs.declared.hash.ObjectId.{ObjectId};
+ghost use Rattle.gix_revwalk.specs.History.{entry_at};
+ghost use Rattle.gix_history.specs.Grown.{Grows};
+
+use crate::beyond::Beyond;
+use crate::error::ReadError;
+use crate::known::{Known, Tried};
+use crate::question::Question;
+use crate::reader::Reader;
+use gix_base::hash::ObjectId;
+use gix_revwalk::Seed;
+use gix_revwalk::graph::SourceCommit;
+use std::alloc::{Allocator, Global};
+
+/// The least number of commits that are read at once, if there are as many.
+pub(crate) const LEAST: usize = 64;
+
+/// A history: the commits that were read, and a reader for the others.
+#[derive(Drop)]
+pub struct History<R: Reader + Drop, A: Allocator = Global> {
+    /// The commits that were read, kept for the next question.
+    pub known: Known<A>,
+    /// The reader, which may know more about an error.
+    pub reader: R,
+    /// Parents of read commits that were not read yet, the farthest first.
+    pub(crate) edge: Vec<ObjectId, A>,
+}
+
+impl<R: Reader + Drop, A: Allocator + Copy> History<R, A> {
+    /// Creates a history of which nothing was read.
+    ///
+    /// Its hash maps are seeded with `seed`. A program that reads ids of strangers takes a random
+    /// one.
+    pub fn new(alloc: A, seed: Seed, reader: R) -> Self
+        ensures empty { (id : ObjectId) → entry_at result.known.commits id ≡ None }
+        ensures reader { result.reader ≡ reader }
+    {
+        History {
+            known: Known::new(alloc, seed),
+            reader,
+            edge: Vec::new(alloc),
+        }
+    }
+
+    /// Answers a question, and reads the commits that the answer needs.
+    ///
+    /// It is tried over the commits that were read. If it wants another one, that commit and its
+    /// nearest ancestors are read: as many as this call has read so far, and at least 64. Then the
+    /// question is tried again.
+    ///
+    /// # Errors
+    ///
+    /// Any [`ReadError`] for a commit that the answer needs. A commit that is read ahead and fails
+    /// is left unread. What was read stays.
+    pub fn ask<K: Beyond, Q: Question>(
+        &mut self,
+        alloc: A,
+        question: &Q,
+    ) -> Result<Q::Answer, ReadError>
+        ensures grown { Grows self.old.known self.new.known }
+        ensures means { IfOk result (Q.means question.now (self.new.known.commits ++ K.beyond)) }
+    {
+        let before = self.known.len();
+        self.read_named(alloc, question)?;
+        for _ in 0..u64::MAX {
+            match self.known.try_ask::<K, Q>(question)? {
+                Tried::Answered(answer) => return Ok(answer),
+                Tried::Wants(id) => self.read_from(alloc, id, before)?,
+            }
+        }
+        Err(ReadError::OutOfMemory)
+    }
+
+    /// Returns the commit `id`, and reads it if it is not known.
+    ///
+    /// # Errors
+    ///
+    /// Any [`ReadError`].
+    pub fn commit(&mut self, alloc: A, id: ObjectId) -> Result<SourceCommit<A>, ReadError> {
+        self.read_one(alloc, id, &mut Vec::new(alloc))?;
+        match self.known.commits().get(alloc, id)? {
+            Some(commit) => Ok(commit),
+            None => Err(ReadError::Missing(id)),
+        }
+    }
+
+    /// Forgets all commits that were read.
+    pub fn forget(&mut self, alloc: A) {
+        self.known = self.known.emptied(alloc);
+        self.edge.clear();
+    }
+}

@@ -1,0 +1,186 @@
+//! The commits that are known of a history, and where they are from.
+
+ghost use Rattle.std.specs.Prelude.{◌≡◌, ◌++◌, IfOk, IfSome, OnOk, Some, None, is_some};
+ghost use Rattle.gix_base.specs.declared.hash.ObjectId.{ObjectId};
+ghost use Rattle.gix_revwalk.specs.Held.{entry_of};
+ghost use Rattle.gix_revwalk.specs.History.{Entry, Has, entry_at};
+ghost use Rattle.gix_history.specs.Origins.{IsFrom};
+ghost use Rattle.gix_history.specs.Grown.{AreSourced, Grows, origin_at};
+ghost use Rattle.gix_history.specs.Tries.{IsTried};
+
+use crate::beyond::Beyond;
+use crate::error::ReadError;
+use crate::partial::Partial;
+use crate::question::{Question, Refused};
+use crate::reader::{Origin, Read};
+use gix_base::hash::ObjectId;
+use gix_object::authentic;
+use gix_object::commit::ParseError;
+use gix_revwalk::Seed;
+use gix_revwalk::graph::{Insert, InsertError, MemorySource};
+use std::alloc::{AllocError, Allocator, Global};
+use std::collections::HashMap;
+use std::marker::Model;
+
+/// What a try to answer a question gives.
+#[derive(Drop)]
+pub enum Tried<T: Drop> {
+    /// The answer, whatever lies beyond the commits that are known.
+    Answered(T),
+    /// The question needs this commit, which is not known.
+    Wants(ObjectId),
+}
+
+/// The commits that are known of a history, and where each is from.
+#[derive(Drop)]
+pub struct Known<A: Allocator = Global> {
+    commits: MemorySource<A>,
+    origins: HashMap<ObjectId, Origin, Seed, A>,
+    seed: Seed,
+}
+
+impl<A: Allocator> Model for Known<A> {
+    ghost use Rattle.gix_history.specs.Grown.{AreSourced, Sourced};
+
+    ghost Value = { Sourced };
+
+    ghost view = { λ k. record { commits = k.commits; origins = k.origins.entries } };
+
+    ghost invariant = { λ k. AreSourced (record { commits = k.commits; origins = k.origins.entries }) };
+}
+
+impl<A: Allocator + Copy> Known<A> {
+    /// Creates a history of which nothing is known.
+    ///
+    /// Its hash maps are seeded with `seed`. A program that reads ids of strangers takes a random
+    /// one.
+    pub fn new(alloc: A, seed: Seed) -> Self
+        ensures empty { (id : ObjectId) → entry_at result.commits id ≡ None }
+    {
+        Known {
+            commits: MemorySource::with_seed(alloc, seed),
+            origins: HashMap::with_hasher(alloc, seed),
+            seed,
+        }
+    }
+
+    /// Returns a history of which nothing is known, with the same seed.
+    pub(crate) fn emptied(&self, alloc: A) -> Self {
+        Known::new(alloc, self.seed)
+    }
+
+    /// Returns the commits.
+    pub fn commits(&self) -> &MemorySource<A>
+        ensures { result.now ≡ self.now.commits }
+    {
+        &self.commits
+    }
+
+    /// Guarantees that each commit is from where it was noted to be. Does nothing else.
+    ///
+    /// A commit that is noted as authentic is what the content of its id says.
+    pub fn sourced(&self)
+        ensures { AreSourced self.now }
+    {
+        let _ = &self.commits;
+    }
+
+    /// Returns how many commits are known.
+    pub fn len(&self) -> usize {
+        self.origins.len()
+    }
+
+    /// Returns whether the commit `id` is known.
+    ///
+    /// # Errors
+    ///
+    /// [`AllocError`]: an allocation failed.
+    pub fn has(&self, alloc: A, id: ObjectId) -> Result<bool, AllocError>
+        ensures { IfOk result (λ b. b ≡ is_some (entry_at self.now.commits id)) }
+    {
+        Ok(self.commits.get(alloc, id)?.is_some())
+    }
+
+    /// Returns where the commit `id` is from; `None` if this was not noted.
+    pub fn origin(&self, id: ObjectId) -> Option<Origin>
+        ensures value { result ≡ origin_at self.now id }
+        ensures from { IfSome result (λ origin. (commit : Entry)
+            → entry_at self.now.commits id ≡ Some commit → IsFrom origin id commit) }
+    {
+        self.origins.get(&id).copied()
+    }
+
+    /// Adds a commit that was read, unless one is known under this id.
+    ///
+    /// # Errors
+    ///
+    /// [`AllocError`]: an allocation failed. No commit is then added.
+    pub(crate) fn add(&mut self, alloc: A, id: ObjectId, read: Read<A>) -> Result<(), AllocError>
+        requires { IsFrom read.origin id (entry_of read.commit) }
+        ensures grown { Grows self.old self.new }
+        ensures there { OnOk result (Has self.new.commits id) }
+    {
+        if self.has(alloc, id)? {
+            return Ok(());
+        }
+        let Read { commit, origin } = read;
+        self.origins.insert(id, origin)?;
+        match self.commits.insert(id, commit) {
+            Ok(()) => {}
+            Err(_) => return Err(AllocError),
+        }
+        Ok(())
+    }
+
+    /// Adds the commit whose content is passed, if `id` is the hash of the content.
+    ///
+    /// # Errors
+    ///
+    /// - [`ReadError::Altered`]: the content has another id.
+    /// - [`ReadError::Malformed`]: the content is not that of a commit, or git refuses it.
+    /// - [`ReadError::OutOfMemory`]: an allocation failed.
+    pub fn give(&mut self, alloc: A, id: ObjectId, content: &[u8]) -> Result<(), ReadError>
+        ensures grown { Grows self.old self.new }
+        ensures there { OnOk result (Has self.new.commits id) }
+    {
+        match authentic::read(alloc, id, content) {
+            Ok(commit) => {
+                let read = Read {
+                    commit,
+                    origin: Origin::Authentic,
+                };
+                self.add(alloc, id, read)?;
+                Ok(())
+            }
+            Err(authentic::ReadError::WrongId) => Err(ReadError::Altered(id)),
+            Err(authentic::ReadError::Parse(ParseError::OutOfMemory)) => Err(
+                ReadError::OutOfMemory,
+            ),
+            Err(authentic::ReadError::Parse(_)) => Err(ReadError::Malformed(id)),
+        }
+    }
+
+    /// Tries to answer a question over the commits that are known.
+    ///
+    /// An answer is right for every history that has these commits, whatever `K` has beyond them.
+    ///
+    /// # Errors
+    ///
+    /// [`AllocError`]: an allocation failed.
+    pub fn try_ask<K: Beyond, Q: Question>(
+        &self,
+        question: &Q,
+    ) -> Result<Tried<Q::Answer>, AllocError>
+        ensures { IfOk result (IsTried (Q.means question.now (self.now.commits ++ K.beyond))) }
+    {
+        let mut source = Partial::<&MemorySource<A>, K>::new(&self.commits);
+        match question.ask(self.seed, &mut source) {
+            Ok(answer) => Ok(Tried::Answered(answer)),
+            Err(Refused::OutOfMemory) => Err(AllocError),
+            Err(Refused::Source) => match source.wanted {
+                Some(id) => Ok(Tried::Wants(id)),
+                None => Err(AllocError),
+            },
+        }
+    }
+}

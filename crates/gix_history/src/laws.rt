@@ -1,0 +1,16 @@
+//! States laws of histories in authentic mode, each as the contract of a function.
+
+ghost use Rattle.gix_history.specs.HistoryLaws.{PlainIsAuthentic, TipsDetermine};
+
+/// States that loaded commits, without their levels, are an authentic history.
+///
+/// So the laws of `gix_object` and `gix_odb` on authentic histories hold of them.
+pub fn plain_is_authentic()
+    ensures { PlainIsAuthentic }
+{}
+
+/// States that a tip reaches in one loaded history what it reaches in another, or a collision is at
+/// hand.
+pub fn tips_determine()
+    ensures { TipsDetermine }
+{}

@@ -1,0 +1,293 @@
+//! All that some tips reach, each commit the content of its id, with levels.
+
+ghost use Rattle.std.specs.Prelude.{◌≡◌, IfOk, IfSome, OnOk, List, None, Some, length};
+ghost use Rattle.std.specs.List.{All};
+ghost use Rattle.gix_base.specs.declared.hash.ObjectId.{ObjectId};
+ghost use Rattle.gix_revwalk.specs.History.{Entry, Has, History, entry_at};
+ghost use Rattle.gix_merge_base.specs.Premises.{IsAcyclicFrom, GenerationsNeverRiseFrom};
+ghost use Rattle.gix_object.specs.Authentic.{IsClosed};
+ghost use Rattle.gix_history.specs.Origins.{IsCommitOf};
+ghost use Rattle.gix_history.specs.Levels.{IsLevelOf, Keeps};
+ghost use Rattle.gix_history.specs.Waiting.{IsPending, IsSame};
+
+use crate::error::ReadError;
+use crate::question::{Question, Refused};
+use crate::reader::{Origin, Read, Reader};
+use gix_base::hash::ObjectId;
+use gix_revwalk::Seed;
+use gix_revwalk::graph::{Insert, MemorySource, SourceCommit};
+use std::alloc::{Allocator, Global};
+use std::collections::HashMap;
+use std::marker::Model;
+
+/// A commit that waits for its parents.
+#[derive(Drop)]
+struct Pending<A: Allocator> {
+    id: ObjectId,
+    commit: SourceCommit<A>,
+    /// How many of the parents are loaded.
+    settled: usize,
+    /// A level that is greater than the levels of these.
+    level: u32,
+}
+
+/// The commits that some tips reach, each authentic, with levels.
+///
+/// The level of a commit is one more than the greatest of its parents' (git's
+/// technical/commit-graph, "topological level"). It is computed here. Whatever the reader answers,
+/// no chain of parents leads in a circle, and no level rises.
+#[derive(Drop)]
+pub struct Loaded<A: Allocator = Global> {
+    commits: MemorySource<A>,
+    levels: HashMap<ObjectId, u32, Seed, A>,
+    seed: Seed,
+}
+
+/// Reads a commit, and refuses it unless it is authentic.
+fn open<R: Reader, A: Allocator + Copy>(
+    alloc: A,
+    id: ObjectId,
+    reader: &mut R,
+) -> Result<Pending<A>, ReadError>
+    ensures pending { IfOk result (λ p. (h : History) → IsPending h p) }
+{
+    let Some(read) = reader.read(alloc, id)? else {
+        return Err(ReadError::Missing(id));
+    };
+    let Read { commit, origin } = read;
+    match origin {
+        Origin::Authentic => Ok(Pending {
+            id,
+            commit,
+            settled: 0,
+            level: 1,
+        }),
+        _ => Err(ReadError::NotAuthentic(id)),
+    }
+}
+
+/// Reads the commit that is wanted, and puts both on the path.
+fn descend<R: Reader, A: Allocator + Copy>(
+    alloc: A,
+    last: Pending<A>,
+    wanted: ObjectId,
+    path: &mut Vec<Pending<A>, A>,
+    reader: &mut R,
+) -> Result<(), ReadError>
+    ensures { (h : History) → IsPending h last → All (IsPending h) path.old.items
+        → All (IsPending h) path.new.items }
+{
+    let next = open(alloc, wanted, reader)?;
+    path.push(last)?;
+    path.push(next)?;
+    Ok(())
+}
+
+/// Makes a path of one commit.
+fn path_of<R: Reader, A: Allocator + Copy>(
+    alloc: A,
+    tip: ObjectId,
+    reader: &mut R,
+) -> Result<Vec<Pending<A>, A>, ReadError>
+    ensures { IfOk result (λ path. (h : History) → All (IsPending h) path.items) }
+{
+    let mut path = Vec::new(alloc);
+    path.push(open(alloc, tip, reader)?)?;
+    Ok(path)
+}
+
+impl<A: Allocator> Model for Loaded<A> {
+    ghost use Rattle.gix_revwalk.specs.History.{History};
+    ghost use Rattle.gix_history.specs.Levels.{AreLoaded};
+
+    ghost Value = { History };
+
+    ghost view = { λ l. l.commits };
+
+    ghost invariant = { λ l. AreLoaded l.commits l.levels.entries };
+}
+
+impl<A: Allocator + Copy> Loaded<A> {
+    /// Creates a history of which nothing is loaded.
+    ///
+    /// Its hash maps are seeded with `seed`. A program that reads ids of strangers takes a random
+    /// one.
+    pub fn new(alloc: A, seed: Seed) -> Self
+        ensures empty { (id : ObjectId) → entry_at result id ≡ None }
+    {
+        Loaded {
+            commits: MemorySource::with_seed(alloc, seed),
+            levels: HashMap::with_hasher(alloc, seed),
+            seed,
+        }
+    }
+
+    /// Returns the commits. Each has its level as its generation number.
+    pub fn commits(&self) -> &MemorySource<A>
+        ensures { result.now ≡ self.now }
+    {
+        &self.commits
+    }
+
+    /// Returns how many commits are loaded.
+    pub fn len(&self) -> usize {
+        self.levels.len()
+    }
+
+    /// Guarantees that questions about the loaded commits have no premise left. Does nothing else.
+    ///
+    /// The commits are acyclic, their generation numbers are ordered, each parent is loaded, and
+    /// each commit is what the content of its id says.
+    pub fn premises(&self)
+        ensures acyclic { (ids : List ObjectId) → IsAcyclicFrom self.now ids }
+        ensures ordered { (ids : List ObjectId) → GenerationsNeverRiseFrom self.now ids }
+        ensures closed { IsClosed self.now }
+        ensures authentic { (id : ObjectId) (commit : Entry) → entry_at self.now id ≡ Some commit
+            → IsCommitOf id commit }
+    {
+        let _ = &self.commits;
+    }
+
+    /// Returns the level of the commit `id`; `None` if it is not loaded.
+    ///
+    /// A commit whose level could not be noted, for want of memory, counts as not loaded.
+    pub fn level(&self, id: ObjectId) -> Option<u32>
+        ensures { IfSome result (IsLevelOf self.now id) }
+    {
+        self.levels.get(&id).copied()
+    }
+
+    /// Goes over parents that are loaded, up to the first that is not, which it returns.
+    fn settle(&self, pending: &mut Pending<A>) -> Option<ObjectId>
+        requires { IsPending self.now pending.old }
+        ensures same { IsSame pending.old pending.new }
+        ensures pending { IsPending self.now pending.new }
+        ensures all { result ≡ None → pending.new.settled ≡ length pending.new.commit.parents.items }
+    {
+        for i in pending.settled..pending.commit.parents.len() {
+            let id = pending.commit.parents[i];
+            let Some(level) = self.level(id) else {
+                return Some(id);
+            };
+            pending.level = pending.level.max(level.saturating_add(1));
+            pending.settled = i + 1;
+        }
+        None
+    }
+
+    /// Adds a commit whose parents are loaded.
+    fn put(&mut self, pending: Pending<A>) -> Result<(), ReadError>
+        requires pending { IsPending self.old pending }
+        requires all { pending.settled ≡ length pending.commit.parents.items }
+        ensures { Keeps self.old self.new }
+    {
+        let Pending {
+            id,
+            mut commit,
+            settled: _,
+            level,
+        } = pending;
+        if level == u32::MAX {
+            return Err(ReadError::TooDeep(id));
+        }
+        commit.generation = Some(level);
+        self.levels.reserve(1)?;
+        match self.commits.insert(id, commit) {
+            Ok(()) => {}
+            Err(_) => return Err(ReadError::OutOfMemory),
+        }
+        self.levels.insert(id, level)?;
+        Ok(())
+    }
+
+    /// Goes on with the last commit of a path.
+    fn advance<R: Reader>(
+        &mut self,
+        alloc: A,
+        mut last: Pending<A>,
+        path: &mut Vec<Pending<A>, A>,
+        reader: &mut R,
+    ) -> Result<(), ReadError>
+        requires last { IsPending self.old last }
+        requires path { All (IsPending self.old) path.old.items }
+        ensures kept { Keeps self.old self.new }
+        ensures path { All (IsPending self.new) path.new.items }
+    {
+        match self.settle(&mut last) {
+            None => self.put(last),
+            Some(wanted) => descend(alloc, last, wanted, path, reader),
+        }
+    }
+
+    /// Goes on until no commit waits.
+    fn walk<R: Reader>(
+        &mut self,
+        alloc: A,
+        path: &mut Vec<Pending<A>, A>,
+        reader: &mut R,
+    ) -> Result<(), ReadError>
+        requires { All (IsPending self.old) path.old.items }
+        ensures { Keeps self.old self.new }
+    {
+        for _ in 0..u64::MAX {
+            let Some(last) = path.pop() else {
+                return Ok(());
+            };
+            self.advance(alloc, last, path, reader)?;
+        }
+        Ok(())
+    }
+
+    /// Loads a commit and all that it reaches.
+    fn load_tip<R: Reader>(
+        &mut self,
+        alloc: A,
+        tip: ObjectId,
+        reader: &mut R,
+    ) -> Result<(), ReadError>
+        ensures kept { Keeps self.old self.new }
+        ensures there { OnOk result (Has self.new tip) }
+    {
+        if self.level(tip).is_some() {
+            return Ok(());
+        }
+        let mut path = path_of(alloc, tip, reader)?;
+        self.walk(alloc, &mut path, reader)?;
+        match self.level(tip) {
+            Some(_) => Ok(()),
+            None => Err(ReadError::Failed(tip)),
+        }
+    }
+
+    /// Loads all that `tips` reach, parents first.
+    ///
+    /// # Errors
+    ///
+    /// Any [`ReadError`]. What was loaded stays, and the call can be repeated.
+    pub fn load<R: Reader>(
+        &mut self,
+        alloc: A,
+        tips: &[ObjectId],
+        reader: &mut R,
+    ) -> Result<(), ReadError>
+        ensures kept { Keeps self.old self.new }
+        ensures there { OnOk result (All (Has self.new) tips.now) }
+    {
+        for tip in tips {
+            self.load_tip(alloc, *tip, reader)?;
+        }
+        Ok(())
+    }
+
+    /// Answers a question about the loaded commits.
+    ///
+    /// # Errors
+    ///
+    /// - [`Refused::OutOfMemory`]: an allocation failed.
+    pub fn ask<Q: Question>(&self, question: &Q) -> Result<Q::Answer, Refused>
+        ensures { IfOk result (Q.means question.now self.now) }
+    {
+        let mut source = &self.commits;
+        question.ask(self.seed, &mut source)
+    }
+}

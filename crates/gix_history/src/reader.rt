@@ -1,0 +1,62 @@
+//! Where commits are read from.
+
+ghost use Rattle.std.specs.Prelude.{IfOk};
+ghost use Rattle.gix_history.specs.Origins.{IsReadOf};
+
+use crate::error::ReadError;
+use gix_base::hash::ObjectId;
+use gix_revwalk::graph::SourceCommit;
+use std::alloc::Allocator;
+
+/// Says where a commit is from.
+#[derive(Clone, Copy, Debug, PartialEq, Eq)]
+pub enum Origin {
+    /// The commit is what a content says whose hash is the commit's id.
+    Authentic,
+    /// A commit-graph file says so.
+    File,
+    /// A graft, a replace reference or a shallow file changed the commit.
+    Changed,
+}
+
+/// A commit that was read, and where it is from.
+#[derive(Drop)]
+pub struct Read<A: Allocator> {
+    /// The parents, the time and the generation number.
+    pub commit: SourceCommit<A>,
+    /// Where it is from.
+    pub origin: Origin,
+}
+
+/// Reads commits by their ids.
+///
+/// The one promise is that a commit called authentic is what a content says whose hash is the id.
+/// Nothing else that a reader answers is believed.
+pub trait Reader {
+    /// Reads the commit `id`; returns `None` if there is none.
+    ///
+    /// The answer is in the memory of `alloc`.
+    ///
+    /// # Errors
+    ///
+    /// Any [`ReadError`]. The same commit may be asked for again.
+    fn read<A: Allocator + Copy>(
+        &mut self,
+        alloc: A,
+        id: ObjectId,
+    ) -> Result<Option<Read<A>>, ReadError>
+        ensures { IfOk result (IsReadOf id) };
+}
+
+/// Lets a history use a reader that its owner lends.
+impl<R: Reader> Reader for &mut R {
+    fn read<A: Allocator + Copy>(
+        &mut self,
+        alloc: A,
+        id: ObjectId,
+    ) -> Result<Option<Read<A>>, ReadError>
+        ensures { IfOk result (IsReadOf id) }
+    {
+        (**self).read(alloc, id)
+    }
+}

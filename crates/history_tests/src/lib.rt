@@ -1,0 +1,9 @@
+//! Tests of `gix_history` over a reader in memory.
+#![tactic(auto)]
+
+#[cfg(test)]
+mod answers;
+#[cfg(test)]
+mod asks;
+#[cfg(test)]
+mod fake;
