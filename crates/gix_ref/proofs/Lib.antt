@@ -1,0 +1,4 @@
+pub mod Cut
+pub mod Ids
+pub mod Trims
+pub mod Knows

@@ -1,0 +1,10 @@
+use Rattle.std.proofs.Common.{◌≡◌, drop, take, [], cond, None, sym, ap, arith}
+use Rattle.std.proofs.lemmas.List.{drop_all}
+use Rattle.gix_ref.specs.Lines.{id_of}
+use Rattle.gix_ref.specs.Packed.{is_named}
+use Rattle.gix_ref.proofs.packed.told_by.Goals as goal
+
+pub returns-in_default : goal.returns-in_default
+returns-in_default c =
+    let few = c.in_default.ensures.cases in
+    ap (λ r. cond (is_named r c.args.name.now) (id_of (take 40 c.args.line.now)) None) (sym (drop_all 40 c.args.line.now (omega arith)))

@@ -1,0 +1,408 @@
+//! Lists references (git-for-each-ref).
+
+use crate::error::{Error, Fault};
+use crate::files::fault_of;
+use crate::find::{Led, MOST_READ, Reference};
+use crate::lines::cut;
+use crate::loose::{self, Said};
+use crate::name::is_full_name;
+use crate::packed::{peeled_after, record};
+use crate::store::References;
+use gix_base::hash::ObjectId;
+use gix_odb::files::Folders;
+use std::alloc::{Allocator, Global};
+
+/// Is a reference of a list.
+#[derive(Drop)]
+pub struct Listed<A: Allocator = Global> {
+    /// The full name.
+    pub name: Vec<u8, A>,
+    /// The id at the end of symbolic references.
+    pub id: ObjectId,
+    /// The object to which the tag with this id leads, if `packed-refs` says it.
+    pub peeled: Option<ObjectId>,
+    /// Whether it is symbolic.
+    pub is_symbolic: bool,
+}
+
+/// Says why a reference is left out of a list.
+#[derive(Clone, Copy, Debug, PartialEq, Eq)]
+pub enum Why {
+    /// Its file says neither an id nor a reference, or the id with zeros only, or git refuses its
+    /// name, or one to which it leads is broken or is not found among the first five.
+    Broken,
+    /// It leads to a reference that is not there.
+    LeadsNowhere,
+    /// The name of its file or folder is not UTF-8.
+    NotUtf8,
+}
+
+/// Is a reference that is left out of a list.
+#[derive(Drop)]
+pub struct Skipped<A: Allocator = Global> {
+    pub name: Vec<u8, A>,
+    pub why: Why,
+}
+
+/// Is a list of references.
+#[derive(Drop)]
+pub struct Listing<A: Allocator = Global> {
+    /// Sorted by name, each name once.
+    pub references: Vec<Listed<A>, A>,
+    /// Those that are left out, sorted by name. git warns of them.
+    pub skipped: Vec<Skipped<A>, A>,
+}
+
+/// Is what is known of a reference.
+#[derive(Clone, Copy)]
+enum Outcome {
+    Found(ObjectId, Option<ObjectId>, bool),
+    LeftOut(Why),
+}
+
+/// Is a name, and the place of its outcome. Of two with one name the first place counts.
+#[derive(Drop)]
+struct Item<A: Allocator> {
+    name: Vec<u8, A>,
+    place: usize,
+}
+
+/// Collects names with their outcomes.
+#[derive(Drop)]
+struct Items<A: Allocator> {
+    items: Vec<Item<A>, A>,
+    outcomes: Vec<Outcome, A>,
+}
+
+impl<A: Allocator + Copy> Items<A> {
+    /// Returns no items.
+    fn new(alloc: A) -> Items<A> {
+        Items {
+            items: Vec::new(alloc),
+            outcomes: Vec::new(alloc),
+        }
+    }
+
+    /// Adds a name with its outcome.
+    fn add(&mut self, alloc: A, name: &[u8], outcome: Outcome) -> Result<(), Fault> {
+        let name = name.to_vec(alloc)?;
+        let place = self.outcomes.len();
+        self.outcomes.push(outcome)?;
+        self.items.push(Item { name, place })?;
+        Ok(())
+    }
+
+    /// Takes out the last item, and tells whether it is the first of its name.
+    fn pop(&mut self) -> Option<(Item<A>, bool)> {
+        let item = self.items.pop()?;
+        let is_first = match self.items.last() {
+            Some(before) => before.name != item.name,
+            None => true,
+        };
+        Some((item, is_first))
+    }
+
+    /// Returns the list. Of items with one name the first that was added counts.
+    fn listing(&mut self, alloc: A) -> Result<Listing<A>, Fault> {
+        self.items.sort_by(|a, b| a
+            .name
+            .as_slice()
+            .cmp(b.name.as_slice())
+            .then(a.place.cmp(&b.place)))?;
+        let mut listing = Listing {
+            references: Vec::new(alloc),
+            skipped: Vec::new(alloc),
+        };
+        for _ in 0..self.items.len() {
+            if let Some((item, true)) = self.pop() {
+                listing.add(item.name, self.outcomes.get(item.place).copied())?;
+            }
+        }
+        listing.references.reverse();
+        listing.skipped.reverse();
+        Ok(listing)
+    }
+}
+
+impl<A: Allocator + Copy> Listing<A> {
+    /// Adds a reference at the end.
+    fn add(&mut self, name: Vec<u8, A>, outcome: Option<Outcome>) -> Result<(), Fault> {
+        match outcome {
+            Some(Outcome::Found(id, peeled, is_symbolic)) => {
+                self.references.push(Listed {
+                    name,
+                    id,
+                    peeled,
+                    is_symbolic,
+                })?;
+            }
+            Some(Outcome::LeftOut(why)) => self.skipped.push(Skipped { name, why })?,
+            None => {}
+        }
+        Ok(())
+    }
+}
+
+/// Returns the folder in which the loose references with a prefix lie, with its last slash.
+fn folder_of(prefix: &[u8]) -> &[u8] {
+    match prefix.iter().rposition(|b| *b == b'/') {
+        Some(last) if prefix.starts_with(b"refs/") => {
+            prefix.get(..last.saturating_add(1)).unwrap_or(b"refs/")
+        }
+        _ => b"refs/",
+    }
+}
+
+/// Tells whether a name of a folder's entry is passed over, as git does.
+fn is_hidden(name: &[u8]) -> bool {
+    name.is_empty() || name.starts_with(b".") || name.ends_with(b".lock")
+}
+
+/// Tells whether a reference with an id is sound: git takes zeros for damage.
+fn outcome_of(id: ObjectId, peeled: Option<ObjectId>, is_symbolic: bool) -> Outcome {
+    if id == ObjectId([0u8; 20]) {
+        Outcome::LeftOut(Why::Broken)
+    } else {
+        Outcome::Found(id, peeled, is_symbolic)
+    }
+}
+
+/// The folders of which each worktree has its own.
+static OWN_FOLDERS: [&str; 3] = ["refs/bisect/", "refs/rewritten/", "refs/worktree/"];
+
+/// Tells whether this is one of the folders of which each worktree has its own.
+fn is_own_folder(folder: &[u8]) -> bool {
+    OWN_FOLDERS.iter().any(|own| own.as_bytes() == folder)
+}
+
+impl<F: Folders + Drop, A: Allocator + Copy> References<F, A> {
+    /// Tells whether this is a linked worktree, which has some folders of its own.
+    fn is_linked(&self) -> bool {
+        self.git_dir != self.common_dir
+    }
+
+    /// Reads an entry of a folder. Adds it to the folders if it is no file.
+    fn read_entry(
+        &mut self,
+        items: &mut Items<A>,
+        folders: &mut Vec<Vec<u8, A>, A>,
+        name: &[u8],
+    ) -> Result<(), Fault> {
+        match self.read_file(name) {
+            Ok(Some(content)) => self.keep(name, Some(content)),
+            Ok(None) => {
+                let mut folder = name.to_vec(self.alloc)?;
+                folder.push(b'/')?;
+                if !(self.is_linked() && is_own_folder(&folder)) {
+                    folders.push(folder)?;
+                }
+                Ok(())
+            }
+            Err(Fault::NotUtf8(_)) => {
+                items.add(self.alloc, name, Outcome::LeftOut(Why::NotUtf8))
+            }
+            Err(error) => Err(error),
+        }
+    }
+
+    /// Lists a folder. Its name ends with a slash.
+    fn names_of(&self, folder: &[u8]) -> Result<Vec<u8, A>, Fault> {
+        let path = self.path(b"", folder)?;
+        let mut names = Vec::new(self.alloc);
+        match self.files.names(&path, &mut names) {
+            Ok(()) => Ok(names),
+            Err(error) => Err(fault_of(folder, error)),
+        }
+    }
+
+    /// Reads all files of a folder, and adds its folders.
+    fn read_folder(
+        &mut self,
+        items: &mut Items<A>,
+        folders: &mut Vec<Vec<u8, A>, A>,
+        folder: &[u8],
+    ) -> Result<(), Fault> {
+        let names = self.names_of(folder)?;
+        for entry in names.split(|b| *b == 0) {
+            if !is_hidden(entry) {
+                let mut name = folder.to_vec(self.alloc)?;
+                name.extend_from_slice(entry)?;
+                self.read_entry(items, folders, &name)?;
+            }
+        }
+        Ok(())
+    }
+
+    /// Returns the folders in which the loose references with a prefix lie.
+    fn first_folders(&self, prefix: &[u8]) -> Result<Vec<Vec<u8, A>, A>, Fault> {
+        let mut folders = Vec::new(self.alloc);
+        let first = folder_of(prefix);
+        folders.push(first.to_vec(self.alloc)?)?;
+        if self.is_linked() {
+            for own in &OWN_FOLDERS {
+                if own.as_bytes().starts_with(first) && own.as_bytes() != first {
+                    folders.push(own.as_bytes().to_vec(self.alloc)?)?;
+                }
+            }
+        }
+        Ok(folders)
+    }
+
+    /// Reads the loose references with a prefix, and maybe some more.
+    fn read_all(&mut self, items: &mut Items<A>, prefix: &[u8]) -> Result<(), Fault> {
+        let mut folders = self.first_folders(prefix)?;
+        for _ in 0..u64::MAX {
+            let Some(folder) = folders.pop() else {
+                break;
+            };
+            self.read_folder(items, &mut folders, &folder)?;
+        }
+        Ok(())
+    }
+
+    /// Returns the outcome of a symbolic reference that leads to a name.
+    fn outcome_of_symbolic(&mut self, next: &[u8]) -> Result<Outcome, Fault> {
+        match self.follow_on(next, MOST_READ.saturating_sub(1)) {
+            Ok(Led::Ends(Reference { id, peeled, .. })) => Ok(outcome_of(id, peeled, true)),
+            Ok(Led::Nowhere) => Ok(Outcome::LeftOut(Why::LeadsNowhere)),
+            Ok(Led::Breaks(_) | Led::TooFar) => Ok(Outcome::LeftOut(Why::Broken)),
+            Err(Fault::NotUtf8(_)) => Ok(Outcome::LeftOut(Why::NotUtf8)),
+            Err(fault) => Err(fault),
+        }
+    }
+
+    /// Returns a copy of the name and the content of a reading.
+    fn reading_at(&self, place: usize) -> Result<(Vec<u8, A>, Vec<u8, A>), Fault> {
+        match self.readings.get(place) {
+            Some(reading) => {
+                let name = reading.name.to_vec(self.alloc)?;
+                match &reading.content {
+                    Some(content) => Ok((name, content.to_vec(self.alloc)?)),
+                    None => Ok((name, Vec::new(self.alloc))),
+                }
+            }
+            None => Ok((Vec::new(self.alloc), Vec::new(self.alloc))),
+        }
+    }
+
+    /// Adds a loose reference that was read.
+    fn add_loose(
+        &mut self,
+        items: &mut Items<A>,
+        place: usize,
+        prefix: &[u8],
+    ) -> Result<(), Fault> {
+        let (name, content) = self.reading_at(place)?;
+        if !name.starts_with(prefix) {
+            return Ok(());
+        }
+        let outcome = match loose::read(&content) {
+            _ if !is_full_name(&name) => Outcome::LeftOut(Why::Broken),
+            Said::Id(id) => outcome_of(id, None, false),
+            Said::LeadsTo(next) => self.outcome_of_symbolic(next)?,
+            Said::Garbage => Outcome::LeftOut(Why::Broken),
+        };
+        items.add(self.alloc, &name, outcome)
+    }
+
+    /// Adds the references of `packed-refs` with a prefix.
+    fn add_packed(&self, items: &mut Items<A>, prefix: &[u8]) -> Result<(), Fault> {
+        let bytes = self.packed_bytes();
+        let mut rest = bytes;
+        for _ in 0..bytes.len() {
+            let (line, after) = cut(rest, b'\n');
+            if let Some((id, name)) = record(line) {
+                if name.starts_with(prefix) && name.starts_with(b"refs/") {
+                    let outcome = if is_full_name(name) {
+                        Outcome::Found(id, peeled_after(after), false)
+                    } else {
+                        Outcome::LeftOut(Why::Broken)
+                    };
+                    items.add(self.alloc, name, outcome)?;
+                }
+            }
+            match after {
+                Some(after) => rest = after,
+                None => break,
+            }
+        }
+        Ok(())
+    }
+
+    /// Returns the references below `refs/` whose names begin with a prefix.
+    ///
+    /// They are sorted by name. A loose reference hides one of `packed-refs`, and each name comes
+    /// once. References that are broken or lead nowhere are listed apart, as git skips them.
+    ///
+    /// # Errors
+    ///
+    /// - `Failed` if a file or a folder cannot be read.
+    /// - `OutOfMemory` if an allocation failed.
+    pub fn all(&mut self, prefix: &[u8]) -> Result<Listing<A>, Error> {
+        self.begin();
+        match self.all_by_files(prefix) {
+            Ok(listing) => Ok(listing),
+            Err(fault) => Err(fault.error()),
+        }
+    }
+
+    /// Returns the references whose names begin with a prefix.
+    fn all_by_files(&mut self, prefix: &[u8]) -> Result<Listing<A>, Fault> {
+        let mut items = Items::new(self.alloc);
+        self.read_all(&mut items, prefix)?;
+        self.read_packed()?;
+        for place in 0..self.readings.len() {
+            self.add_loose(&mut items, place, prefix)?;
+        }
+        self.add_packed(&mut items, prefix)?;
+        items.listing(self.alloc)
+    }
+
+    /// Lists the folder `worktrees`, which has a folder for each linked worktree.
+    fn worktree_names(&self) -> Result<Vec<u8, A>, Fault> {
+        let mut path = self.common_dir.as_slice().to_vec(self.alloc)?;
+        path.extend_from_slice(b"/worktrees")?;
+        let mut names = Vec::new(self.alloc);
+        match self.files.names(&path, &mut names) {
+            Ok(()) => Ok(names),
+            Err(error) => Err(fault_of(b"worktrees", error)),
+        }
+    }
+
+    /// Returns the full name of a worktree's `HEAD`.
+    fn worktree_head(&self, name: &[u8]) -> Result<Vec<u8, A>, Fault> {
+        let mut head = b"worktrees/".to_vec(self.alloc)?;
+        head.extend_from_slice(name)?;
+        head.extend_from_slice(b"/HEAD")?;
+        Ok(head)
+    }
+
+    /// Returns what the `HEAD`s of linked worktrees stand for.
+    fn heads_by_files(&mut self) -> Result<Vec<ObjectId, A>, Fault> {
+        let names = self.worktree_names()?;
+        let mut ids = Vec::new(self.alloc);
+        for name in names.split(|b| *b == 0) {
+            if !is_hidden(name) {
+                let head = self.worktree_head(name)?;
+                if let Some(reference) = self.sound(&head)? {
+                    ids.push(reference.id)?;
+                }
+            }
+        }
+        Ok(ids)
+    }
+
+    /// Returns what `HEAD` of each linked worktree stands for, without those that are broken or
+    /// lead nowhere (git-worktree, "Details").
+    ///
+    /// # Errors
+    ///
+    /// Those of [`References::all`].
+    pub fn worktree_heads(&mut self) -> Result<Vec<ObjectId, A>, Error> {
+        self.begin();
+        match self.heads_by_files() {
+            Ok(ids) => Ok(ids),
+            Err(fault) => Err(fault.error()),
+        }
+    }
+}

@@ -1,0 +1,168 @@
+//! Finds a reference by its full name, and follows symbolic references.
+
+ghost use Rattle.std.specs.Prelude.{◌≡◌, [], IfOk, Some};
+ghost use Rattle.std.specs.Option.{option_map, unwrap_or};
+ghost use Rattle.gix_ref.specs.Loose.{loose_says};
+ghost use Rattle.gix_ref.specs.Packed.{packed_says};
+ghost use Rattle.gix_ref.specs.Known.{Known, Grows, known, says};
+ghost use Rattle.gix_ref.specs.Found.{found_says};
+
+use crate::error::{Error, ErrorName, Fault};
+use crate::loose::{self, Said};
+use crate::name::is_full_name;
+use crate::packed::{self, Packed};
+use crate::store::References;
+use gix_base::hash::ObjectId;
+use gix_odb::files::Folders;
+use std::alloc::{Allocator, Global};
+
+/// How many references are read at most, one leading to the next, as in git.
+pub(crate) const MOST_READ: u32 = 5;
+
+/// Is what a reference says.
+#[derive(Drop)]
+pub enum Target<A: Allocator = Global> {
+    /// An id. `packed-refs` may also say the object to which a tag of this id leads.
+    Id {
+        id: ObjectId,
+        peeled: Option<ObjectId>,
+    },
+    /// The full name of a reference (git-symbolic-ref).
+    Symbolic(Vec<u8, A>),
+}
+
+/// Is a reference that says an id.
+#[derive(Drop)]
+pub struct Reference<A: Allocator = Global> {
+    /// The full name of the last reference, to which the symbolic ones lead.
+    pub name: Vec<u8, A>,
+    pub id: ObjectId,
+    /// The object to which the tag with this id leads, if `packed-refs` says it.
+    pub peeled: Option<ObjectId>,
+}
+
+/// Is what a reference says, or that it says garbage.
+#[derive(Drop)]
+pub(crate) enum Found<A: Allocator> {
+    Id(ObjectId, Option<ObjectId>),
+    LeadsTo(Vec<u8, A>),
+    Garbage,
+}
+
+/// Says where symbolic references lead.
+#[derive(Drop)]
+pub(crate) enum Led<A: Allocator> {
+    Ends(Reference<A>),
+    Nowhere,
+    /// To a broken reference of this name.
+    Breaks(ErrorName),
+    TooFar,
+}
+
+impl<F: Folders + Drop, A: Allocator + Copy> References<F, A> {
+    /// Returns what a loose reference says.
+    fn loose_found(&self, content: &[u8]) -> Result<Option<Found<A>>, Fault>
+        ensures { IfOk result (λ f. Some (loose_says content.now) ≡ option_map found_says f) }
+    {
+        match loose::read(content) {
+            Said::Id(id) => Ok(Some(Found::Id(id, None))),
+            Said::LeadsTo(next) => match next.to_vec(self.alloc) {
+                Ok(next) => Ok(Some(Found::LeadsTo(next))),
+                Err(_) => Err(Fault::OutOfMemory),
+            },
+            Said::Garbage => Ok(Some(Found::Garbage)),
+        }
+    }
+
+    /// Returns what `packed-refs` says of a reference.
+    fn packed_found(&self, name: &[u8]) -> Option<Found<A>>
+        ensures { packed_says (unwrap_or (known self.now).packed []) name.now ≡ option_map found_says result }
+    {
+        match packed::find(self.packed_bytes(), name) {
+            Some(Packed { id, peeled }) => Some(Found::Id(id, peeled)),
+            None => None,
+        }
+    }
+
+    /// Returns what a reference says. Reads its file unless the answer has read it.
+    pub(crate) fn look_up(&mut self, name: &[u8]) -> Result<Option<Found<A>>, Fault>
+        ensures grows { Grows (known self.old) (known self.new) }
+        ensures found { IfOk result (λ f. (later : Known) → Grows (known self.new) later → says later name.now ≡ option_map found_says f) }
+    {
+        self.read_loose(name)?;
+        if let Some(content) = self.content(name) {
+            return self.loose_found(content);
+        }
+        self.read_packed()?;
+        Ok(self.packed_found(name))
+    }
+
+    /// Returns where a reference leads. Reads at most so many references.
+    pub(crate) fn follow_on(&mut self, name: &[u8], most: u32) -> Result<Led<A>, Fault> {
+        let mut last = name.to_vec(self.alloc)?;
+        for _ in 0..most {
+            match self.look_up(&last)? {
+                Some(Found::Id(id, peeled)) => {
+                    let name = last;
+                    return Ok(Led::Ends(Reference { name, id, peeled }));
+                }
+                Some(Found::LeadsTo(next)) => last = next,
+                Some(Found::Garbage) => return Ok(Led::Breaks(ErrorName::new(&last))),
+                None => return Ok(Led::Nowhere),
+            }
+        }
+        Ok(Led::TooFar)
+    }
+
+    /// Returns where the reference with a full name leads. What is no name leads nowhere.
+    pub(crate) fn follow_name(&mut self, name: &[u8]) -> Result<Led<A>, Fault> {
+        if is_full_name(name) {
+            self.follow_on(name, MOST_READ)
+        } else {
+            Ok(Led::Nowhere)
+        }
+    }
+
+    /// Returns what the reference with this full name says; `None` if there is none.
+    ///
+    /// It is the loose reference, or else what the first line of `packed-refs` says that tells of
+    /// the name. A name that git-check-ref-format refuses names no reference.
+    ///
+    /// # Errors
+    ///
+    /// - `Broken` if the loose file says neither an id nor the name of a reference.
+    /// - `Failed` if a file cannot be read, and `NotUtf8` if the path is not UTF-8.
+    /// - `OutOfMemory` if an allocation failed.
+    pub fn find(&mut self, name: &[u8]) -> Result<Option<Target<A>>, Error> {
+        self.begin();
+        if !is_full_name(name) {
+            return Ok(None);
+        }
+        match self.look_up(name) {
+            Ok(Some(Found::Id(id, peeled))) => Ok(Some(Target::Id { id, peeled })),
+            Ok(Some(Found::LeadsTo(next))) => Ok(Some(Target::Symbolic(next))),
+            Ok(Some(Found::Garbage)) => Err(Error::Broken(ErrorName::new(name))),
+            Ok(None) => Ok(None),
+            Err(fault) => Err(fault.error()),
+        }
+    }
+
+    /// Returns the id at the end of symbolic references; `None` if one of them is not there.
+    ///
+    /// It reads at most five references, as git does: four symbolic ones and the last.
+    ///
+    /// # Errors
+    ///
+    /// - Those of [`References::find`].
+    /// - `TooDeep` if the fifth reference is symbolic, too.
+    pub fn follow(&mut self, name: &[u8]) -> Result<Option<Reference<A>>, Error> {
+        self.begin();
+        match self.follow_name(name) {
+            Ok(Led::Ends(reference)) => Ok(Some(reference)),
+            Ok(Led::Nowhere) => Ok(None),
+            Ok(Led::Breaks(broken)) => Err(Error::Broken(broken)),
+            Ok(Led::TooFar) => Err(Error::TooDeep(ErrorName::new(name))),
+            Err(fault) => Err(fault.error()),
+        }
+    }
+}

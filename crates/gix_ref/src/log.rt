@@ -1,0 +1,270 @@
+//! Reads reflogs (git-reflog; gitrepository-layout, "logs").
+
+use crate::error::{Error, Fault};
+use crate::files::read;
+use crate::lines::{cut, id_of};
+use crate::store::References;
+use gix_base::hash::ObjectId;
+use gix_odb::files::Folders;
+use std::alloc::{Allocator, Global};
+
+/// Is an entry of a reflog.
+#[derive(Drop)]
+pub struct LogEntry<A: Allocator = Global> {
+    /// The id before the change. It has zeros only if there was none.
+    pub old: ObjectId,
+    /// The id after the change.
+    pub new: ObjectId,
+    /// When it changed, in seconds since 1970.
+    pub seconds: u64,
+    /// The message, without the line feed.
+    pub message: Vec<u8, A>,
+}
+
+/// Is a reflog. The oldest entry comes first.
+#[derive(Drop)]
+pub struct Reflog<A: Allocator = Global> {
+    pub entries: Vec<LogEntry<A>, A>,
+}
+
+/// Is what a reflog says of a date.
+#[derive(Clone, Copy, Debug, PartialEq, Eq)]
+pub enum AtDate {
+    /// The date is after the newest entry: the reference has the id that it has now.
+    Now,
+    /// The reference had this id.
+    Id(ObjectId),
+    /// The date is before the oldest entry, which is of this second. It has this id. git warns
+    /// that the log only goes back to then.
+    Before(ObjectId, u64),
+}
+
+/// Is what a line of a reflog says.
+#[derive(Clone, Copy)]
+struct Line<'a> {
+    old: ObjectId,
+    new: ObjectId,
+    seconds: u64,
+    message: &'a [u8],
+}
+
+/// Returns the number that decimal digits say, if it fits.
+fn number(digits: &[u8]) -> Option<u64> {
+    let mut value = 0u64;
+    if digits.is_empty() {
+        return None;
+    }
+    for digit in digits {
+        if !digit.is_ascii_digit() {
+            return None;
+        }
+        value = value
+            .checked_mul(10)?
+            .checked_add((*digit as u64).saturating_sub(48))?;
+    }
+    Some(value)
+}
+
+/// Returns what comes after a time zone such as `+0100`.
+fn after_zone(text: &[u8]) -> Option<&[u8]> {
+    let (zone, rest) = text.split_at_checked(5)?;
+    let (sign, digits) = zone.split_first()?;
+    if (*sign == b'+' || *sign == b'-') && digits.iter().all(|b| b.is_ascii_digit()) {
+        Some(rest)
+    } else {
+        None
+    }
+}
+
+/// Returns the date and the message of what comes after the two ids.
+fn date_and_message(text: &[u8]) -> Option<(u64, &[u8])> {
+    let rest = cut(text, b'>').1?.strip_prefix(b" ")?;
+    let (digits, rest) = cut(rest, b' ');
+    let seconds = number(digits)?;
+    let message = after_zone(rest?)?;
+    let message = message.strip_prefix(b"\t").unwrap_or(message);
+    (seconds != 0).then_some((seconds, message))
+}
+
+/// Returns the id at the front of a text, and what comes after a blank.
+fn id_and_rest(text: &[u8]) -> Option<(ObjectId, &[u8])> {
+    let (digits, rest) = text.split_at_checked(40)?;
+    let rest = rest.strip_prefix(b" ")?;
+    Some((id_of(digits)?, rest))
+}
+
+/// Returns what a line says: `OLD NEW NAME <MAIL> SECONDS ZONE`, a tab and the message.
+///
+/// git passes over a line of another form, and over one of second 0.
+fn line_of(line: &[u8]) -> Option<Line<'_>> {
+    let (old, rest) = id_and_rest(line)?;
+    let (new, rest) = id_and_rest(rest)?;
+    let (seconds, message) = date_and_message(rest)?;
+    Some(Line {
+        old,
+        new,
+        seconds,
+        message,
+    })
+}
+
+impl<A: Allocator + Copy> Reflog<A> {
+    /// Adds the entry of a line, if it has one.
+    fn add(&mut self, alloc: A, line: &[u8]) -> Result<(), Fault> {
+        if let Some(
+            Line {
+                old,
+                new,
+                seconds,
+                message,
+            },
+        ) = line_of(line)
+        {
+            let message = message.to_vec(alloc)?;
+            self.entries.push(LogEntry {
+                old,
+                new,
+                seconds,
+                message,
+            })?;
+        }
+        Ok(())
+    }
+
+    /// Reads the lines of a reflog. A line that does not end with a line feed is passed over.
+    fn parse(alloc: A, bytes: &[u8]) -> Result<Reflog<A>, Fault> {
+        let mut log = Reflog {
+            entries: Vec::new(alloc),
+        };
+        let mut rest = bytes;
+        for _ in 0..bytes.len() {
+            let (line, after) = cut(rest, b'\n');
+            let Some(after) = after else {
+                break;
+            };
+            log.add(alloc, line)?;
+            rest = after;
+        }
+        Ok(log)
+    }
+}
+
+/// Tells whether an id has zeros only.
+fn is_null(id: &ObjectId) -> bool {
+    for byte in id.as_bytes() {
+        if *byte != 0 {
+            return false;
+        }
+    }
+    true
+}
+
+/// Returns the new id of an entry.
+fn new_of<A: Allocator>(entry: Option<&LogEntry<A>>) -> Option<ObjectId> {
+    match entry {
+        Some(entry) => Some(entry.new),
+        None => None,
+    }
+}
+
+/// Returns the old id of an entry, unless it has zeros only.
+fn old_of<A: Allocator>(entry: Option<&LogEntry<A>>) -> Option<ObjectId> {
+    match entry {
+        Some(entry) if !is_null(&entry.old) => Some(entry.old),
+        _ => None,
+    }
+}
+
+impl<A: Allocator> Reflog<A> {
+    /// Returns the id that the reference had `n` changes ago (gitrevisions, `<refname>@{<n>}`).
+    ///
+    /// That is the new id of the newest entry if `n` is 0. Otherwise it is the old id of the `n`th
+    /// newest entry, or of the next older one whose old id has not zeros only, as in git. It is
+    /// `None` if there is no such entry.
+    pub fn nth(&self, n: usize) -> Option<ObjectId> {
+        match n.checked_sub(1) {
+            None => new_of(self.entries.last()),
+            Some(before) => self.old_among(self.entries.len().saturating_sub(before)),
+        }
+    }
+
+    /// Returns the old id of the last of the first entries whose old id has not zeros only.
+    fn old_among(&self, count: usize) -> Option<ObjectId> {
+        for i in 0..count {
+            if let Some(old) = old_of(self.entries.get(count - 1 - i)) {
+                return Some(old);
+            }
+        }
+        None
+    }
+
+    /// Returns the id that the reference had at a date (gitrevisions, `<refname>@{<date>}`).
+    ///
+    /// It is `None` if there is no entry.
+    pub fn at(&self, seconds: u64) -> Option<AtDate> {
+        let mut newer = None;
+        for entry in self.entries.iter().rev() {
+            if entry.seconds <= seconds {
+                let is_now = newer.is_none() && entry.seconds != seconds;
+                return Some(if is_now {
+                    AtDate::Now
+                } else {
+                    AtDate::Id(entry.new)
+                });
+            }
+            newer = old_of(Some(entry));
+        }
+        let oldest = self.entries.first()?;
+        let id = old_of(Some(oldest)).unwrap_or(oldest.new);
+        Some(AtDate::Before(id, oldest.seconds))
+    }
+
+    /// Returns the `n`th branch or commit that was checked out before (gitrevisions, `@{-<n>}`).
+    ///
+    /// The reflog has to be that of `HEAD`. It is `None` if there are fewer, or if `n` is 0.
+    pub fn checked_out_before(&self, n: usize) -> Option<&[u8]> {
+        let mut left = n;
+        for entry in self.entries.iter().rev() {
+            if let Some(from) = moved_from(&entry.message) {
+                if left == 1 {
+                    return Some(from);
+                }
+                left = left.saturating_sub(1);
+            }
+        }
+        None
+    }
+}
+
+/// Returns X of a message `checkout: moving from X to Y`.
+fn moved_from(message: &[u8]) -> Option<&[u8]> {
+    let rest = message.strip_prefix(b"checkout: moving from ")?;
+    let to = rest.windows(4).position(|word| word == b" to ".as_slice())?;
+    rest.get(..to)
+}
+
+impl<F: Folders + Drop, A: Allocator + Copy> References<F, A> {
+    /// Returns the reflog of the reference with this full name; `None` if there is none.
+    ///
+    /// Lines that git refuses are passed over.
+    ///
+    /// # Errors
+    ///
+    /// - `Failed` if the file cannot be read, and `NotUtf8` if the name is not UTF-8.
+    /// - `OutOfMemory` if an allocation failed.
+    pub fn reflog(&mut self, name: &[u8]) -> Result<Option<Reflog<A>>, Error> {
+        match self.read_log(name) {
+            Ok(log) => Ok(log),
+            Err(fault) => Err(fault.error()),
+        }
+    }
+
+    /// Reads a reflog.
+    fn read_log(&self, name: &[u8]) -> Result<Option<Reflog<A>>, Fault> {
+        let path = self.path(b"logs/", name)?;
+        match read(self.alloc, &self.files, &path, name)? {
+            Some(bytes) => Ok(Some(Reflog::parse(self.alloc, &bytes)?)),
+            None => Ok(None),
+        }
+    }
+}

@@ -1,0 +1,191 @@
+//! Has the references of a repository, and what an answer has read of them.
+
+ghost use Rattle.std.specs.Prelude.{◌≡◌, ◌++◌, ◌∷◌, [], OnOk, is_some, true};
+ghost use Rattle.std.specs.Option.{option_map, unwrap_or};
+ghost use Rattle.gix_ref.specs.Known.{Grows, known, read_of, first_read, content_of};
+
+use crate::error::{Error, Fault};
+use crate::files::read;
+use crate::place::located;
+use gix_odb::files::Folders;
+use std::alloc::{Allocator, Global};
+
+/// Is what an answer has read of a loose reference. The content is `None` if there is no file.
+#[derive(Drop)]
+pub(crate) struct Reading<A: Allocator> {
+    pub(crate) name: Vec<u8, A>,
+    pub(crate) content: Option<Vec<u8, A>>,
+}
+
+/// Reads the references of a repository.
+#[derive(Drop)]
+pub struct References<F: Folders + Drop, A: Allocator + Copy = Global> {
+    pub(crate) alloc: A,
+    pub(crate) files: F,
+    pub(crate) git_dir: Vec<u8, A>,
+    pub(crate) common_dir: Vec<u8, A>,
+    // The bytes of `packed-refs`, if it was read. They are empty if there is no such file.
+    pub(crate) packed: Option<Vec<u8, A>>,
+    // What the current answer has read. The first reading of a name counts.
+    pub(crate) readings: Vec<Reading<A>, A>,
+}
+
+/// Returns copies of two paths.
+fn copied<A: Allocator + Copy>(
+    alloc: A,
+    first: &[u8],
+    second: &[u8],
+) -> Result<(Vec<u8, A>, Vec<u8, A>), Fault> {
+    Ok((first.to_vec(alloc)?, second.to_vec(alloc)?))
+}
+
+impl<F: Folders + Drop, A: Allocator + Copy> References<F, A> {
+    /// Opens the references of a repository. Reads nothing yet.
+    ///
+    /// `git_dir` is the `.git` folder of the worktree, and `common_dir` the one that all worktrees
+    /// share (git-worktree, "Details"). Both are the same in the main worktree.
+    ///
+    /// # Errors
+    ///
+    /// - `OutOfMemory` if an allocation failed.
+    pub fn open(
+        alloc: A,
+        files: F,
+        git_dir: &[u8],
+        common_dir: &[u8],
+    ) -> Result<References<F, A>, Error> {
+        match copied(alloc, git_dir, common_dir) {
+            Ok((git_dir, common_dir)) => Ok(References {
+                alloc,
+                files,
+                git_dir,
+                common_dir,
+                packed: None,
+                readings: Vec::new(alloc),
+            }),
+            Err(fault) => Err(fault.error()),
+        }
+    }
+
+    /// Forgets what was read of `packed-refs`, so that the next answer reads it anew.
+    pub fn refresh(&mut self) {
+        self.packed = None;
+    }
+
+    /// Forgets what the last answer has read of loose references.
+    pub(crate) fn begin(&mut self)
+        ensures { (known self.new).loose ≡ [] }
+    {
+        self.readings.clear();
+    }
+
+    /// Returns the path of a reference, or of its reflog if `logs` is `logs/`.
+    pub(crate) fn path(&self, logs: &[u8], name: &[u8]) -> Result<Vec<u8, A>, Fault> {
+        let place = located(name);
+        let folder = if place.is_own {
+            &self.git_dir
+        } else {
+            &self.common_dir
+        };
+        let mut path = folder.to_vec(self.alloc)?;
+        path.push(b'/')?;
+        path.extend_from_slice(place.folder)?;
+        path.extend_from_slice(logs)?;
+        path.extend_from_slice(place.below)?;
+        Ok(path)
+    }
+
+    /// Reads the file of a loose reference.
+    pub(crate) fn read_file(&self, name: &[u8]) -> Result<Option<Vec<u8, A>>, Fault> {
+        let path = self.path(b"", name)?;
+        read(self.alloc, &self.files, &path, name)
+    }
+
+    /// Keeps what was read of a loose reference.
+    pub(crate) fn keep(&mut self, name: &[u8], content: Option<Vec<u8, A>>) -> Result<(), Fault>
+        ensures grows { Grows (known self.old) (known self.new) }
+        ensures kept { OnOk result ((known self.new).loose ≡ (known self.old).loose ++ record { name = name.now; content = option_map (λ v. v.items) content } ∷ []) }
+    {
+        let name = Vec::from_slice(self.alloc, name)?;
+        self.readings.push(Reading { name, content })?;
+        Ok(())
+    }
+
+    /// Returns the first reading of a loose reference.
+    fn reading(&self, name: &[u8]) -> Option<&Reading<A>>
+        ensures { option_map (λ r. read_of r.now) result ≡ first_read (known self.now).loose name.now }
+    {
+        for reading in self.readings.as_slice() {
+            if reading.name.as_slice() == name {
+                return Some(reading);
+            }
+        }
+        None
+    }
+
+    /// Returns the bytes of a loose reference's file, if one was read.
+    pub(crate) fn content(&self, name: &[u8]) -> Option<&[u8]>
+        ensures { option_map (λ b. b.now) result ≡ content_of (first_read (known self.now).loose name.now) }
+    {
+        match self.reading(name) {
+            Some(reading) => bytes_of(&reading.content),
+            None => None,
+        }
+    }
+
+    /// Reads a loose reference, unless the answer has read it.
+    pub(crate) fn read_loose(&mut self, name: &[u8]) -> Result<(), Fault>
+        ensures grows { Grows (known self.old) (known self.new) }
+        ensures read { OnOk result (is_some (first_read (known self.new).loose name.now) ≡ true) }
+    {
+        if self.reading(name).is_some() {
+            return Ok(());
+        }
+        let content = self.read_file(name)?;
+        self.keep(name, content)?;
+        Ok(())
+    }
+
+    /// Returns the bytes of the file `packed-refs`. They are empty if there is no such file.
+    fn packed_file(&self) -> Result<Vec<u8, A>, Fault> {
+        let mut path = self.common_dir.to_vec(self.alloc)?;
+        path.extend_from_slice(b"/packed-refs")?;
+        match read(self.alloc, &self.files, &path, b"packed-refs")? {
+            Some(bytes) => Ok(bytes),
+            None => Ok(Vec::new(self.alloc)),
+        }
+    }
+
+    /// Reads `packed-refs`, unless it was read.
+    pub(crate) fn read_packed(&mut self) -> Result<(), Fault>
+        ensures grows { Grows (known self.old) (known self.new) }
+        ensures read { OnOk result (is_some (known self.new).packed ≡ true) }
+    {
+        if self.packed.is_some() {
+            return Ok(());
+        }
+        let bytes = self.packed_file()?;
+        self.packed = Some(bytes);
+        Ok(())
+    }
+
+    /// Returns the bytes of `packed-refs`; none if it was not read.
+    pub(crate) fn packed_bytes(&self) -> &[u8]
+        ensures { result.now ≡ unwrap_or (known self.now).packed [] }
+    {
+        match &self.packed {
+            Some(bytes) => bytes.as_slice(),
+            None => &[],
+        }
+    }
+}
+
+/// Returns the bytes of a file, if there is one.
+fn bytes_of<A: Allocator>(content: &Option<Vec<u8, A>>) -> Option<&[u8]>
+    ensures { option_map (λ b. b.now) result ≡ option_map (λ v. v.items) content.now }
+{
+    match content {
+        Some(bytes) => Some(bytes.as_slice()),
+        None => None,
+    }
+}
