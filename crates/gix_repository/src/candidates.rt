@@ -1,0 +1,206 @@
+//! Lists the objects that ambiguous digits may mean, as git does in a hint.
+
+use crate::error::Refusal;
+use crate::names::Wanted;
+use crate::repository::Repository;
+use gix_odb::Object;
+use gix_odb::files::Folders;
+use gix_revision::hash::{ObjectId, Prefix};
+use gix_revision::object::Kind;
+use jiff_core::{Offset, Timestamp};
+use std::alloc::Allocator;
+use std::io::Write;
+
+/// How many objects are listed at most.
+const MOST_LISTED: usize = 1024;
+
+/// Returns the place of a kind in git's list: tags, commits, trees, blobs.
+fn rank(kind: Kind) -> u8 {
+    match kind {
+        Kind::Tag => 0,
+        Kind::Commit => 1,
+        Kind::Tree => 2,
+        Kind::Blob => 3,
+    }
+}
+
+/// Returns the line that begins with a word; `None` if the header of a commit has none.
+fn header_line<'t>(content: &'t [u8], word: &[u8]) -> Option<&'t [u8]> {
+    for line in content.split(|b| *b == b'\n') {
+        if line.is_empty() {
+            return None;
+        }
+        if let Some(rest) = line.strip_prefix(word) {
+            return Some(rest);
+        }
+    }
+    None
+}
+
+/// Returns a number in decimal digits, with an optional sign.
+fn number(text: &[u8]) -> Option<i64> {
+    let Ok(text) = str::from_utf8(text) else {
+        return None;
+    };
+    text.parse::<i64>().ok()
+}
+
+/// Returns how many seconds a time zone such as `+0130` is ahead of UTC.
+fn offset_of(zone: &[u8]) -> Option<i64> {
+    let number = number(zone)?;
+    let minutes = (number / 100).checked_mul(60)?.checked_add(number % 100)?;
+    minutes.checked_mul(60)
+}
+
+/// Returns the seconds and the offset at the end of the line of an author.
+fn moment(line: &[u8]) -> Option<(i64, i64)> {
+    let mut fields = line.rsplit(|b| *b == b' ');
+    let zone = fields.next()?;
+    let seconds = fields.next()?;
+    Some((number(seconds)?, offset_of(zone)?))
+}
+
+/// Adds a date in the form 2005-04-07. A date that has none is that of the epoch, as in git.
+fn push_date<A: Allocator>(to: &mut Vec<u8, A>, seconds: i64, offset: i64) -> Result<(), Refusal> {
+    let (year, month, day) = date_of(seconds, offset).unwrap_or((1970, 1, 1));
+    match write!(to, "{year:04}-{month:02}-{day:02}") {
+        Ok(()) => Ok(()),
+        Err(_) => Err(Refusal::OutOfMemory),
+    }
+}
+
+/// Returns the year, month and day of a moment in a time zone.
+fn date_of(seconds: i64, offset: i64) -> Option<(i16, u8, u8)> {
+    let nanoseconds = i128::from(seconds).checked_mul(1_000_000_000)?;
+    let timestamp = Timestamp::from_nanosecond(nanoseconds).ok()?;
+    let offset = Offset::from_seconds(offset).ok()?;
+    let date = offset.to_datetime(timestamp).date;
+    Some((date.year, date.month, date.day))
+}
+
+/// Adds the subject of a commit: the first paragraph of its message, on one line.
+fn push_subject<A: Allocator>(to: &mut Vec<u8, A>, content: &[u8]) -> Result<(), Refusal> {
+    let begin = content.windows(2).position(|two| two == b"\n\n".as_slice());
+    let Some(begin) = begin else {
+        return Ok(());
+    };
+    let message = content.get(begin.saturating_add(2)..).unwrap_or(&[]);
+    let mut is_first = true;
+    for line in message.split(|b| *b == b'\n') {
+        let line = line.trim_ascii_end();
+        if line.is_empty() && is_first {
+            continue;
+        }
+        if line.is_empty() {
+            break;
+        }
+        if !is_first {
+            to.push(b' ')?;
+        }
+        to.extend_from_slice(line)?;
+        is_first = false;
+    }
+    Ok(())
+}
+
+impl<F: Folders + Drop, A: Allocator + Copy> Repository<F, A> {
+    /// Adds what the hint says of an object behind its digits.
+    fn push_object(
+        &mut self,
+        to: &mut Vec<u8, A>,
+        id: ObjectId,
+        object: &Object<A>,
+    ) -> Result<(), Refusal> {
+        match object.kind {
+            Kind::Tree => to.extend_from_slice(b" tree")?,
+            Kind::Blob => to.extend_from_slice(b" blob")?,
+            Kind::Tag => match self.tag(id) {
+                Ok(tag) => {
+                    to.extend_from_slice(b" tag ")?;
+                    push_date(to, i64::try_from(tag.date).unwrap_or(0), 0)?;
+                    to.extend_from_slice(b" - ")?;
+                    to.extend_from_slice(&tag.name)?;
+                }
+                Err(_) => to.extend_from_slice(b" [bad tag, could not parse it]")?,
+            },
+            Kind::Commit => {
+                to.extend_from_slice(b" commit ")?;
+                let line = header_line(&object.content, b"author ").unwrap_or(&[]);
+                let (seconds, offset) = moment(line).unwrap_or((0, 0));
+                push_date(to, seconds, offset)?;
+                to.extend_from_slice(b" - ")?;
+                push_subject(to, &object.content)?;
+            }
+        }
+        Ok(())
+    }
+
+    /// Returns the line of the hint about an object, and its rank.
+    fn candidate(&mut self, id: ObjectId) -> Result<(u8, Vec<u8, A>), Refusal> {
+        let least = self.least_digits()?;
+        let count = self.unique_digits(id, least)?;
+        let mut digits = [0u8; 40];
+        let written = id.write_hex(count, &mut digits);
+        let mut line = digits[..written].to_vec(self.alloc)?;
+        let alloc = self.alloc;
+        match self.history.reader.store.read(alloc, id) {
+            Ok(object) => {
+                self.push_object(&mut line, id, &object)?;
+                Ok((rank(object.kind), line))
+            }
+            Err(gix_odb::Error::OutOfMemory) => Err(Refusal::OutOfMemory),
+            Err(_) => {
+                line.extend_from_slice(b" [bad object]")?;
+                Ok((4, line))
+            }
+        }
+    }
+
+    /// Says that digits are ambiguous, and which objects they may mean. If several of these are
+    /// wanted, only they are listed.
+    pub(crate) fn say_ambiguous(
+        &mut self,
+        prefix: Prefix,
+        digits: &[u8],
+        wanted: Wanted,
+    ) -> Result<(), Refusal> {
+        self.say(b"error: short object ID ", digits, b" is ambiguous")?;
+        self.say(b"hint: The candidates are:", b"", b"")?;
+        let alloc = self.alloc;
+        let found = self
+            .history
+            .reader
+            .store
+            .completions(alloc, prefix, MOST_LISTED)?;
+        let listed = self.all_wanted(&found, wanted)?;
+        let mut lines = Vec::new(alloc);
+        for (place, id) in listed.iter().enumerate() {
+            let (rank, line) = self.candidate(*id)?;
+            lines.push((rank, place, line))?;
+        }
+        lines.sort_unstable();
+        for (_, _, line) in lines.iter() {
+            self.say(b"hint:   ", line, b"")?;
+        }
+        Ok(())
+    }
+
+    /// Returns those of some objects that are wanted, if there are several; else all.
+    fn all_wanted(
+        &mut self,
+        ids: &[ObjectId],
+        wanted: Wanted,
+    ) -> Result<Vec<ObjectId, A>, Refusal> {
+        let mut found = Vec::new(self.alloc);
+        for id in ids {
+            if wanted != Wanted::Any && self.is_wanted(*id, wanted)? {
+                found.push(*id)?;
+            }
+        }
+        if found.len() > 1 {
+            Ok(found)
+        } else {
+            Ok(ids.to_vec(self.alloc)?)
+        }
+    }
+}

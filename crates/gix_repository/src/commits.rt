@@ -1,0 +1,231 @@
+//! Reads commits: from the commit-graph, or else from objects; changed as the repository says.
+
+ghost use Rattle.std.specs.Prelude.{IfOk, Some};
+ghost use Rattle.gix_base.specs.declared.hash.ObjectId.{ObjectId};
+ghost use Rattle.gix_revwalk.specs.Held.{entry_of};
+ghost use Rattle.gix_history.specs.Origins.{IsReadOf};
+ghost use Rattle.gix_odb.specs.Stores.{IsCommitOf};
+
+use gix_graph_rows::GraphRows;
+use gix_history::{Origin, Read, ReadError, Reader};
+use gix_odb::Store;
+use gix_odb::files::Folders;
+use gix_revision::graph::SourceCommit;
+use gix_revision::hash::ObjectId;
+use std::alloc::{AllocError, Allocator};
+use std::collections::BTreeMap;
+
+/// Has the commits whose parents, or whose content, the repository changes.
+#[derive(Drop)]
+pub(crate) struct Changes<A: Allocator> {
+    /// The parents of grafted commits, and those of the commits at which a shallow history ends.
+    parents: BTreeMap<ObjectId, Vec<ObjectId, A>, A>,
+    /// The object that stands for another one (git-replace).
+    replaced: BTreeMap<ObjectId, ObjectId, A>,
+}
+
+impl<A: Allocator + Copy> Changes<A> {
+    /// Changes nothing.
+    pub(crate) fn new(alloc: A) -> Changes<A> {
+        Changes {
+            parents: BTreeMap::new(alloc),
+            replaced: BTreeMap::new(alloc),
+        }
+    }
+
+    /// Returns whether nothing is changed.
+    pub(crate) fn is_empty(&self) -> bool {
+        self.parents.is_empty() && self.replaced.is_empty()
+    }
+
+    /// Gives a commit these parents.
+    pub(crate) fn graft(
+        &mut self,
+        id: ObjectId,
+        parents: Vec<ObjectId, A>,
+    ) -> Result<(), AllocError> {
+        self.parents.insert(id, parents)?;
+        Ok(())
+    }
+
+    /// Puts an object in the place of another one.
+    pub(crate) fn replace(&mut self, id: ObjectId, by: ObjectId) -> Result<(), AllocError> {
+        self.replaced.insert(id, by)?;
+        Ok(())
+    }
+
+    /// Returns the parents that a commit is given; `None` if they are its own.
+    fn parents_of<B: Allocator>(
+        &self,
+        alloc: B,
+        id: ObjectId,
+    ) -> Result<Option<Vec<ObjectId, B>>, AllocError> {
+        match self.parents.get(&id) {
+            Some(parents) => Ok(Some(parents.to_vec(alloc)?)),
+            None => Ok(None),
+        }
+    }
+
+    /// Returns the object that stands for `id`: itself, or what leads on from it in at most five
+    /// steps, as in git.
+    pub(crate) fn stand_in(&self, id: ObjectId) -> ObjectId {
+        let mut id = id;
+        for _ in 0..5u32 {
+            match self.replaced.get(&id) {
+                Some(by) => id = *by,
+                None => return id,
+            }
+        }
+        id
+    }
+}
+
+/// Reads the commits of a repository.
+#[derive(Drop)]
+pub(crate) struct Commits<F: Folders + Drop, A: Allocator + Copy> {
+    pub(crate) alloc: A,
+    pub(crate) store: Store<F, A>,
+    /// The commit-graph, if it is used. In authentic mode it is not, nor if anything is changed.
+    pub(crate) rows: Option<GraphRows<F, A>>,
+    pub(crate) changes: Changes<A>,
+    /// Says why the last commit was not read from objects.
+    pub(crate) error: Option<gix_odb::Error>,
+    /// Says why the commit-graph cannot be used further.
+    pub(crate) damage: Option<gix_graph_rows::Error>,
+}
+
+/// Returns the error of a history for one of the object database.
+fn read_error(id: ObjectId, error: gix_odb::Error) -> ReadError {
+    match error {
+        gix_odb::Error::Missing(..) => ReadError::Missing(id),
+        gix_odb::Error::Altered(..) => ReadError::Altered(id),
+        gix_odb::Error::NotACommit(..) | gix_odb::Error::Malformed(..) => ReadError::Malformed(id),
+        gix_odb::Error::OutOfMemory => ReadError::OutOfMemory,
+        _ => ReadError::Failed(id),
+    }
+}
+
+/// Returns a copy of a commit of the object database, which is authentic.
+#[tactic(auto, using(crate::proofs::Read::read_authentic))]
+fn authentic<A: Allocator, B: Allocator>(
+    alloc: B,
+    id: ObjectId,
+    commit: &SourceCommit<A>,
+) -> Result<Read<B>, AllocError>
+    requires { IsCommitOf id (entry_of commit.now) }
+    ensures { IfOk result (λ read. IsReadOf id (Some read)) }
+{
+    Ok(Read {
+        commit: commit.copied(alloc)?,
+        origin: Origin::Authentic,
+    })
+}
+
+impl<F: Folders + Drop, A: Allocator + Copy> Commits<F, A> {
+    /// Looks a commit up in the commit-graph.
+    fn row<B: Allocator + Copy>(
+        &mut self,
+        alloc: B,
+        id: ObjectId,
+    ) -> Result<Option<Read<B>>, ReadError>
+        ensures { IfOk result (IsReadOf id) }
+    {
+        let Some(rows) = self.rows.as_mut() else {
+            return Ok(None);
+        };
+        match rows.commit(self.alloc, id) {
+            Ok(Some(commit)) => Ok(Some(Read {
+                commit: commit.copied(alloc)?,
+                origin: Origin::File,
+            })),
+            Ok(None) => Ok(None),
+            Err(gix_graph_rows::Error::OutOfMemory) => Err(ReadError::OutOfMemory),
+            Err(error) => {
+                self.damage = Some(error);
+                Err(ReadError::Failed(id))
+            }
+        }
+    }
+
+    /// Reads a commit from objects, as it is there.
+    fn object<B: Allocator + Copy>(&mut self, alloc: B, id: ObjectId) -> Result<Read<B>, ReadError>
+        ensures { IfOk result (λ read. IsReadOf id (Some read)) }
+    {
+        match self.store.commit(self.alloc, id) {
+            Ok(commit) => Ok(authentic(alloc, id, &commit)?),
+            Err(error) => {
+                self.error = Some(error);
+                Err(read_error(id, error))
+            }
+        }
+    }
+
+    /// Reads a commit from objects, with what the repository changes.
+    fn with_changes<B: Allocator + Copy>(
+        &mut self,
+        alloc: B,
+        id: ObjectId,
+    ) -> Result<Read<B>, ReadError>
+        ensures { IfOk result (λ read. IsReadOf id (Some read)) }
+    {
+        let by = self.changes.stand_in(id);
+        let Some(parents) = self.changes.parents_of(alloc, id)? else {
+            return self.replaced(alloc, id, by);
+        };
+        let Read { commit, origin: _ } = self.object(alloc, by)?;
+        Ok(changed(with_parents(commit, parents)))
+    }
+
+    /// Reads the commit `by` in the place of `id`.
+    fn replaced<B: Allocator + Copy>(
+        &mut self,
+        alloc: B,
+        id: ObjectId,
+        by: ObjectId,
+    ) -> Result<Read<B>, ReadError>
+        ensures { IfOk result (λ read. IsReadOf id (Some read)) }
+    {
+        if by == id {
+            return self.object(alloc, id);
+        }
+        let Read { commit, origin: _ } = self.object(alloc, by)?;
+        Ok(changed(commit))
+    }
+}
+
+/// Returns a commit that the repository changes.
+fn changed<B: Allocator>(commit: SourceCommit<B>) -> Read<B>
+    ensures { (id : ObjectId) → IsReadOf id (Some result) }
+{
+    Read {
+        commit,
+        origin: Origin::Changed,
+    }
+}
+
+/// Returns the commit with other parents, and without a generation number.
+fn with_parents<B: Allocator>(
+    commit: SourceCommit<B>,
+    parents: Vec<ObjectId, B>,
+) -> SourceCommit<B> {
+    SourceCommit {
+        parents,
+        time: commit.time,
+        generation: None,
+    }
+}
+
+impl<F: Folders + Drop, A: Allocator + Copy> Reader for Commits<F, A> {
+    fn read<B: Allocator + Copy>(
+        &mut self,
+        alloc: B,
+        id: ObjectId,
+    ) -> Result<Option<Read<B>>, ReadError>
+        ensures { IfOk result (IsReadOf id) }
+    {
+        match self.row(alloc, id)? {
+            Some(read) => Ok(Some(read)),
+            None => Ok(Some(self.with_changes(alloc, id)?)),
+        }
+    }
+}

@@ -1,0 +1,32 @@
+//! Answers questions about a git repository as it lies on disk.
+//!
+//! A [`Repository`] is opened on what `gix_discover` found. It looks up names in references and
+//! reflogs (`gix_ref`), and abbreviated object names in packs and loose objects (`gix_odb`). It reads commits as a
+//! question asks for them (`gix_history`): from the commit-graph row by row (`gix_graph_rows`), or
+//! from objects.
+//!
+//! - [`Repository::ask`] answers any question of `gix_history`. The answer is proved: it is right
+//!   for every history that has the commits that were read.
+//! - [`Repository::object`] returns the object that a revision names (gitrevisions).
+//! - [`Repository::commit`] returns the commit to which an object leads through tags.
+//!
+//! What names stand for is read from files, and nothing vouches for these.
+#![tactic(auto)]
+
+mod candidates;
+mod commits;
+mod digits;
+mod error;
+mod messages;
+mod names;
+mod open;
+mod peel;
+mod reflogs;
+mod repository;
+mod revision;
+mod search;
+mod siblings;
+
+pub use error::Refusal;
+pub use open::{Mode, OpenError, Opening};
+pub use repository::Repository;

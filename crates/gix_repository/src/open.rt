@@ -1,0 +1,281 @@
+//! Opens a repository.
+
+use crate::commits::{Changes, Commits};
+use crate::repository::Repository;
+use gix_discover::{
+    DiscoverError, Environment, Layout, Places, Settings, SmallFileError, Variable, discover,
+    grafts, shallow,
+};
+use gix_graph_rows::GraphRows;
+use gix_history::{History, Loaded};
+use gix_odb::Store;
+use gix_odb::files::{FileError, Folders, Opened};
+use gix_ref::References;
+use gix_revision::Seed;
+use gix_revision::date::Time;
+use gix_revision::hash::ObjectId;
+use std::alloc::{AllocError, AllocFailed, Allocator, Global};
+
+/// Says which files are believed.
+#[derive(Clone, Copy, Debug, PartialEq, Eq)]
+pub enum Mode {
+    /// The commit-graph is, and what changes commits: grafts, replace references, a shallow history.
+    Usual,
+    /// Only objects are, each the content of its id. All that a question's commits reach is read,
+    /// and an answer has no premise.
+    Authentic,
+}
+
+/// Says why a repository is not opened.
+#[derive(Debug, Drop)]
+pub enum OpenError<A: Allocator = Global> {
+    /// It is not found, or it or its settings are refused.
+    Discover(DiscoverError<A>),
+    /// The object database is not opened.
+    Object(gix_odb::Error),
+    /// References are not read.
+    Reference(gix_ref::Error),
+    /// The file `shallow` or `info/grafts` is not read, or is malformed.
+    Changes,
+    /// In authentic mode, the repository changes commits.
+    IsChanged,
+    /// An allocation failed.
+    OutOfMemory,
+}
+
+impl<A: Allocator> From<AllocError> for OpenError<A> {
+    fn from(_e: AllocError) -> OpenError<A> {
+        OpenError::OutOfMemory
+    }
+}
+
+impl<T: Drop, A: Allocator> From<AllocFailed<T>> for OpenError<A> {
+    fn from(_e: AllocFailed<T>) -> OpenError<A> {
+        OpenError::OutOfMemory
+    }
+}
+
+impl<A: Allocator> From<DiscoverError<A>> for OpenError<A> {
+    fn from(error: DiscoverError<A>) -> OpenError<A> {
+        OpenError::Discover(error)
+    }
+}
+
+impl<A: Allocator> From<gix_odb::Error> for OpenError<A> {
+    fn from(error: gix_odb::Error) -> OpenError<A> {
+        OpenError::Object(error)
+    }
+}
+
+impl<A: Allocator> From<gix_ref::Error> for OpenError<A> {
+    fn from(error: gix_ref::Error) -> OpenError<A> {
+        OpenError::Reference(error)
+    }
+}
+
+impl<A: Allocator> From<FileError> for OpenError<A> {
+    fn from(error: FileError) -> OpenError<A> {
+        match error {
+            FileError::OutOfMemory => OpenError::OutOfMemory,
+            _ => OpenError::Changes,
+        }
+    }
+}
+
+/// Returns the bytes of a file; `None` if there is no such file.
+fn read_whole<F: Folders, A: Allocator>(
+    alloc: A,
+    files: &F,
+    path: &[u8],
+) -> Result<Option<Vec<u8, A>>, FileError> {
+    let Some(file) = files.open(path)? else {
+        return Ok(None);
+    };
+    let mut bytes = Vec::new(alloc);
+    let mut part = [0u8; 4096];
+    for _ in 0..u64::MAX {
+        let count = file.read_part(bytes.len() as u64, &mut part)?;
+        if count == 0 {
+            break;
+        }
+        bytes.extend_from_slice(&part[..count])?;
+    }
+    Ok(Some(bytes))
+}
+
+impl<A: Allocator + Copy> Changes<A> {
+    /// Takes the parents of the commits at which a shallow history ends (gitrepository-layout,
+    /// "shallow").
+    fn add_shallow<F: Folders>(
+        &mut self,
+        alloc: A,
+        files: &F,
+        path: &[u8],
+    ) -> Result<(), OpenError<A>> {
+        let Some(text) = read_whole(alloc, files, path)? else {
+            return Ok(());
+        };
+        match shallow(alloc, &text) {
+            Ok(ids) => {
+                for id in ids.iter() {
+                    self.graft(*id, Vec::new(alloc))?;
+                }
+                Ok(())
+            }
+            Err(SmallFileError::OutOfMemory) => Err(OpenError::OutOfMemory),
+            Err(_) => Err(OpenError::Changes),
+        }
+    }
+
+    /// Gives commits the parents that `info/grafts` says (gitrepository-layout, "info/grafts").
+    fn add_grafts<F: Folders>(
+        &mut self,
+        alloc: A,
+        files: &F,
+        path: &[u8],
+    ) -> Result<(), OpenError<A>> {
+        let Some(text) = read_whole(alloc, files, path)? else {
+            return Ok(());
+        };
+        // Of two lines about one commit git takes the first.
+        for graft in grafts(alloc, &text)?.into_iter().rev() {
+            self.graft(graft.id, graft.parents)?;
+        }
+        Ok(())
+    }
+
+    /// Puts objects in the place of others, as the references below `base` say (git-replace).
+    fn add_replaced<F: Folders + Drop>(
+        &mut self,
+        references: &mut References<F, A>,
+        base: &[u8],
+    ) -> Result<(), OpenError<A>> {
+        for listed in references.all(base)?.references.iter() {
+            let digits = listed.name.get(base.len()..).unwrap_or(&[]);
+            if let Ok(id) = ObjectId::from_hex(digits) {
+                self.replace(id, listed.id)?;
+            }
+        }
+        Ok(())
+    }
+}
+
+/// Returns what a repository changes.
+fn changes_of<F: Folders + Drop, A: Allocator + Copy>(
+    alloc: A,
+    files: &F,
+    environment: &Environment<A>,
+    layout: &Layout<A>,
+    settings: &Settings<A>,
+    references: &mut References<F, A>,
+) -> Result<Changes<A>, OpenError<A>> {
+    let mut changes = Changes::new(alloc);
+    changes.add_shallow(alloc, files, &layout.shallow)?;
+    changes.add_grafts(alloc, files, &layout.grafts)?;
+    let is_switched_off = environment.get(Variable::NoReplaceObjects).is_some();
+    if settings.uses_replace_refs(alloc)? && !is_switched_off {
+        let base = environment.get(Variable::ReplaceRefBase);
+        changes.add_replaced(references, base.unwrap_or(b"refs/replace/"))?;
+    }
+    Ok(changes)
+}
+
+/// Opens the commit-graph. As git does, it passes over one that cannot be used.
+fn rows_of<F: Folders + Drop, A: Allocator + Copy>(
+    alloc: A,
+    files: F,
+    objects: &[u8],
+) -> Result<Option<GraphRows<F, A>>, OpenError<A>> {
+    match GraphRows::open(alloc, files, objects) {
+        Ok(rows) => Ok(rows),
+        Err(gix_graph_rows::Error::OutOfMemory) => Err(OpenError::OutOfMemory),
+        Err(_) => Ok(None),
+    }
+}
+
+/// Opens the object database.
+fn store_of<F: Folders + Drop, A: Allocator + Copy>(
+    alloc: A,
+    files: F,
+    layout: &Layout<A>,
+) -> Result<Store<F, A>, OpenError<A>> {
+    let mut more = Vec::new(alloc);
+    for path in layout.alternates.iter() {
+        more.push(path.as_slice())?;
+    }
+    Ok(Store::open_with(alloc, files, &layout.objects, &more)?)
+}
+
+/// Says what a repository is opened with.
+#[derive(Clone, Copy)]
+pub struct Opening {
+    /// The memory of refusals, which take none.
+    pub refusals: Global,
+    /// The seed of hash maps over ids. A program takes a random one.
+    pub seed: Seed,
+    /// The moment from which relative dates count.
+    pub now: Time,
+    pub mode: Mode,
+}
+
+impl<F: Places + Copy + Drop, A: Allocator + Copy> Repository<F, A> {
+    /// Opens the repository of the current folder, as `environment` says where it is.
+    ///
+    /// # Errors
+    ///
+    /// - `Discover` if it is not found, or if it or its settings are refused.
+    /// - `Object`, `Reference` or `Changes` if files were not read.
+    /// - `IsChanged` if commits are changed, and the mode is authentic.
+    /// - `OutOfMemory` if an allocation failed.
+    pub fn open(
+        alloc: A,
+        files: F,
+        environment: &Environment<A>,
+        opening: Opening,
+    ) -> Result<Repository<F, A>, OpenError<A>> {
+        let layout = discover(alloc, &files, environment)?;
+        let settings = Settings::read(alloc, &files, environment, &layout)?;
+        let mut references = References::open(alloc, files, &layout.git_dir, &layout.common_dir)?;
+        let changes = changes_of(
+            alloc,
+            &files,
+            environment,
+            &layout,
+            &settings,
+            &mut references,
+        )?;
+        let is_authentic = opening.mode == Mode::Authentic;
+        if is_authentic && !changes.is_empty() {
+            return Err(OpenError::IsChanged);
+        }
+        let uses_rows = !is_authentic && changes.is_empty() && settings.uses_commit_graph(alloc)?;
+        let rows = if uses_rows {
+            rows_of(alloc, files, &layout.objects)?
+        } else {
+            None
+        };
+        let commits = Commits {
+            alloc,
+            store: store_of(alloc, files, &layout)?,
+            rows,
+            changes,
+            error: None,
+            damage: None,
+        };
+        Ok(Repository {
+            alloc,
+            refusals: opening.refusals,
+            seed: opening.seed,
+            now: opening.now,
+            abbrev: settings.abbrev(alloc)?,
+            warns: settings.warns_ambiguous_refs(alloc)?,
+            is_quiet: false,
+            layout,
+            settings,
+            references,
+            history: History::new(alloc, opening.seed, commits),
+            loaded: is_authentic.then(|| Loaded::new(alloc, opening.seed)),
+            messages: Vec::new(alloc),
+        })
+    }
+}

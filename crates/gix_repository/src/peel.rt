@@ -1,0 +1,96 @@
+//! Follows tags to the objects that they name.
+
+use crate::error::Refusal;
+use crate::repository::Repository;
+use gix_odb::Tag;
+use gix_odb::files::Folders;
+use gix_revision::hash::ObjectId;
+use gix_revision::object::Kind;
+use std::alloc::Allocator;
+
+/// How many tags are followed from one object. git follows any number; no repository has so many.
+const MOST_TAGS: u32 = 1 << 20;
+
+/// Returns the id in the line `tree ID` with which the content of a commit begins.
+fn tree_line(content: &[u8]) -> Option<ObjectId> {
+    let rest = content.strip_prefix(b"tree ".as_slice())?;
+    ObjectId::from_hex(rest.get(..40)?).ok()
+}
+
+impl<F: Folders + Drop, A: Allocator + Copy> Repository<F, A> {
+    /// Returns the kind of an object, of the one that stands for it if it is replaced.
+    ///
+    /// # Errors
+    ///
+    /// - `Object` if the object was not read.
+    /// - `OutOfMemory` if an allocation failed.
+    pub fn kind(&mut self, id: ObjectId) -> Result<Kind, Refusal> {
+        // A commit that was read is one.
+        if self.origin(id).is_some() {
+            return Ok(Kind::Commit);
+        }
+        let alloc = self.alloc;
+        let id = self.history.reader.changes.stand_in(id);
+        Ok(self.history.reader.store.kind(alloc, id)?)
+    }
+
+    /// Returns what an annotated tag says.
+    ///
+    /// # Errors
+    ///
+    /// - `Object` if the tag was not read, or if the object is no tag.
+    /// - `OutOfMemory` if an allocation failed.
+    pub fn tag(&mut self, id: ObjectId) -> Result<Tag<A>, Refusal> {
+        let alloc = self.alloc;
+        let id = self.history.reader.changes.stand_in(id);
+        Ok(self.history.reader.store.tag(alloc, id)?)
+    }
+
+    /// Returns the tree of a commit.
+    ///
+    /// # Errors
+    ///
+    /// - `Object` if the commit was not read.
+    /// - `OutOfMemory` if an allocation failed.
+    pub(crate) fn tree(&mut self, commit: ObjectId) -> Result<ObjectId, Refusal> {
+        let alloc = self.alloc;
+        let id = self.history.reader.changes.stand_in(commit);
+        let object = self.history.reader.store.read(alloc, id)?;
+        match tree_line(&object.content) {
+            Some(id) => Ok(id),
+            None => Err(Refusal::Unknown),
+        }
+    }
+
+    /// Returns the object to which `id` leads through all tags, and its kind (gitrevisions,
+    /// `<rev>^{}`).
+    ///
+    /// # Errors
+    ///
+    /// - `Object` if an object on the way was not read.
+    /// - `OutOfMemory` if an allocation failed.
+    pub fn peeled(&mut self, id: ObjectId) -> Result<(ObjectId, Kind), Refusal> {
+        let mut id = id;
+        for _ in 0..MOST_TAGS {
+            match self.kind(id)? {
+                Kind::Tag => id = self.tag(id)?.target,
+                kind => return Ok((id, kind)),
+            }
+        }
+        Err(Refusal::NotSupported)
+    }
+
+    /// Returns the commit to which an object leads through tags; `None` if it is another kind of
+    /// object.
+    ///
+    /// # Errors
+    ///
+    /// - `Object` if an object on the way was not read.
+    /// - `OutOfMemory` if an allocation failed.
+    pub fn commit(&mut self, id: ObjectId) -> Result<Option<ObjectId>, Refusal> {
+        match self.peeled(id)? {
+            (id, Kind::Commit) => Ok(Some(id)),
+            _ => Ok(None),
+        }
+    }
+}

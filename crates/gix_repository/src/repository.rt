@@ -1,0 +1,238 @@
+//! Has the repository, and the questions about its history.
+
+ghost use Rattle.std.specs.Prelude.{◌≡◌, IfOk};
+ghost use Rattle.gix_repository.specs.Answers.{answered_over};
+
+use crate::commits::Commits;
+use crate::error::Refusal;
+use gix_discover::{Abbrev, Layout, Settings};
+use gix_history::{Beyond, History, Loaded, Origin, Question, Refused};
+use gix_odb::files::Folders;
+use gix_ref::{Listing, References, Why};
+use gix_revision::Seed;
+use gix_revision::date::Time;
+use gix_revision::graph::SourceCommit;
+use gix_revision::hash::ObjectId;
+use std::alloc::{Allocator, Global};
+
+/// Reads a repository, and answers questions about it.
+///
+/// What one question has read, the next one uses.
+#[derive(Drop)]
+pub struct Repository<F: Folders + Drop, A: Allocator + Copy = Global> {
+    pub(crate) alloc: A,
+    /// The memory of refusals, which take none.
+    pub(crate) refusals: Global,
+    pub(crate) seed: Seed,
+    /// The moment from which relative dates count.
+    pub(crate) now: Time,
+    pub(crate) abbrev: Abbrev,
+    /// Whether ambiguous names are warned of.
+    pub(crate) warns: bool,
+    /// Whether nothing is said about names.
+    pub(crate) is_quiet: bool,
+    pub(crate) layout: Layout<A>,
+    pub(crate) settings: Settings<A>,
+    pub(crate) references: References<F, A>,
+    pub(crate) history: History<Commits<F, A>, A>,
+    /// In authentic mode, the commits that were loaded.
+    pub(crate) loaded: Option<Loaded<A>>,
+    /// What git would print on standard error.
+    pub(crate) messages: Vec<u8, A>,
+}
+
+impl<F: Folders + Drop, A: Allocator + Copy> Repository<F, A> {
+    /// Returns the allocator of the repository's memory.
+    pub fn alloc(&self) -> A {
+        self.alloc
+    }
+
+    /// Returns the seed of hash maps over ids.
+    pub fn seed(&self) -> Seed {
+        self.seed
+    }
+
+    /// Returns where the repository is.
+    pub fn layout(&self) -> &Layout<A> {
+        &self.layout
+    }
+
+    /// Returns the settings of the repository.
+    pub fn settings(&self) -> &Settings<A> {
+        &self.settings
+    }
+
+    /// Returns whether ambiguous names are warned of (git-config, `core.warnAmbiguousRefs`).
+    pub fn warns_of_ambiguous_names(&self) -> bool {
+        self.warns
+    }
+
+    /// Says nothing about the names that are looked up from now on, or again something (git-rev-parse,
+    /// "--quiet").
+    pub fn set_quiet(&mut self, is_quiet: bool) {
+        self.is_quiet = is_quiet;
+    }
+
+    /// Lists the references whose full names begin with a text.
+    ///
+    /// # Errors
+    ///
+    /// - `NotUtf8` if the file of a reference has a name that is not UTF-8, and is not opened.
+    /// - `Reference` if a file or a folder was not read.
+    /// - `OutOfMemory` if an allocation failed.
+    pub fn list_references(&mut self, front: &[u8]) -> Result<Listing<A>, Refusal> {
+        let listing = self.references.all(front)?;
+        let has_unopened = listing
+            .skipped
+            .iter()
+            .any(|skipped| skipped.why == Why::NotUtf8);
+        if has_unopened {
+            return Err(Refusal::NotUtf8);
+        }
+        Ok(listing)
+    }
+
+    /// Returns the shortest name that the rules read as a reference (git-rev-parse,
+    /// "--abbrev-ref").
+    ///
+    /// # Errors
+    ///
+    /// - `Reference` if a file was not read.
+    /// - `OutOfMemory` if an allocation failed.
+    pub fn shortest_name(&mut self, name: &[u8], strict: bool) -> Result<Vec<u8, A>, Refusal> {
+        Ok(self.references.shortest(name, strict)?.to_vec(self.alloc)?)
+    }
+
+    /// Returns what the HEAD of the work tree stands for, and the HEAD of each other one.
+    ///
+    /// # Errors
+    ///
+    /// - `Reference` if a file was not read.
+    /// - `OutOfMemory` if an allocation failed.
+    pub fn heads(&mut self) -> Result<Vec<ObjectId, A>, Refusal> {
+        let mut ids = Vec::new(self.alloc);
+        if let Some(reference) = self.references.follow(b"HEAD")? {
+            ids.push(reference.id)?;
+        }
+        let found = self.references.worktree_heads()?;
+        for id in found.iter() {
+            ids.push(*id)?;
+        }
+        Ok(ids)
+    }
+
+    /// Returns the date of a commit, if it was read already.
+    ///
+    /// # Errors
+    ///
+    /// - `OutOfMemory` if an allocation failed.
+    pub fn known_time(&self, id: ObjectId) -> Result<Option<i64>, Refusal> {
+        match self.history.known.commits().get(self.alloc, id)? {
+            Some(commit) => Ok(Some(commit.time)),
+            None => Ok(None),
+        }
+    }
+
+    /// Returns what git would have printed on standard error so far.
+    pub fn messages(&self) -> &[u8] {
+        &self.messages
+    }
+
+    /// Forgets the messages, and what was read of `packed-refs`. A batch does so before each
+    /// question.
+    pub fn refresh(&mut self) {
+        self.messages.clear();
+        self.is_quiet = false;
+        self.references.refresh();
+    }
+
+    /// Forgets the commits that were read, and the commit-graph, since it is damaged.
+    fn leave_graph(&mut self)
+        ensures { self.new.loaded ≡ self.old.loaded }
+    {
+        self.history.reader.rows = None;
+        self.history.reader.damage = None;
+        self.history.forget(self.alloc);
+    }
+
+    /// Answers a question about the history.
+    ///
+    /// Commits are read as the question needs them. If the commit-graph is damaged where it is
+    /// needed, the answer is made again from objects, as git would read them without the file. In
+    /// authentic mode all that the question's commits reach is loaded first.
+    ///
+    /// # Errors
+    ///
+    /// - `Commit` if a commit was not read that the answer needs.
+    /// - `OutOfMemory` if an allocation failed.
+    pub fn ask<K: Beyond, Q: Question>(&mut self, question: &Q) -> Result<Q::Answer, Refusal>
+        // The answer is right for every history that has the commits that were read, whatever lies
+        // beyond them; in authentic mode for the commits that were loaded.
+        ensures means { IfOk result (Q.means question.now
+            (answered_over self.new.loaded self.new.history.known.commits K.beyond)) }
+    {
+        if self.loaded.is_some() {
+            return self.ask_loaded::<K, Q>(question);
+        }
+        match self.history.ask::<K, Q>(self.alloc, question) {
+            Ok(answer) => Ok(answer),
+            Err(_) if self.history.reader.damage.is_some() => {
+                self.leave_graph();
+                Ok(self.history.ask::<K, Q>(self.alloc, question)?)
+            }
+            Err(error) => Err(Refusal::from(error)),
+        }
+    }
+
+    /// Loads all that the commits of a question reach, and answers the question about it.
+    fn ask_loaded<K: Beyond, Q: Question>(&mut self, question: &Q) -> Result<Q::Answer, Refusal>
+        ensures { IfOk result (Q.means question.now
+            (answered_over self.new.loaded self.new.history.known.commits K.beyond)) }
+    {
+        let mut tips = Vec::new(self.alloc);
+        for number in 0..usize::MAX {
+            let Some(id) = question.named(number) else {
+                break;
+            };
+            tips.push(id)?;
+        }
+        let Some(loaded) = self.loaded.as_mut() else {
+            return Err(Refusal::NotSupported);
+        };
+        loaded.load(self.alloc, &tips, &mut self.history.reader)?;
+        match loaded.ask(question) {
+            Ok(answer) => Ok(answer),
+            Err(Refused::OutOfMemory) => Err(Refusal::OutOfMemory),
+            Err(Refused::Source) => Err(Refusal::NotSupported),
+        }
+    }
+
+    /// Returns where a commit is from that was read already; `None` if it was not.
+    pub fn origin(&self, id: ObjectId) -> Option<Origin> {
+        self.history.known.origin(id)
+    }
+
+    /// Returns whether objects may be missing that a remote has promised (gitglossary, "promisor").
+    pub fn is_partial(&self) -> bool {
+        self.settings
+            .value(b"extensions", None, b"partialclone")
+            .is_some()
+    }
+
+    /// Returns the parents and the date of a commit, and reads it if need be.
+    ///
+    /// # Errors
+    ///
+    /// - `Commit` if the commit was not read.
+    /// - `OutOfMemory` if an allocation failed.
+    pub fn entry(&mut self, id: ObjectId) -> Result<SourceCommit<A>, Refusal> {
+        match self.history.commit(self.alloc, id) {
+            Ok(commit) => Ok(commit),
+            Err(_) if self.history.reader.damage.is_some() => {
+                self.leave_graph();
+                Ok(self.history.commit(self.alloc, id)?)
+            }
+            Err(error) => Err(Refusal::from(error)),
+        }
+    }
+}

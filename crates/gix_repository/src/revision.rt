@@ -1,0 +1,393 @@
+//! Reads revisions (gitrevisions, "Specifying Revisions"): the delegate that answers the parser.
+
+use crate::error::Refusal;
+use crate::names::{Named, Names, Wanted};
+use crate::repository::Repository;
+use gix_odb::files::Folders;
+use gix_revision::date::Time;
+use gix_revision::error::Exn;
+use gix_revision::hash::{ObjectId, Prefix};
+use gix_revision::spec::parse::delegate::{
+    Kind, Listener, Navigate, PeelTo, PrefixHint, ReflogLookup, Revision, SiblingBranch, Traversal,
+};
+use gix_revision::spec::parse::{Delegate, parse};
+use gix_revision::{object, spec};
+use std::alloc::Allocator;
+
+/// Looks up what a revision names, call by call.
+#[derive(Drop)]
+struct Lookup<'r, F: Folders + Drop, A: Allocator + Copy> {
+    repository: &'r mut Repository<F, A>,
+    /// What the digits of several objects mean.
+    wanted: Wanted,
+    /// The object so far.
+    at: Option<ObjectId>,
+    /// The reference with which the revision begins.
+    reference: Option<Names<A>>,
+    /// Why the revision names nothing.
+    refusal: Option<Refusal>,
+}
+
+impl<'r, F: Folders + Drop, A: Allocator + Copy> Lookup<'r, F, A> {
+    /// Answers a call: notes the object to which it leads, or why it leads to none.
+    fn answer(&mut self, found: Result<ObjectId, Refusal>) -> Result<(), Exn> {
+        match found {
+            Ok(id) => {
+                self.at = Some(id);
+                Ok(())
+            }
+            Err(Refusal::OutOfMemory) => {
+                self.refusal = Some(Refusal::OutOfMemory);
+                Err(Exn::out_of_memory(self.repository.refusals))
+            }
+            Err(refusal) => {
+                self.refusal = Some(refusal);
+                Err(Exn::new(self.repository.refusals, "names nothing"))
+            }
+        }
+    }
+
+    /// Notes the object and the reference that a name stands for.
+    fn begin(&mut self, found: Result<Named<A>, Refusal>) -> Result<(), Exn> {
+        match found {
+            Ok(Named { id, reference }) => {
+                self.reference = reference;
+                self.answer(Ok(id))
+            }
+            Err(refusal) => self.answer(Err(refusal)),
+        }
+    }
+
+    /// Returns the object so far.
+    fn current(&self) -> Result<ObjectId, Refusal> {
+        match self.at {
+            Some(id) => Ok(id),
+            None => Err(Refusal::Unknown),
+        }
+    }
+
+    /// Returns the object to which a step leads.
+    fn stepped(&mut self, kind: Traversal) -> Result<ObjectId, Refusal> {
+        let id = self.current()?;
+        match self.repository.commit(id)? {
+            Some(commit) => self.repository.stepped(commit, kind),
+            None => Err(Refusal::Unknown),
+        }
+    }
+
+    /// Returns the object that the revision is peeled to.
+    fn peeled(&mut self, to: PeelTo<'_>) -> Result<ObjectId, Refusal> {
+        let id = self.current()?;
+        match to {
+            PeelTo::ObjectKind(kind) => self.repository.peeled_to(id, kind),
+            PeelTo::ValidObject => {
+                self.repository.kind(id)?;
+                Ok(id)
+            }
+            PeelTo::RecursiveTagObject => {
+                let (id, _) = self.repository.peeled(id)?;
+                Ok(id)
+            }
+            PeelTo::Path(_) => Err(Refusal::NotSupported),
+        }
+    }
+
+    /// Returns the object that an entry of the reflog names.
+    fn logged(&mut self, query: ReflogLookup) -> Result<ObjectId, Refusal> {
+        let reference = self.reference.take();
+        match reference {
+            Some(names) => self.repository.logged(&names, query),
+            None => self.repository.logged_here(query),
+        }
+    }
+
+    /// Returns what the sibling branch stands for.
+    fn sibling(&mut self, kind: SiblingBranch) -> Result<Named<A>, Refusal> {
+        let reference = self.reference.take();
+        match reference {
+            Some(names) => self.repository.sibling_of(&names, kind),
+            None => self.repository.sibling_here(kind),
+        }
+    }
+}
+
+impl<F: Folders + Drop, A: Allocator + Copy> Listener for Lookup<'_, F, A> {
+    ghost step = { λ before call answer after. Unit {0} };
+}
+
+impl<F: Folders + Drop, A: Allocator + Copy> Revision for Lookup<'_, F, A> {
+    fn find_ref(&mut self, name: &[u8]) -> Result<(), Exn> {
+        let found = self.repository.look_up(name, self.wanted);
+        self.begin(found)
+    }
+
+    // The whole name is looked up first, as in git.
+    fn disambiguate_prefix(
+        &mut self,
+        prefix: Prefix,
+        hint: Option<PrefixHint<'_>>,
+    ) -> Result<(), Exn> {
+        Err(Exn::new(self.repository.refusals, "a name comes first"))
+    }
+
+    fn reflog(&mut self, query: ReflogLookup) -> Result<(), Exn> {
+        let found = self.logged(query);
+        self.answer(found)
+    }
+
+    fn nth_checked_out_branch(&mut self, branch_no: usize) -> Result<(), Exn> {
+        let found = self.repository.checked_out_before(branch_no);
+        self.begin(found)
+    }
+
+    fn sibling_branch(&mut self, kind: SiblingBranch) -> Result<(), Exn> {
+        let found = self.sibling(kind);
+        self.begin(found)
+    }
+}
+
+impl<F: Folders + Drop, A: Allocator + Copy> Kind for Lookup<'_, F, A> {
+    // A single revision has no kind; the ends of ranges are read apart.
+    fn kind(&mut self, kind: spec::Kind) -> Result<(), Exn> {
+        self.answer(Err(Refusal::NotSupported))
+    }
+}
+
+impl<F: Folders + Drop, A: Allocator + Copy> Navigate for Lookup<'_, F, A> {
+    fn traverse(&mut self, kind: Traversal) -> Result<(), Exn> {
+        let found = self.stepped(kind);
+        self.reference = None;
+        self.answer(found)
+    }
+
+    fn peel_until(&mut self, kind: PeelTo<'_>) -> Result<(), Exn> {
+        let found = self.peeled(kind);
+        self.reference = None;
+        self.answer(found)
+    }
+
+    fn find(&mut self, regex: &[u8], negated: bool) -> Result<(), Exn> {
+        let found = self.repository.searched(self.at, regex, negated);
+        self.reference = None;
+        self.answer(found)
+    }
+
+    fn index_lookup(&mut self, path: &[u8], stage: u8) -> Result<(), Exn> {
+        self.answer(Err(Refusal::NotSupported))
+    }
+}
+
+impl<F: Folders + Drop, A: Allocator + Copy> Delegate for Lookup<'_, F, A> {
+    fn done(&mut self) -> Result<(), Exn> {
+        Ok(())
+    }
+}
+
+/// Parses a text, and returns whether that succeeded.
+fn is_parsed<D: Delegate, A: Allocator + Copy>(
+    alloc: A,
+    text: &[u8],
+    now: Time,
+    delegate: &mut D,
+) -> bool {
+    parse(alloc, text, now, delegate).is_ok()
+}
+
+/// Parses a text for a look-up, and returns whether that succeeded.
+fn is_looked_up<F: Folders + Drop, A: Allocator + Copy>(
+    alloc: A,
+    text: &[u8],
+    now: Time,
+    lookup: &mut Lookup<'_, F, A>,
+) -> bool {
+    is_parsed(alloc, text, now, lookup)
+}
+
+/// Returns whether a text has `@{`.
+fn has_braces(text: &[u8]) -> bool {
+    text.windows(2).any(|two| two == b"@{".as_slice())
+}
+
+/// Holds what came of a look-up.
+#[derive(Drop)]
+struct Outcome<A: Allocator> {
+    parsed: bool,
+    at: Option<ObjectId>,
+    reference: Option<Names<A>>,
+    refusal: Option<Refusal>,
+}
+
+/// Returns what the digits with which a text begins mean, by what stands behind them.
+fn wanted_by(text: &[u8]) -> Wanted {
+    let Some(at) = text.iter().position(|b| matches!(*b, b'~' | b'^' | b':')) else {
+        return Wanted::Any;
+    };
+    let rest = text.get(at..).unwrap_or(&[]);
+    if rest.starts_with(b":") || rest.starts_with(b"^{tree}") {
+        return Wanted::Treeish;
+    }
+    if rest.starts_with(b"^{") && !rest.starts_with(b"^{commit}") && !rest.starts_with(b"^{/") {
+        return Wanted::Any;
+    }
+    Wanted::Committish
+}
+
+/// Returns what stands before `@{upstream}` or `@{push}` at the end of a text.
+fn before_sibling(text: &[u8]) -> Option<&[u8]> {
+    let inner = text.strip_suffix(b"}".as_slice())?;
+    let at = inner.iter().rposition(|b| *b == b'{')?;
+    let name = inner.get(..at)?.strip_suffix(b"@".as_slice())?;
+    SiblingBranch::parse(inner.get(at.checked_add(1)?..)?)?;
+    Some(name)
+}
+
+impl<F: Folders + Drop, A: Allocator + Copy> Repository<F, A> {
+    /// Returns the parent of a commit with a number, from 1 on.
+    fn parent(&mut self, commit: ObjectId, number: usize) -> Result<ObjectId, Refusal> {
+        let entry = self.entry(commit)?;
+        match entry.parents.get(number.saturating_sub(1)) {
+            Some(parent) => Ok(*parent),
+            None => Err(Refusal::Unknown),
+        }
+    }
+
+    /// Returns the commit to which a step leads. Only the commits on the way are read.
+    pub(crate) fn stepped(
+        &mut self,
+        commit: ObjectId,
+        kind: Traversal,
+    ) -> Result<ObjectId, Refusal> {
+        match kind {
+            Traversal::NthParent(0) => Ok(commit),
+            Traversal::NthParent(number) => self.parent(commit, number),
+            Traversal::NthAncestor(number) => {
+                let mut at = commit;
+                for _ in 0..number {
+                    at = self.parent(at, 1)?;
+                }
+                Ok(at)
+            }
+        }
+    }
+
+    /// Returns the object of a kind to which an object leads: through tags, and from a commit to its
+    /// tree.
+    pub(crate) fn peeled_to(
+        &mut self,
+        id: ObjectId,
+        kind: object::Kind,
+    ) -> Result<ObjectId, Refusal> {
+        if kind == object::Kind::Tag {
+            return match self.kind(id)? {
+                object::Kind::Tag => Ok(id),
+                _ => Err(Refusal::Unknown),
+            };
+        }
+        match self.peeled(id)? {
+            (id, found) if found == kind => Ok(id),
+            (id, object::Kind::Commit) if kind == object::Kind::Tree => self.tree(id),
+            _ => Err(Refusal::Unknown),
+        }
+    }
+
+    /// Returns the object that a single revision names (gitrevisions, "Specifying Revisions").
+    ///
+    /// # Errors
+    ///
+    /// - `Unknown` if it names nothing, and `Ambiguous` if its digits are those of several objects.
+    /// - `Fatal` for what a branch or a reflog lacks. The message is among the messages.
+    /// - `NotSupported` for a path, a search, and a range.
+    /// - `Commit`, `Object` or `Reference` if something was not read that the answer needs.
+    /// - `OutOfMemory` if an allocation failed.
+    pub fn object(&mut self, text: &[u8]) -> Result<ObjectId, Refusal> {
+        self.object_as(text, wanted_by(text))
+    }
+
+    /// Returns the object that a single revision names, whose digits mean a commit.
+    ///
+    /// # Errors
+    ///
+    /// Those of [`Repository::object`].
+    pub fn committish(&mut self, text: &[u8]) -> Result<ObjectId, Refusal> {
+        self.object_as(text, Wanted::Committish)
+    }
+
+    /// Returns the full name of the reference that a text names, at the end of symbolic references;
+    /// `None` if it names an object otherwise.
+    ///
+    /// # Errors
+    ///
+    /// Those of [`Repository::object`].
+    pub fn reference_of(&mut self, text: &[u8]) -> Result<Option<Vec<u8, A>>, Refusal> {
+        let (_, reference) = self.read(text, Wanted::Any)?;
+        match reference {
+            Some(names) => Ok(Some(names.target)),
+            None => Ok(None),
+        }
+    }
+
+    /// Returns the object that a single revision names.
+    fn object_as(&mut self, text: &[u8], wanted: Wanted) -> Result<ObjectId, Refusal> {
+        let (id, _) = self.read(text, wanted)?;
+        Ok(id)
+    }
+
+    /// Returns the object that a single revision names, and the names of the reference if it is
+    /// one.
+    fn read(
+        &mut self,
+        text: &[u8],
+        wanted: Wanted,
+    ) -> Result<(ObjectId, Option<Names<A>>), Refusal> {
+        let Outcome {
+            parsed,
+            at,
+            reference,
+            refusal,
+        } = self.looked_up(text, wanted);
+        match (refusal, at) {
+            (Some(Refusal::Unknown), _) => Err(self.no_branch_or_unknown(text)?),
+            (Some(refusal), _) => Err(refusal),
+            (None, Some(id)) if parsed => Ok((id, reference)),
+            // git reads more than the grammar, such as `@{-1}@{u}`.
+            _ if has_braces(text) => Err(Refusal::NotSupported),
+            _ => Err(Refusal::Unknown),
+        }
+    }
+
+    /// Parses a single revision, and looks up what it names.
+    fn looked_up(&mut self, text: &[u8], wanted: Wanted) -> Outcome<A> {
+        let (alloc, now) = (self.alloc, self.now);
+        let mut lookup = Lookup {
+            repository: self,
+            wanted,
+            at: None,
+            reference: None,
+            refusal: None,
+        };
+        let parsed = is_looked_up(alloc, text, now, &mut lookup);
+        let Lookup {
+            repository: _,
+            wanted: _,
+            at,
+            reference,
+            refusal,
+        } = lookup;
+        Outcome {
+            parsed,
+            at,
+            reference,
+            refusal,
+        }
+    }
+
+    /// Says that there is no branch of the name before `@{upstream}` or `@{push}`, if a text that
+    /// names nothing ends so.
+    fn no_branch_or_unknown(&mut self, text: &[u8]) -> Result<Refusal, Refusal> {
+        let Some(name) = before_sibling(text) else {
+            return Ok(Refusal::Unknown);
+        };
+        self.say(b"fatal: no such branch: '", name, b"'")?;
+        Ok(Refusal::Fatal)
+    }
+}

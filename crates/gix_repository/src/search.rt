@@ -1,0 +1,140 @@
+//! Searches the messages of commits (gitrevisions, `<rev>^{/<text>}`, `:/<text>`).
+//!
+//! Only texts without signs that have a meaning in regular expressions are supported.
+
+use crate::error::Refusal;
+use crate::repository::Repository;
+use gix_odb::files::Folders;
+use gix_revision::hash::ObjectId;
+use std::alloc::Allocator;
+use std::collections::{BinaryHeap, HashMap};
+
+/// Is a commit that was met and not searched: the newest is the greatest, and of those with one
+/// date the one that was met first.
+#[derive(Clone, Copy, PartialEq, Eq, PartialOrd, Ord)]
+struct Waiting {
+    time: i64,
+    before: u64,
+    id: ObjectId,
+}
+
+/// Returns whether a text means itself as a regular expression.
+fn is_plain(text: &[u8]) -> bool {
+    text.iter().all(|b| b.is_ascii_alphanumeric()
+        || b" _-,:;/'\"#%&=<>~@".contains(b)
+        || !b.is_ascii())
+}
+
+/// Returns the message of a commit's content.
+fn message_of(content: &[u8]) -> &[u8] {
+    let at = content.windows(2).position(|two| two == b"\n\n".as_slice());
+    match at {
+        Some(at) => content.get(at.saturating_add(2)..).unwrap_or(&[]),
+        None => &[],
+    }
+}
+
+/// Returns whether a text contains another one.
+fn contains(text: &[u8], part: &[u8]) -> bool {
+    part.is_empty() || text.windows(part.len().max(1)).any(|window| window == part)
+}
+
+impl<F: Folders + Drop, A: Allocator + Copy> Repository<F, A> {
+    /// Returns the commits to which all references lead, and HEAD, in the order of their names.
+    fn all_tips(&mut self) -> Result<Vec<ObjectId, A>, Refusal> {
+        let listing = self.list_references(b"refs/")?;
+        let mut tips = Vec::new(self.alloc);
+        for listed in listing.references.iter() {
+            // git passes over what leads to no commit.
+            match self.commit(listed.id) {
+                Ok(Some(commit)) => tips.push(commit)?,
+                Err(Refusal::OutOfMemory) => return Err(Refusal::OutOfMemory),
+                _ => {}
+            }
+        }
+        if let Some(reference) = self.references.follow(b"HEAD")? {
+            tips.push(reference.id)?;
+        }
+        Ok(tips)
+    }
+
+    /// Returns whether the message of a commit contains a text.
+    fn says(&mut self, id: ObjectId, text: &[u8]) -> Result<bool, Refusal> {
+        let alloc = self.alloc;
+        let by = self.history.reader.changes.stand_in(id);
+        let object = self.history.reader.store.read(alloc, by)?;
+        Ok(contains(message_of(&object.content), text))
+    }
+
+    /// Lets the commits wait that were not met before.
+    fn wait_for(
+        &mut self,
+        ids: &[ObjectId],
+        met: &mut HashMap<ObjectId, (), gix_revision::Seed, A>,
+        waiting: &mut BinaryHeap<Waiting, A>,
+    ) -> Result<(), Refusal> {
+        for id in ids {
+            if !met.contains_key(id) {
+                let time = self.entry(*id)?.time;
+                let before = u64::MAX.saturating_sub(met.len() as u64);
+                met.insert(*id, ())?;
+                waiting.push(Waiting {
+                    time,
+                    before,
+                    id: *id,
+                })?;
+            }
+        }
+        Ok(())
+    }
+
+    /// Returns the first commit, from the newest on, whose message contains a text, or does not if
+    /// `negated`.
+    fn searched_from(
+        &mut self,
+        tips: &[ObjectId],
+        text: &[u8],
+        negated: bool,
+    ) -> Result<ObjectId, Refusal> {
+        let mut met = HashMap::with_hasher(self.alloc, self.seed);
+        let mut waiting = BinaryHeap::new(self.alloc);
+        self.wait_for(tips, &mut met, &mut waiting)?;
+        for _ in 0..u64::MAX {
+            let Some(next) = waiting.pop() else {
+                break;
+            };
+            if self.says(next.id, text)? != negated {
+                return Ok(next.id);
+            }
+            let parents = self.entry(next.id)?.parents;
+            self.wait_for(&parents, &mut met, &mut waiting)?;
+        }
+        Err(Refusal::Unknown)
+    }
+
+    /// Returns the youngest commit whose message contains a text, or does not if `negated`: of those
+    /// that an object reaches, or else of those that references reach.
+    ///
+    /// # Errors
+    ///
+    /// - `NotSupported` if a byte of the text has a meaning in regular expressions.
+    /// - `Unknown` if there is no such commit.
+    pub(crate) fn searched(
+        &mut self,
+        from: Option<ObjectId>,
+        text: &[u8],
+        negated: bool,
+    ) -> Result<ObjectId, Refusal> {
+        if !is_plain(text) {
+            return Err(Refusal::NotSupported);
+        }
+        let Some(id) = from else {
+            let tips = self.all_tips()?;
+            return self.searched_from(&tips, text, negated);
+        };
+        match self.commit(id)? {
+            Some(commit) => self.searched_from(&[commit], text, negated),
+            None => Err(Refusal::Unknown),
+        }
+    }
+}
