@@ -6,10 +6,13 @@
  * it. Each has a proved contract; docs/PROVED.md says what it promises.
  *
  * RESULTS
+ *   Most functions return a gix_code:
  *   GIX_OK            The question is answered.
  *   GIX_NONE          Answered: there is no such thing, or the answer is no.
  *   a negative code   The call failed; see the enum below.
  *   GIX_FAULT + n     The revision has fault n, 1 to 27 (docs/LINES.md).
+ *   gix_strerror says the same in words. GIX_OK is 0: to use an answer in an
+ *   `if`, call gix_history_reaches, which returns 1 for yes and 0 for no.
  *
  *   After any code other than GIX_OK, output parameters are unchanged. There
  *   are two exceptions: a fault n is described in *fault, and with GIX_NONE
@@ -18,8 +21,8 @@
  *   allocates memory can return GIX_OUT_OF_MEMORY; the call can be repeated.
  *
  * POINTERS AND BUFFERS
- *   No pointer may be NULL. For an empty array pass any valid address and the
- *   length 0. Only gix_history_free accepts NULL.
+ *   No pointer may be NULL, but that of an array with the length 0, and that of
+ *   gix_history_free.
  *   An output must not overlap an input or another output. A bool must be 0 or
  *   1. The library copies what it keeps, and never returns a pointer into a
  *   history.
@@ -69,7 +72,20 @@
 extern "C" {
 #endif
 
-enum {
+/* The version of this header, as a text and as a number. */
+#define GIX_VERSION "1.0.0"
+#define GIX_VERSION_NUMBER 10000
+
+/* A function whose result must not be ignored. */
+#if defined(__GNUC__) || defined(__clang__)
+#define GIX_MUST_USE __attribute__((warn_unused_result))
+#else
+#define GIX_MUST_USE
+#endif
+
+/* What functions return. Their type is int32_t, whatever the compiler makes of
+ * an enum. */
+typedef enum gix_code {
     GIX_OK = 0,             /* answered */
     GIX_NONE = 1,           /* answered: no such thing, or no */
     GIX_OUT_OF_MEMORY = -1, /* an allocation failed */
@@ -79,8 +95,100 @@ enum {
     GIX_NO_KIND = -6,       /* the kind of a gix_span is not one of the six */
     GIX_NO_GRAPH = -7,      /* not a commit-graph file that can be opened */
     GIX_NO_LEVELS = -8,     /* levels of the file are missing or not ordered */
+    GIX_ALTERED = -9,       /* the id is not the hash of the commit's bytes */
+    GIX_MISSHAPEN = -10,    /* the bytes are not a commit that can be read */
+    GIX_NO_HOW = -11,       /* the size of a gix_how is not one that is known */
     GIX_FAULT = 100         /* 101 to 127: the revision has fault 1 to 27 */
-};
+} gix_code;
+
+/*
+ * Returns what a code means, in English: one line without a full stop. It need
+ * not be freed. A code that this header does not have is an "unknown code".
+ */
+static inline const char *gix_strerror(int32_t code) {
+    switch (code) {
+    case GIX_OK:
+        return "answered";
+    case GIX_NONE:
+        return "answered: there is none";
+    case GIX_OUT_OF_MEMORY:
+        return "out of memory";
+    case GIX_ALREADY_THERE:
+        return "the history has a commit with this id";
+    case GIX_NO_COMMIT:
+        return "the history does not have the commit";
+    case GIX_TOO_MANY:
+        return "2^32 commits or more are reachable";
+    case GIX_NO_KIND:
+        return "the kind of a set is not one of the six";
+    case GIX_NO_GRAPH:
+        return "not a commit-graph file that can be opened";
+    case GIX_NO_LEVELS:
+        return "levels of the commit-graph file are missing or not ordered";
+    case GIX_ALTERED:
+        return "the id of the commit is not the hash of its bytes";
+    case GIX_MISSHAPEN:
+        return "the bytes are not a commit that can be read";
+    case GIX_NO_HOW:
+        return "the size of the options is not known to the library";
+    case GIX_FAULT + 1:
+        return "a second operator, or an operator without a revision";
+    case GIX_FAULT + 2:
+        return "HEAD is meant, and there is no ref HEAD";
+    case GIX_FAULT + 3:
+        return "a range after '^'";
+    case GIX_FAULT + 4:
+        return "text is left over";
+    case GIX_FAULT + 5:
+        return "the text names no revision";
+    case GIX_FAULT + 6:
+        return "the text names no revision, and ends with '^!', '^@' or '^-'";
+    case GIX_FAULT + 7:
+        return "':' alone";
+    case GIX_FAULT + 8:
+        return "':/' alone";
+    case GIX_FAULT + 9:
+        return "'/!' is followed neither by '-' nor by '!'";
+    case GIX_FAULT + 10:
+        return "a commit by its message is not supported";
+    case GIX_FAULT + 11:
+        return "an entry of the index is not supported";
+    case GIX_FAULT + 12:
+        return "no ref or commit has this name, or several commits have it";
+    case GIX_FAULT + 13:
+        return "'@' after a name, without '{'";
+    case GIX_FAULT + 14:
+        return "a brace is never closed";
+    case GIX_FAULT + 15:
+        return "a minus sign before zeros";
+    case GIX_FAULT + 16:
+        return "a negative number in braces after a name";
+    case GIX_FAULT + 17:
+        return "an entry of a reflog after an abbreviated id";
+    case GIX_FAULT + 18:
+        return "an upstream after an abbreviated id";
+    case GIX_FAULT + 19:
+        return "the text in the braces is not a date";
+    case GIX_FAULT + 20:
+        return "reflogs, earlier branches and upstreams are not supported";
+    case GIX_FAULT + 21:
+        return "'~' at the start";
+    case GIX_FAULT + 22:
+        return "a sign in the wrong place";
+    case GIX_FAULT + 23:
+        return "not a number, or too large a number";
+    case GIX_FAULT + 24:
+        return "a step leads to no parent, or starts at no commit";
+    case GIX_FAULT + 25:
+        return "the commit is not what '^{..}' asks for";
+    case GIX_FAULT + 26:
+        return "an unknown word in '^{..}'";
+    case GIX_FAULT + 27:
+        return "what '^-' repeats was refused";
+    default:
+        return "unknown code";
+    }
+}
 
 /* The 20 bytes of a SHA-1 id. */
 typedef struct {
@@ -89,6 +197,29 @@ typedef struct {
 
 /* Commits, ref names for revisions, and what earlier queries have cached. */
 typedef struct gix_history gix_history;
+
+/*
+ * Returns the version of the library that the program runs with: 10000 times
+ * its first number, 100 times its second, and its third. That of this header is
+ * GIX_VERSION_NUMBER.
+ */
+GIX_MUST_USE
+uint32_t gix_version(void);
+
+/*
+ * Reads an id from hex digits, in upper or lower case.
+ *
+ * Returns whether `hex` has 40 bytes and each is a hex digit. If not, *out is
+ * unchanged.
+ */
+GIX_MUST_USE
+bool gix_id_read(gix_id *out, const char *hex, size_t hex_len);
+
+/*
+ * Writes the 40 hex digits of an id, in lower case, and a terminating zero.
+ * `out` has 41 bytes.
+ */
+void gix_id_write(char *out, const gix_id *id);
 
 /*
  * Makes a history without commits.
@@ -103,6 +234,7 @@ typedef struct gix_history gix_history;
  *   GIX_OK             *out is the new history.
  *   GIX_OUT_OF_MEMORY
  */
+GIX_MUST_USE
 int32_t gix_history_new(uint64_t seed, gix_history **out);
 
 /*
@@ -124,6 +256,7 @@ int32_t gix_history_new(uint64_t seed, gix_history **out);
  *                      a level that is not greater than its parents'.
  *   GIX_OUT_OF_MEMORY
  */
+GIX_MUST_USE
 int32_t gix_history_open(const uint8_t *bytes, size_t bytes_len, uint64_t seed,
                          gix_history **out);
 
@@ -149,10 +282,80 @@ void gix_history_free(gix_history *history);
  *   GIX_OUT_OF_MEMORY  The commit was not added. An abbreviated id in a
  *                      revision may resolve to `id` all the same.
  */
+GIX_MUST_USE
 int32_t gix_history_insert(gix_history *history, const gix_id *id,
                            const gix_id *parents, size_t parents_len,
                            int64_t time, bool has_generation,
                            uint32_t generation);
+
+/*
+ * Adds the commit with these bytes to the history, after a check of its id.
+ *
+ * `content` is the commit as git's object database has it, inflated and without
+ * the header `commit SIZE`: what `git cat-file commit` prints, and what
+ * git_odb_object_data of libgit2 returns. The commit has no generation number.
+ * Otherwise this is like gix_history_insert.
+ *
+ * Returns:
+ *   GIX_OK             `id` is the hash of the content. The commit has the
+ *                      parents and the date that git reads from it.
+ *   GIX_ALTERED        `id` is not the hash of the content.
+ *   GIX_MISSHAPEN      The content does not begin with the line of a tree, a
+ *                      line of a parent is malformed, or the date is 2^63
+ *                      seconds or more.
+ *   GIX_ALREADY_THERE  The history has a commit with this id, and keeps it.
+ *   GIX_OUT_OF_MEMORY  As for gix_history_insert.
+ */
+GIX_MUST_USE
+int32_t gix_history_insert_object(gix_history *history, const gix_id *id,
+                                  const uint8_t *content, size_t content_len);
+
+/*
+ * Returns the number of commits that the history has.
+ *
+ * After an insertion that returned GIX_OUT_OF_MEMORY, the number may be too
+ * great by one until a commit with this id is added.
+ */
+GIX_MUST_USE
+size_t gix_history_len(gix_history *history);
+
+/* A commit, but for the parents themselves. */
+typedef struct {
+    /* The commit date in seconds since 1970. */
+    int64_t time;
+    /* The generation number, if has_generation is true. */
+    uint32_t generation;
+    bool has_generation;
+    /* How many parents the commit has. */
+    size_t parents_len;
+} gix_commit;
+
+/*
+ * Looks up a commit of the history.
+ *
+ * The parents are in git's order. As many of them as there is room for are
+ * written to `parents`, and out->parents_len is the number of all.
+ *
+ * Returns:
+ *   GIX_OK
+ *   GIX_NONE           The history does not have the commit.
+ *   GIX_OUT_OF_MEMORY
+ */
+GIX_MUST_USE
+int32_t gix_history_commit(gix_history *history, const gix_id *id,
+                           gix_commit *out, gix_id *parents,
+                           size_t parents_len);
+
+/*
+ * Returns how many hex digits of `id` are enough, like `git rev-parse --short`.
+ *
+ * It is the least number, from `least` on and from 4 to 40, such that no other
+ * id of a commit of the history begins with these digits. git may print more of
+ * them, because it looks at all objects.
+ */
+GIX_MUST_USE
+size_t gix_history_abbreviate(gix_history *history, const gix_id *id,
+                              size_t least);
 
 /*
  * Finds the merge bases of `first` and a hypothetical merge of `others`, like
@@ -170,6 +373,7 @@ int32_t gix_history_insert(gix_history *history, const gix_id *id,
  *   GIX_NONE           There is no merge base. *count is 0.
  *   GIX_OUT_OF_MEMORY
  */
+GIX_MUST_USE
 int32_t gix_history_merge_bases(gix_history *history, const gix_id *first,
                                 const gix_id *others, size_t others_len,
                                 gix_id *out, size_t out_len, size_t *count);
@@ -190,6 +394,7 @@ int32_t gix_history_merge_bases(gix_history *history, const gix_id *first,
  *   GIX_NONE           There is no common ancestor.
  *   GIX_OUT_OF_MEMORY
  */
+GIX_MUST_USE
 int32_t gix_history_octopus(gix_history *history, const gix_id *first,
                             const gix_id *others, size_t others_len,
                             gix_id *out);
@@ -209,8 +414,24 @@ int32_t gix_history_octopus(gix_history *history, const gix_id *first,
  *   GIX_NONE           It is not.
  *   GIX_OUT_OF_MEMORY
  */
+GIX_MUST_USE
 int32_t gix_history_is_ancestor(gix_history *history, const gix_id *ancestor,
                                 const gix_id *of);
+
+/*
+ * Tests whether `from` reaches `ancestor`, as gix_history_is_ancestor does.
+ *
+ * Premises: ordered generations, among the commits that `from` reaches. Without
+ * it 1 is still right, but 0 may be wrong. Cycles do not matter.
+ *
+ * Returns:
+ *   1                  It does.
+ *   0                  It does not.
+ *   GIX_OUT_OF_MEMORY
+ */
+GIX_MUST_USE
+int32_t gix_history_reaches(gix_history *history, const gix_id *from,
+                            const gix_id *ancestor);
 
 /*
  * Finds those of `ids` that no other one of them reaches, like
@@ -225,6 +446,7 @@ int32_t gix_history_is_ancestor(gix_history *history, const gix_id *ancestor,
  *   GIX_OK
  *   GIX_OUT_OF_MEMORY
  */
+GIX_MUST_USE
 int32_t gix_history_independent(gix_history *history, const gix_id *ids,
                                 size_t ids_len, gix_id *out, size_t out_len,
                                 size_t *count);
@@ -243,6 +465,7 @@ int32_t gix_history_independent(gix_history *history, const gix_id *ids,
  *   GIX_OK
  *   GIX_OUT_OF_MEMORY
  */
+GIX_MUST_USE
 int32_t gix_history_ahead_behind(gix_history *history, const gix_id *ours,
                                  const gix_id *theirs, size_t *ahead,
                                  size_t *behind);
@@ -258,6 +481,7 @@ int32_t gix_history_ahead_behind(gix_history *history, const gix_id *ours,
  *   GIX_OK
  *   GIX_OUT_OF_MEMORY
  */
+GIX_MUST_USE
 int32_t gix_history_newest_first(gix_history *history, const gix_id *ids,
                                  size_t ids_len, gix_id *out, size_t out_len,
                                  size_t *count);
@@ -274,6 +498,7 @@ int32_t gix_history_newest_first(gix_history *history, const gix_id *ids,
  *   GIX_OK
  *   GIX_OUT_OF_MEMORY
  */
+GIX_MUST_USE
 int32_t gix_history_missing(gix_history *history, const gix_id *after,
                             size_t after_len, gix_id *out, size_t out_len,
                             size_t *count);
@@ -285,27 +510,38 @@ typedef struct {
     size_t text_len;
 } gix_name;
 
-/* Options of gix_history_describe. */
+/* Options of gix_history_describe. Begin with `gix_how how = GIX_HOW_INIT;` and
+ * change what should differ. */
 typedef struct {
+    /* The size of this struct, by which a later library knows which options the
+     * program has. */
+    size_t size;
     /* How many names are considered; more than 32 count as 32. git's default is
      * 10. With 0 only the commit's own name is used. */
     size_t max_candidates;
-    /* How many hex digits of the id are printed; more than 40 count as 40. */
+    /* How many hex digits of the id are printed; more than 40 count as 40. With
+     * 0 the name alone is printed, as by `git describe --abbrev=0`. */
     size_t hex_len;
     /* Follow only first parents. */
     bool first_parent;
     /* Print the digits alone if no name is found. */
     bool fallback_to_id;
-    /* Print depth and digits also if the commit itself has a name. */
+    /* Print depth and digits also if the commit itself has a name. Ignored if
+     * hex_len is 0. */
     bool long_form;
 } gix_how;
+
+#define GIX_HOW_SIZE sizeof(gix_how)
+/* git's defaults: 10 names, 7 digits, and no other option. */
+#define GIX_HOW_INIT {GIX_HOW_SIZE, 10, 7, false, false, false}
 
 /*
  * Describes `commit` by its own name or by that of an ancestor, like
  * `git describe`.
  *
  * The text is NAME-DEPTH-gHEX. It is NAME at depth 0, unless how->long_form is
- * set. It is HEX if no name is found and how->fallback_to_id is set; *depth is
+ * set, and if how->hex_len is 0. It is HEX if no name is found and
+ * how->fallback_to_id is set, all 40 digits if how->hex_len is 0; *depth is
  * then 0. Names are copied byte for byte. If `names` has several names for one
  * commit, the first one counts.
  *
@@ -324,9 +560,11 @@ typedef struct {
  *   GIX_OK
  *   GIX_NONE           No name is found, and how->fallback_to_id is not set.
  *   GIX_NO_COMMIT      The history does not have `commit`.
+ *   GIX_NO_HOW         how->size is not sizeof(gix_how).
  *   GIX_TOO_MANY       `commit` reaches 2^32 commits or more.
  *   GIX_OUT_OF_MEMORY
  */
+GIX_MUST_USE
 int32_t gix_history_describe(gix_history *history, const gix_id *commit,
                              const gix_name *names, size_t names_len,
                              const gix_how *how, uint8_t *out, size_t out_len,
@@ -374,8 +612,20 @@ typedef struct {
  *   GIX_OK
  *   GIX_OUT_OF_MEMORY  The names are unchanged.
  */
+GIX_MUST_USE
 int32_t gix_history_name(gix_history *history, const uint8_t *name,
                          size_t name_len, const gix_id *id);
+
+/*
+ * Takes a ref name back. Revisions find it no longer.
+ *
+ * Returns:
+ *   GIX_OK
+ *   GIX_NONE           There was no such name.
+ */
+GIX_MUST_USE
+int32_t gix_history_unname(gix_history *history, const uint8_t *name,
+                           size_t name_len);
 
 /*
  * Resolves a revision such as `main~2..topic` to a set of commits. See
@@ -393,6 +643,7 @@ int32_t gix_history_name(gix_history *history, const uint8_t *name,
  *                      *out is unchanged.
  *   GIX_OUT_OF_MEMORY
  */
+GIX_MUST_USE
 int32_t gix_history_resolve(gix_history *history, const uint8_t *text,
                             size_t text_len, int64_t seconds, int32_t offset,
                             gix_span *out, gix_fault *fault);
@@ -411,6 +662,7 @@ int32_t gix_history_resolve(gix_history *history, const uint8_t *text,
  *                      *out is unchanged.
  *   GIX_OUT_OF_MEMORY
  */
+GIX_MUST_USE
 int32_t gix_history_rev_parse(gix_history *history, const uint8_t *text,
                               size_t text_len, int64_t seconds, int32_t offset,
                               gix_span *out, gix_fault *fault);
@@ -425,6 +677,7 @@ int32_t gix_history_rev_parse(gix_history *history, const uint8_t *text,
  *   GIX_NO_KIND        span->kind is not one of the six kinds.
  *   GIX_OUT_OF_MEMORY
  */
+GIX_MUST_USE
 int32_t gix_history_list(gix_history *history, const gix_span *span,
                          const gix_id *after, size_t after_len, gix_id *out,
                          size_t out_len, size_t *count);
@@ -437,6 +690,7 @@ int32_t gix_history_list(gix_history *history, const gix_span *span,
  *   GIX_NO_KIND        span->kind is not one of the six kinds.
  *   GIX_OUT_OF_MEMORY
  */
+GIX_MUST_USE
 int32_t gix_history_count(gix_history *history, const gix_span *span,
                           size_t *count);
 

@@ -12,36 +12,52 @@
 #include <stdlib.h>
 #include <string.h>
 
-/* Reads the 40 hex digits of an id. Returns 0 if there are none. */
-static int read_id(const char *text, gix_id *id) {
-    unsigned byte;
-    for (int i = 0; i < 20; i++) {
-        if (sscanf(text + 2 * i, "%2x", &byte) != 1) return 0;
-        id->bytes[i] = (uint8_t)byte;
-    }
-    return 1;
+enum { MOST = 64 };
+
+static void fail(const char *text, const char *why) {
+    fprintf(stderr, "bases: '%s': %s\n", text, why);
+    exit(2);
+}
+
+static gix_id id_of(const char *digits) {
+    gix_id id;
+    if (!gix_id_read(&id, digits, strlen(digits))) fail(digits, "not 40 hex digits");
+    return id;
 }
 
 /* Adds the commit of a line: its id, its commit date and its parents. */
-static int put(gix_history *history, char *line) {
-    gix_id id, parents[64];
+static void put(gix_history *history, char *line) {
+    gix_id parents[MOST];
     size_t count = 0;
-    char *rest;
-    if (!read_id(line, &id)) return GIX_NO_COMMIT;
-    int64_t time = strtoll(line + 40, &rest, 10);
-    for (char *word = strtok(rest, " \n"); word && count < 64; word = strtok(NULL, " \n")) count += (size_t)read_id(word, &parents[count]);
-    return gix_history_insert(history, &id, parents, count, time, false, 0);
+    const char *id = strtok(line, " \n"), *time = strtok(NULL, " \n");
+    if (!time) fail(id ? id : "", "not a line with an id and a date");
+    gix_id commit = id_of(id);
+    for (char *word; (word = strtok(NULL, " \n"));) {
+        if (count == MOST) fail(id, "too many parents");
+        parents[count++] = id_of(word);
+    }
+    int32_t code = gix_history_insert(history, &commit, parents, count, strtoll(time, NULL, 10), false, 0);
+    if (code != GIX_OK) fail(id, gix_strerror(code));
 }
 
 int main(int argc, char **argv) {
     gix_history *history;
-    gix_id ids[2], bases[64];
+    gix_id bases[MOST];
     size_t count = 0;
-    char line[4096];
-    if (argc != 3 || !read_id(argv[1], &ids[0]) || !read_id(argv[2], &ids[1]) || gix_history_new(0, &history)) return 2;
-    while (fgets(line, sizeof line, stdin)) if (put(history, line)) return 2;
-    int32_t code = gix_history_merge_bases(history, &ids[0], &ids[1], 1, bases, 64, &count);
-    for (size_t i = 0; i < count && i < 64; i++, putchar('\n')) for (int j = 0; j < 20; j++) printf("%02x", bases[i].bytes[j]);
+    char line[4096], digits[41];
+    if (argc != 3) {
+        fputs("usage: bases COMMIT COMMIT <HISTORY\n", stderr);
+        return 2;
+    }
+    gix_id first = id_of(argv[1]), second = id_of(argv[2]);
+    if (gix_history_new(0, &history) != GIX_OK) fail("history", gix_strerror(GIX_OUT_OF_MEMORY));
+    while (fgets(line, sizeof line, stdin)) put(history, line);
+    int32_t code = gix_history_merge_bases(history, &first, &second, 1, bases, MOST, &count);
+    if (code < 0) fail(argv[1], gix_strerror(code));
+    for (size_t i = 0; i < count && i < MOST; i++) {
+        gix_id_write(digits, &bases[i]);
+        puts(digits);
+    }
     gix_history_free(history);
     return code;
 }

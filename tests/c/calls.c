@@ -142,7 +142,7 @@ static void descriptions(gix_history *history) {
     names[0].text_len = 4;
     names[1].text = text_of("second");
     names[1].text_len = 6;
-    gix_how how = {10, 7, false, false, false};
+    gix_how how = GIX_HOW_INIT;
     uint8_t text[32];
     size_t len = 99;
     uint32_t depth = 99;
@@ -161,6 +161,16 @@ static void descriptions(gix_history *history) {
     how.long_form = true;
     EXPECT(gix_history_describe(history, &names[0].id, names, 1, &how, text, sizeof text, &len, &depth) == GIX_OK);
     EXPECT(len == 15 && memcmp(text, "v1.0-0-g1111111", 15) == 0);
+
+    /* Without digits: the name alone, or the whole id. */
+    how.hex_len = 0;
+    EXPECT(gix_history_describe(history, &four, names, 2, &how, text, sizeof text, &len, &depth) == GIX_OK);
+    EXPECT(len == 4 && memcmp(text, "v1.0", 4) == 0 && depth == 3);
+    EXPECT(gix_history_describe(history, &six, NULL, 0, &how, text, sizeof text, &len, &depth) == GIX_OK);
+    EXPECT(len == 40 && memcmp(text, "6666666666", 10) == 0 && depth == 0);
+    how.size++;
+    len = 99;
+    EXPECT(gix_history_describe(history, &four, names, 2, &how, text, sizeof text, &len, &depth) == GIX_NO_HOW && len == 99);
 }
 
 static void texts(gix_history *history) {
@@ -200,6 +210,138 @@ static void texts(gix_history *history) {
     EXPECT(gix_history_list(history, &span, out, 0, out, 4, &count) == GIX_NO_KIND && count == 99);
 }
 
+static void commits(gix_history *history) {
+    gix_id one = id_of(0x11), four = id_of(0x44), lost = id_of(0x99), parents[3];
+    gix_commit commit = {9, 9, true, 9};
+    EXPECT(gix_history_len(history) == 6);
+    parents[1] = parents[2] = id_of(0xEE);
+    EXPECT(gix_history_commit(history, &lost, &commit, parents, 3) == GIX_NONE && commit.time == 9);
+    EXPECT(gix_history_commit(history, &four, &commit, parents, 1) == GIX_OK);
+    EXPECT(commit.time == 4 && commit.parents_len == 2 && is_id(&parents[0], 0x22) && is_id(&parents[1], 0xEE));
+    EXPECT(gix_history_commit(history, &four, &commit, parents, 3) == GIX_OK && commit.parents_len == 2);
+    EXPECT(is_id(&parents[0], 0x22) && is_id(&parents[1], 0x33) && is_id(&parents[2], 0xEE));
+    EXPECT(gix_history_commit(history, &one, &commit, NULL, 0) == GIX_OK && commit.time == 1 && commit.parents_len == 0);
+    EXPECT(gix_history_reaches(history, &four, &one) == 1);
+    EXPECT(gix_history_reaches(history, &one, &four) == 0);
+    EXPECT(gix_history_reaches(history, &lost, &lost) == 0);
+}
+
+/* A commit by its bytes, as git has them. */
+static void objects(void) {
+    static const char content[] = "tree 4b825dc642cb6eb9a060e54bf8d69288fbee4904\n"
+                                  "parent 1111111111111111111111111111111111111111\n"
+                                  "author a <a@b> 5 +0000\ncommitter a <a@b> 7 +0000\n\nm\n";
+    gix_history *history = NULL;
+    gix_id id, other, parent;
+    gix_commit commit;
+    size_t count = 99, len = sizeof content - 1;
+    EXPECT(gix_id_read(&id, "163ba4c0c966e03dfae90637407a44f5437f71f8", 40));
+    EXPECT(gix_history_new(0, &history) == GIX_OK);
+    EXPECT(gix_history_insert_object(history, &id, text_of(content), len - 1) == GIX_ALTERED);
+    EXPECT(gix_history_insert_object(history, &id, NULL, 0) == GIX_ALTERED);
+    EXPECT(gix_history_len(history) == 0);
+    EXPECT(gix_history_insert_object(history, &id, text_of(content), len) == GIX_OK);
+    EXPECT(gix_history_insert_object(history, &id, text_of(content), len) == GIX_ALREADY_THERE);
+    EXPECT(gix_history_len(history) == 1);
+    EXPECT(gix_history_commit(history, &id, &commit, &parent, 1) == GIX_OK);
+    EXPECT(commit.time == 7 && !commit.has_generation && commit.parents_len == 1 && is_id(&parent, 0x11));
+    EXPECT(gix_history_missing(history, NULL, 0, &other, 1, &count) == GIX_OK && count == 1 && is_id(&other, 0x11));
+
+    /* No more than the line of a tree, and no commit at all. */
+    EXPECT(gix_id_read(&other, "e43fc45fe9861f11199bfc430939749be99df922", 40));
+    EXPECT(gix_history_insert_object(history, &other, text_of(content), 46) == GIX_MISSHAPEN);
+    EXPECT(gix_id_read(&other, "B584DC718100df6c37020ad91e1b82d043e16312", 40));
+    EXPECT(gix_history_insert_object(history, &other, text_of("no commit\n"), 10) == GIX_MISSHAPEN);
+    EXPECT(gix_history_len(history) == 1);
+    gix_history_free(history);
+}
+
+static void digits(void) {
+    gix_id id = id_of(0xEE);
+    char text[42];
+    memset(text, '.', sizeof text);
+    EXPECT(!gix_id_read(&id, "163ba4c0c966e03dfae90637407a44f5437f71f8", 39) && is_id(&id, 0xEE));
+    EXPECT(!gix_id_read(&id, "163ba4c0c966e03dfae90637407a44f5437f71g8", 40) && is_id(&id, 0xEE));
+    EXPECT(!gix_id_read(&id, NULL, 0));
+    EXPECT(gix_id_read(&id, "0123456789abcdefABCDEF7aC07a44f5437f71f8", 40));
+    EXPECT(id.bytes[0] == 1 && id.bytes[7] == 0xEF && id.bytes[8] == 0xAB && id.bytes[19] == 0xF8);
+    gix_id_write(text, &id);
+    EXPECT(memcmp(text, "0123456789abcdefabcdef7ac07a44f5437f71f8\0.", 42) == 0);
+}
+
+static void codes(void) {
+    EXPECT(gix_version() == GIX_VERSION_NUMBER);
+    EXPECT(strcmp(gix_strerror(GIX_NO_COMMIT), "the history does not have the commit") == 0);
+    EXPECT(strcmp(gix_strerror(GIX_FAULT + 14), "a brace is never closed") == 0);
+    for (int32_t code = -20; code < 130; code++) {
+        int known = code == -1 || code == -2 || (code >= -11 && code <= -4) || code == 0 || code == 1 || (code > 100 && code < 128);
+        EXPECT((strcmp(gix_strerror(code), "unknown code") != 0) == known);
+    }
+}
+
+/* Ids that share digits. */
+static void abbreviations(void) {
+    gix_history *history = NULL;
+    gix_id one = id_of(0x11), near = id_of(0x11), far = id_of(0x11), other = id_of(0x22);
+    near.bytes[19] = 0x12;
+    far.bytes[3] = 0x1F;
+    EXPECT(gix_history_new(0, &history) == GIX_OK);
+    EXPECT(gix_history_abbreviate(history, &one, 0) == 4);
+    EXPECT(gix_history_insert(history, &one, NULL, 0, 1, false, 0) == GIX_OK);
+    EXPECT(gix_history_insert(history, &other, NULL, 0, 1, false, 0) == GIX_OK);
+    EXPECT(gix_history_abbreviate(history, &one, 0) == 4 && gix_history_abbreviate(history, &one, 7) == 7);
+    EXPECT(gix_history_abbreviate(history, &one, 40) == 40 && gix_history_abbreviate(history, &one, SIZE_MAX) == 40);
+    EXPECT(gix_history_insert(history, &far, NULL, 0, 1, false, 0) == GIX_OK);
+    EXPECT(gix_history_abbreviate(history, &one, 5) == 8 && gix_history_abbreviate(history, &far, 5) == 8);
+    EXPECT(gix_history_abbreviate(history, &near, 5) == 40);
+    EXPECT(gix_history_insert(history, &near, NULL, 0, 1, false, 0) == GIX_OK);
+    EXPECT(gix_history_abbreviate(history, &one, 5) == 40 && gix_history_abbreviate(history, &far, 5) == 8);
+    EXPECT(gix_history_abbreviate(history, &other, 5) == 5);
+    gix_history_free(history);
+}
+
+static void names(gix_history *history) {
+    gix_id four = id_of(0x44);
+    gix_span span;
+    gix_fault fault;
+    EXPECT(gix_history_unname(history, text_of("topic"), 5) == GIX_NONE);
+    EXPECT(gix_history_name(history, text_of("topic"), 5, &four) == GIX_OK);
+    EXPECT(gix_history_name(history, text_of("topics"), 6, &four) == GIX_OK);
+    EXPECT(gix_history_resolve(history, text_of("topic"), 5, 0, 0, &span, &fault) == GIX_OK);
+    EXPECT(gix_history_unname(history, text_of("topic"), 5) == GIX_OK);
+    EXPECT(gix_history_unname(history, text_of("topic"), 5) == GIX_NONE);
+    EXPECT(gix_history_resolve(history, text_of("topic"), 5, 0, 0, &span, &fault) == GIX_FAULT + 12);
+    EXPECT(gix_history_resolve(history, text_of("topics"), 6, 0, 0, &span, &fault) == GIX_OK);
+}
+
+/* NULL with the length 0, in the place of each array. */
+static void empty(void) {
+    gix_history *history = NULL;
+    gix_id one = id_of(0x11), out;
+    gix_how how = GIX_HOW_INIT;
+    gix_span span = {GIX_INCLUDE, one, one};
+    gix_fault fault;
+    size_t count = 99;
+    uint32_t depth = 99;
+    EXPECT(gix_history_open(NULL, 0, 0, &history) == GIX_NO_GRAPH);
+    EXPECT(gix_history_new(0, &history) == GIX_OK);
+    EXPECT(gix_history_insert(history, &one, NULL, 0, 1, false, 0) == GIX_OK);
+    EXPECT(gix_history_merge_bases(history, &one, NULL, 0, NULL, 0, &count) == GIX_OK && count == 1);
+    EXPECT(gix_history_octopus(history, &one, NULL, 0, &out) == GIX_OK && is_id(&out, 0x11));
+    EXPECT(gix_history_independent(history, NULL, 0, NULL, 0, &count) == GIX_OK && count == 0);
+    EXPECT(gix_history_newest_first(history, NULL, 0, NULL, 0, &count) == GIX_OK && count == 0);
+    EXPECT(gix_history_missing(history, NULL, 0, NULL, 0, &count) == GIX_OK && count == 0);
+    EXPECT(gix_history_describe(history, &one, NULL, 0, &how, NULL, 0, &count, &depth) == GIX_NONE);
+    how.fallback_to_id = true;
+    EXPECT(gix_history_describe(history, &one, NULL, 0, &how, NULL, 0, &count, &depth) == GIX_OK && count == 7);
+    EXPECT(gix_history_name(history, NULL, 0, &one) == GIX_OK);
+    EXPECT(gix_history_unname(history, NULL, 0) == GIX_OK);
+    EXPECT(gix_history_resolve(history, NULL, 0, 0, 0, &span, &fault) == GIX_FAULT + 5);
+    EXPECT(gix_history_rev_parse(history, NULL, 0, 0, 0, &span, &fault) == GIX_FAULT + 5);
+    EXPECT(gix_history_list(history, &span, NULL, 0, NULL, 0, &count) == GIX_OK && count == 0);
+    gix_history_free(history);
+}
+
 /* A history over a file and newer commits, and bytes that are none. */
 static void opened(void) {
     uint8_t file[FILE_OF_FIVE];
@@ -226,6 +368,8 @@ static void opened(void) {
     independent(history);
     counts(history);
     newest(history);
+    commits(history);
+    names(history);
     late_parent(history);
     descriptions(history);
     texts(history);
@@ -245,11 +389,18 @@ int main(void) {
     independent(history);
     counts(history);
     newest(history);
+    commits(history);
+    names(history);
     rounds();
     late_parent(history);
     descriptions(history);
     texts(history);
     opened();
+    objects();
+    digits();
+    abbreviations();
+    codes();
+    empty();
     gix_history_free(history);
     gix_history_free(NULL);
     puts(failed ? "failed" : "passed");

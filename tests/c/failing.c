@@ -56,15 +56,22 @@ void __wrap_free(void *block) {
         }                                                                     \
     } while (0)
 
+static const char content[] = "tree 4b825dc642cb6eb9a060e54bf8d69288fbee4904\n"
+                              "parent 1111111111111111111111111111111111111111\n"
+                              "author a <a@b> 5 +0000\ncommitter a <a@b> 7 +0000\n\nm\n";
+
 static void calls(gix_history *history, long turn) {
     gix_id one = id_of(0x11), four = id_of(0x44), five = id_of(0x55), out[4];
     gix_name name = {one, text_of("v1"), 2};
-    gix_how how = {10, 7, false, false, false};
+    gix_how how = GIX_HOW_INIT;
     gix_span span;
     gix_fault fault;
+    gix_commit commit;
+    gix_id object;
     uint8_t text[32];
     size_t count = 0, len = 0;
     uint32_t depth = 0;
+    EXPECT(gix_id_read(&object, "163ba4c0c966e03dfae90637407a44f5437f71f8", 40));
     UNTIL(GIX_OK, put(history, 0x11, 0, 0, 1));
     UNTIL(GIX_OK, put(history, 0x22, 0x11, 0, 2));
     UNTIL(GIX_OK, put(history, 0x33, 0x11, 0, 2));
@@ -86,6 +93,11 @@ static void calls(gix_history *history, long turn) {
     EXPECT(count == 2 && is_id(&out[0], 0x77) && is_id(&out[1], 0x99));
     UNTIL(GIX_OK, gix_history_describe(history, &four, &name, 1, &how, text, sizeof text, &len, &depth));
     EXPECT(len == 13 && memcmp(text, "v1-3-g4444444", 13) == 0);
+    UNTIL(1, gix_history_reaches(history, &five, &one));
+    UNTIL(GIX_OK, gix_history_commit(history, &four, &commit, out, 4));
+    EXPECT(commit.time == 4 && commit.parents_len == 2 && is_id(&out[0], 0x22) && is_id(&out[1], 0x33));
+    UNTIL(GIX_OK, gix_history_insert_object(history, &object, text_of(content), sizeof content - 1));
+    EXPECT(gix_history_len(history) == 7);
     UNTIL(GIX_OK, gix_history_name(history, text_of("main"), 4, &four));
     UNTIL(GIX_OK, gix_history_resolve(history, text_of("5555~1..main^{commit}"), 21, 0, 0, &span, &fault));
     UNTIL(GIX_OK, gix_history_rev_parse(history, text_of("5555^..main^{}"), 14, 0, 0, &span, &fault));

@@ -68,7 +68,7 @@ int main(void) {
     ask(history, COMMITS, one, one, "merge bases, after that commit");
 
     gix_name name = {numbered(COMMITS - 9), text_of("v1"), 2};
-    gix_how how = {10, 7, false, false, false};
+    gix_how how = GIX_HOW_INIT;
     uint8_t text[32];
     size_t len = 0;
     uint32_t depth = 0;

@@ -50,6 +50,12 @@ def bytes_of(path: str) -> bytes:
         return file.read()
 
 
+def python_package() -> list[File]:
+    """Returns the modules for Python."""
+    files = [it for it in files_below("bindings/python") if it.path.startswith("gix_revision") and "__pycache__" not in it.path]
+    return [it for it in files if it.path.endswith((".py", "py.typed"))]
+
+
 def folders_of(files: list[File]) -> list[str]:
     """Returns the folders of some files, each after those above it."""
     found = set()

@@ -2,7 +2,7 @@
 
 - gix-revision-proved has the programs, their manual pages and the completion.
 - libgix-revision1 has the shared library; the number is that of its soname.
-- libgix-revision-dev has the header, the archive, the file for pkg-config, and documents.
+- libgix-revision-dev has the header, the archive, the files for pkg-config and CMake, and documents.
 
 No package has a script that runs when it is installed.
 """
@@ -71,11 +71,18 @@ def programs(prefix: str) -> Package:
     return Package("gix-revision-proved", "vcs", depends, "merge bases, descriptions and revisions of git, proved", text, files)
 
 
+def exported() -> list[tuple[str, str]]:
+    """Returns the symbols of the shared library, and the first two numbers of the version that had each first."""
+    found = []
+    for node, since, names in re.findall(r"^(GIX_REVISION_([\d.]+)) \{(.*?)^\}", bytes_of("tools/library.map").decode(), re.M | re.S):
+        found += [(f"{it}@{node}", since) for it in [node, *re.findall(r"\bgix_\w+(?=;)", names)]]
+    return sorted(found)
+
+
 def library(prefix: str) -> Package:
     path = f"{prefix}/lib/{SONAME}"
-    exported = sorted(set(re.findall(r"\bgix_history_\w+(?=\()", bytes_of("include/gix_revision.h").decode())))
     symbols = f"{SONAME} {LIBRARY} #MINVER#\n* Build-Depends-Package: libgix-revision-dev\n"
-    symbols += "".join(f" {it}@Base {VERSION}\n" for it in exported)
+    symbols += "".join(f" {it} {since}.0\n" for it, since in exported())
     control = [
         File("shlibs", f"libgix_revision {MAJOR} {LIBRARY} (>= {VERSION})\n".encode()),
         File("symbols", symbols.encode()),
@@ -93,10 +100,11 @@ def development(prefix: str) -> Package:
         File(f"{FOLDER}/libgix_revision.a", bytes_of(f"{prefix}/lib/libgix_revision.a")),
         File(f"{FOLDER}/libgix_revision.so", SONAME.encode(), is_link=True),
         File(f"{FOLDER}/pkgconfig/gix_revision.pc", described),
+        *(it.at(f"{FOLDER}/{it.path[4:]}") for it in files_below(prefix) if it.path.startswith("lib/cmake/")),
         *documents("usr/share/doc/libgix-revision-dev"),
     ]
     summary, depends = "proved answers about git histories: files for development", f"{LIBRARY} (= {VERSION})"
-    text = " The package has the C header, the static library, the file for pkg-config and\n the documents.\n"
+    text = " The package has the C header, the static library, the files for pkg-config\n and CMake, and the documents.\n"
     return Package("libgix-revision-dev", "libdevel", depends, summary, text, files, [], "same")
 
 

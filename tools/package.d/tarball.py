@@ -8,7 +8,7 @@ from __future__ import annotations
 import os
 import sys
 
-from archives import File, bytes_of, files_below, tar_of, write, xz_of
+from archives import File, files_below, python_package, tar_of, write, xz_of
 from documents import documents
 
 TOP = f"gix-revision-proved-{os.environ['VERSION']}-x86_64-linux"
@@ -23,7 +23,7 @@ def moved(it: File) -> File:
 
 def main(prefix: str, folder: str) -> None:
     files = [moved(it) for it in files_below(prefix)] + documents("share/doc/gix_revision")
-    files.append(File("lib/gix_revision.py", bytes_of("bindings/python/gix_revision.py")))
+    files += [it.at(f"lib/{it.path}") for it in python_package()]
     write(f"{folder}/{TOP}.tar.xz", xz_of(tar_of(files, TOP)))
 
 

@@ -1,4 +1,4 @@
-"""Writes the wheel, the Python module with the shared library beside it: wheel.py PREFIX FOLDER
+"""Writes the wheel, the Python package with the shared library inside: wheel.py PREFIX FOLDER
 
 It is tagged for the oldest glibc that the library runs on. It has no programs, since these need a later one.
 """
@@ -10,7 +10,7 @@ import hashlib
 import os
 import sys
 
-from archives import File, bytes_of, glibc_of, write, zip_of
+from archives import File, bytes_of, glibc_of, python_package, write, zip_of
 from documents import origin
 
 VERSION = os.environ["VERSION"]
@@ -24,11 +24,9 @@ Summary: Merge bases, commit descriptions and git revisions, each answer proved
 License: MIT OR Apache-2.0
 Platform: Linux, x86-64-v2
 Requires-Python: >=3.10
-Description-Content-Type: text/plain
+Description-Content-Type: text/markdown
 
-The module gix_revision answers questions about git histories: merge bases, descriptions of commits,
-and what revisions resolve to. Each answer comes from a call with a machine-checked proof.
-
+{bytes_of("bindings/python/README.md").decode()}
 {origin()}
 """
 
@@ -42,11 +40,7 @@ def row_of(it: File) -> str:
 def contents(prefix: str, tag: str) -> list[File]:
     info = f"{NAME}.dist-info"
     described = f"Wheel-Version: 1.0\nGenerator: gix_revision ({VERSION})\nRoot-Is-Purelib: false\nTag: {tag}\n"
-    files = [
-        File("gix_revision/__init__.py", bytes_of("bindings/python/gix_revision.py")),
-        File(f"gix_revision/{SONAME}", bytes_of(f"{prefix}/lib/{SONAME}")),
-        File("gix_revision/py.typed", b""),
-    ]
+    files = [*python_package(), File(f"gix_revision_proved/{SONAME}", bytes_of(f"{prefix}/lib/{SONAME}"))]
     for it in ("LICENSE-APACHE", "LICENSE-MIT", "THIRD-PARTY"):
         files.append(File(f"{info}/licenses/{it}", bytes_of(f"{prefix}/share/licenses/gix_revision/{it}")))
     return [*files, File(f"{info}/METADATA", METADATA.encode()), File(f"{info}/WHEEL", described.encode())]

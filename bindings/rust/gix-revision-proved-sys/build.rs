@@ -15,17 +15,14 @@ fn main() {
         return;
     }
     let said = Command::new("pkg-config")
-        .args(["--libs-only-L", "gix_revision"])
+        .args(["--variable=libdir", "gix_revision"])
         .output();
     let Some(said) = said.ok().filter(|it| it.status.success()) else {
         panic!("gix_revision not found: set GIX_REVISION_LIB_DIR, or PKG_CONFIG_PATH for pkg-config");
     };
-    for word in String::from_utf8_lossy(&said.stdout).split_whitespace() {
-        println!(
-            "cargo:rustc-link-search=native={}",
-            word.trim_start_matches("-L")
-        );
-    }
+    // A blank of the path may have a backslash before it.
+    let folder = String::from_utf8_lossy(&said.stdout).replace("\\ ", " ");
+    println!("cargo:rustc-link-search=native={}", folder.trim_end());
     println!("cargo:rustc-link-lib=gix_revision");
 }
 

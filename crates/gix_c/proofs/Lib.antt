@@ -1,6 +1,8 @@
 pub mod AsBox
 pub mod Copied
 pub mod Values
+pub mod Ended
+pub mod Fronts
 pub mod Lacking
 pub mod Named
 pub mod Parts

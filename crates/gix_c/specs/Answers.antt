@@ -24,6 +24,14 @@ ByFault (pos zero) ok fault refused = ok
 ByFault (pos (suc _)) ok fault refused = fault
 ByFault (negsuc _) ok fault refused = refused
 
+-- What holds by the code of a call that answers yes or no: so if it is 1, other if it is 0, and
+-- refused if it is below 0. No other code is returned.
+abbrev pub ByYes : ℤ → Type 0 → Type 0 → Type 0 → Type 0
+ByYes (pos zero) so other refused = other
+ByYes (pos (suc zero)) so other refused = so
+ByYes (pos (suc (suc _))) so other refused = ⊥
+ByYes (negsuc _) so other refused = refused
+
 -- The id with the given 20 bytes.
 abbrev pub id_of : List ℕ → ObjectId
 id_of bytes = record { 0 = bytes }

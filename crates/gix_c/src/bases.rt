@@ -5,7 +5,7 @@ ghost use Rattle.gix_revwalk.specs.History.{Has, IsAncestor, same_id};
 ghost use Rattle.gix_merge_base.specs.Bases.{AreBases};
 ghost use Rattle.gix_merge_base.specs.Octopus.{IsOctopusBase};
 ghost use Rattle.gix_merge_base.specs.Premises.{IsAcyclicFrom, GenerationsNeverRiseFrom};
-ghost use Rattle.gix_c.specs.Answers.{ByCode, HasBases, HasIndependent, HasOctopusBase, id_of};
+ghost use Rattle.gix_c.specs.Answers.{ByCode, ByYes, HasBases, HasIndependent, HasOctopusBase, id_of};
 ghost use Rattle.gix_c.specs.Behind.{commits_of};
 
 use crate::handle::Handle;
@@ -145,6 +145,46 @@ pub extern "C" fn gix_history_is_ancestor(
     match is_ancestor(alloc, ancestor, of, &mut history.get_mut().graph) {
         Ok(true) => OK,
         Ok(false) => NONE,
+        // A source in memory does not fail.
+        Err(merge_base::Error::Source(_)) => unreachable!(),
+        Err(merge_base::Error::OutOfMemory) => OUT_OF_MEMORY,
+    }
+}
+
+/// Returns 1 if `ancestor` is reachable from `from`, and 0 if it is not.
+///
+/// A commit that the history has is reachable from itself.
+///
+/// # Premises
+///
+/// Ordered generations, for what `from` reaches. Without them, 1 is still right.
+#[unsafe(no_mangle)]
+pub extern "C" fn gix_history_reaches(
+    alloc: Global,
+    history: &mut Handle,
+    from: &[u8; 20],
+    ancestor: &[u8; 20],
+) -> i32
+    ensures ancestor { GenerationsNeverRiseFrom (commits_of history.old) (id_of from.now ∷ [])
+        → ByYes result
+        (IsAncestor (commits_of history.old) (id_of from.now) (id_of ancestor.now))
+        (¬ IsAncestor (commits_of history.old) (id_of from.now) (id_of ancestor.now))
+        ⊤ }
+
+    // Without any premise.
+    ensures reached { ByYes result
+        (IsAncestor (commits_of history.old) (id_of from.now) (id_of ancestor.now)) ⊤ ⊤ }
+
+    ensures refused { ByYes result ⊤ ⊤ (result ≡ OUT_OF_MEMORY) }
+    ensures commits { commits_of history.new ≡ commits_of history.old }
+    ensures named { history.new.value.named ≡ history.old.value.named }
+    ensures table { history.new.value.table ≡ history.old.value.table }
+{
+    let ancestor = ObjectId(*ancestor);
+    let from = ObjectId(*from);
+    match is_ancestor(alloc, ancestor, from, &mut history.get_mut().graph) {
+        Ok(true) => 1,
+        Ok(false) => 0,
         // A source in memory does not fail.
         Err(merge_base::Error::Source(_)) => unreachable!(),
         Err(merge_base::Error::OutOfMemory) => OUT_OF_MEMORY,

@@ -1,20 +1,21 @@
 //! C function that describes a commit.
 
-ghost use Rattle.std.specs.Prelude.{◌≡◌, ◌^◌, ◌⊎◌, ⊤, ℕ, IfOk, OnErr, OnOk, None};
+ghost use Rattle.std.specs.Prelude.{◌≡◌, ◌≢◌, ◌^◌, ◌⊎◌, ⊤, ℕ, IfOk, OnErr, OnOk, None};
 ghost use Rattle.gix_base.specs.declared.hash.ObjectId.{ObjectId};
 ghost use Rattle.gix_revwalk.specs.Followed.{followed};
 ghost use Rattle.gix_revwalk.specs.History.{Has, IsAncestor};
 ghost use Rattle.gix_revwalk.specs.Sizes.{AtLeast};
 ghost use Rattle.gix_describe.specs.Described.{name_at};
+ghost use Rattle.gix_describe.specs.FormatText.{format_bytes};
 ghost use Rattle.gix_describe.specs.Outcomes.{names_of, description_of};
 ghost use Rattle.gix_c.specs.Answers.{ByCode, id_of};
 ghost use Rattle.gix_c.specs.Behind.{commits_of};
-ghost use Rattle.gix_c.specs.Descriptions.{AreOptions, HasDescription, IsDescribedSo, IsPrinted, IsText, first_of, names_given, named_by};
+ghost use Rattle.gix_c.specs.Descriptions.{AreOptions, HasDescription, IsDescribedSo, IsPrinted, IsText, first_of, names_given, named_by, printed_text};
 
 use crate::handle::Handle;
-use crate::status::{NO_COMMIT, NONE, OK, OUT_OF_MEMORY, TOO_MANY};
+use crate::status::{NO_COMMIT, NO_HOW, NONE, OK, OUT_OF_MEMORY, TOO_MANY};
 use gix_revision::Seed;
-use gix_revision::describe::{Names, Options, Outcome, describe};
+use gix_revision::describe::{Format, Names, Options, Outcome, describe};
 use gix_revision::error::Message;
 use gix_revision::graph::Graph;
 use gix_revision::hash::ObjectId;
@@ -30,10 +31,14 @@ pub struct Name<'a> {
     text: &'a [u8],
 }
 
-/// The options of a description.
+/// The size of [`How`] in bytes.
+const HOW_SIZE: u32 = 32;
+
+/// The options of a description. The first field is the size that the caller's struct has.
 #[repr(C)]
 #[derive(Clone, Copy)]
 pub struct How {
+    size: usize,
     max_candidates: usize,
     hex_len: usize,
     first_parent: bool,
@@ -92,6 +97,22 @@ pub(crate) fn write_text(text: &[u8], out: &mut [u8], len: &mut usize)
     *len = text.len();
 }
 
+/// Makes what is printed of a description. With 0 digits it is the name alone or, without a name, all
+/// digits of the id.
+fn format_of<'a>(outcome: Outcome<'a>, how: &How) -> Format<'a>
+    ensures { format_bytes result
+        ≡ printed_text outcome.entry.id (description_of outcome.entry) how.now }
+{
+    if how.hex_len == 0 {
+        let mut format = outcome.into_format(40);
+        format.depth = 0;
+        return format;
+    }
+    let mut format = outcome.into_format(how.hex_len);
+    format.long = how.long_form;
+    format
+}
+
 /// Prints a description into the caller's buffer.
 fn printed(
     alloc: Global,
@@ -107,8 +128,7 @@ fn printed(
         ((out.new ≡ out.old) × (len.new ≡ len.old) × (depth.new ≡ depth.old)) }
 {
     let found = outcome.depth;
-    let mut format = outcome.into_format(how.hex_len);
-    format.long = how.long_form;
+    let format = format_of(outcome, how);
     let mut text = Vec::new(alloc);
     match format.write_to(&mut text) {
         Ok(()) => {}
@@ -145,10 +165,14 @@ pub extern "C" fn gix_history_describe(
     ensures no_commit { result ≡ NO_COMMIT → ¬ Has (commits_of history.old) (id_of commit.now) }
     ensures too_many { result ≡ TOO_MANY → AtLeast (2 ^ 32)
         (IsAncestor (followed how.now.first_parent (commits_of history.old)) (id_of commit.now)) }
-    ensures refused { ByCode result ⊤ ⊤
-        ((result ≡ NO_COMMIT) ⊎ ((result ≡ TOO_MANY) ⊎ (result ≡ OUT_OF_MEMORY))) }
+    ensures no_how { result ≡ NO_HOW → how.now.size ≢ 32 }
+    ensures refused { ByCode result ⊤ ⊤ ((result ≡ NO_HOW)
+        ⊎ ((result ≡ NO_COMMIT) ⊎ ((result ≡ TOO_MANY) ⊎ (result ≡ OUT_OF_MEMORY)))) }
     ensures kept { history.new.value ≡ history.old.value }
 {
+    if how.size != HOW_SIZE as usize {
+        return NO_HOW;
+    }
     let graph = &history.get_mut().graph;
     let seed = graph.seed();
     let Ok(options) = options_of(alloc, seed, names, how) else {

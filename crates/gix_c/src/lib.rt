@@ -4,9 +4,12 @@
 //! documents each function and what its caller must do.
 #![tactic(auto)]
 
+mod abbreviate;
 mod bases;
+mod commits;
 mod counts;
 mod describe;
+mod digits;
 mod faults;
 mod file;
 mod handle;
@@ -15,12 +18,16 @@ mod ids;
 mod life;
 mod loose;
 mod missing;
+mod names;
 mod newest;
+mod object;
 mod open;
 mod place;
 mod revisions;
 mod status;
+mod version;
 
+pub use commits::CommitFields;
 pub use describe::{How, Name};
 pub use faults::FaultPlace;
 pub use handle::Handle;

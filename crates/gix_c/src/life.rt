@@ -2,6 +2,7 @@
 
 ghost use Rattle.std.specs.Borrow.{sem};
 ghost use Rattle.std.specs.Prelude.{◌≡◌, ◌⊎◌, ⊤, Some, None, if◌then◌else◌};
+ghost use Rattle.gix_revwalk.specs.Held.{entry_of};
 ghost use Rattle.gix_revwalk.specs.History.{Has, entry_at, same_id};
 ghost use Rattle.gix_base.specs.declared.hash.ObjectId.{ObjectId};
 ghost use Rattle.gix_c.specs.Answers.{ByCode, entry_given, id_of};
@@ -35,6 +36,34 @@ pub extern "C" fn gix_history_new(alloc: Global, seed: u64, out: &mut Place) -> 
     };
     *out = place;
     OK
+}
+
+/// Inserts a commit under `id`, if the history has none with that id yet. Returns the code.
+pub(crate) fn insert_commit(history: &mut Handle, id: ObjectId, commit: SourceCommit) -> i32
+    ensures new { ByCode result (entry_at (commits_of history.old) id ≡ None) ⊥ ⊤ }
+    ensures put { ByCode result ((q : ObjectId) → entry_at (commits_of history.new) q
+        ≡ (if same_id id q then Some (entry_of commit) else entry_at (commits_of history.old) q))
+        ⊥ (commits_of history.new ≡ commits_of history.old) }
+    ensures there { result ≡ ALREADY_THERE → Has (commits_of history.old) id }
+    ensures refused { ByCode result ⊤ ⊥ ((result ≡ ALREADY_THERE) ⊎ (result ≡ OUT_OF_MEMORY)) }
+    ensures names { history.new.value.table.names ≡ history.old.value.table.names }
+    ensures ids { ByCode result
+        (HasOneMore id history.old.value.table.ids.keys history.new.value.table.ids.keys)
+        ⊥
+        (HasOneMore id history.old.value.table.ids.keys history.new.value.table.ids.keys
+        ⊎ (history.new.value.table.ids.keys ≡ history.old.value.table.ids.keys)) }
+    ensures held { history.new.value.graph.held ≡ history.old.value.graph.held }
+    ensures noted { IsNoted history.old → IsNoted history.new }
+{
+    let history = history.get_mut();
+    if history.add_id(id).is_err() {
+        return OUT_OF_MEMORY;
+    }
+    match history.insert(id, commit) {
+        Ok(()) => OK,
+        Err(InsertError::AlreadyThere(_)) => ALREADY_THERE,
+        Err(InsertError::OutOfMemory(_)) => OUT_OF_MEMORY,
+    }
 }
 
 /// Inserts a commit under `id`, if the history has none with that id yet.
@@ -76,15 +105,7 @@ pub extern "C" fn gix_history_insert(
             None
         },
     };
-    let history = history.get_mut();
-    if history.add_id(ObjectId(*id)).is_err() {
-        return OUT_OF_MEMORY;
-    }
-    match history.insert(ObjectId(*id), commit) {
-        Ok(()) => OK,
-        Err(InsertError::AlreadyThere(_)) => ALREADY_THERE,
-        Err(InsertError::OutOfMemory(_)) => OUT_OF_MEMORY,
-    }
+    insert_commit(history, ObjectId(*id), commit)
 }
 
 fn dispose(handle: Loose<Handle, Global>) {

@@ -83,29 +83,6 @@ pub(crate) fn spec_of(span: &Span) -> Option<Spec>
     }
 }
 
-/// Makes the ref `name` stand for `id`, instead of the id that it stood for before, if any.
-#[unsafe(no_mangle)]
-pub extern "C" fn gix_history_name(
-    alloc: Global,
-    history: &mut Handle,
-    name: &[u8],
-    id: &[u8; 20],
-) -> i32
-    ensures refused { ByCode result ⊤ ⊥ ((result ≡ OUT_OF_MEMORY)
-        × (history.new.value.table.names.entries ≡ history.old.value.table.names.entries)) }
-    ensures ids { history.new.value.table.ids ≡ history.old.value.table.ids }
-    ensures graph { history.new.value.graph ≡ history.old.value.graph }
-    ensures named { history.new.value.named ≡ history.old.value.named }
-{
-    let Ok(name) = name.to_vec(alloc) else {
-        return OUT_OF_MEMORY;
-    };
-    match history.get_mut().table.names.insert(name, ObjectId(*id)) {
-        Ok(_) => OK,
-        Err(_) => OUT_OF_MEMORY,
-    }
-}
-
 /// Resolves a revision, such as `main~2..topic`.
 ///
 /// Relative dates count from the moment that `seconds` and `offset` give.

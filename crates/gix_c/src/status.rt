@@ -18,5 +18,11 @@ pub const NO_KIND: i32 = -6;
 pub const NO_GRAPH: i32 = -7;
 /// A commit of a commit-graph file has no level, or a parent's level is not less than its child's.
 pub const NO_LEVELS: i32 = -8;
+/// The id of a commit is not the hash of its content.
+pub const ALTERED: i32 = -9;
+/// A content is not read as a commit.
+pub const MISSHAPEN: i32 = -10;
+/// The size of the options is not one that this library knows.
+pub const NO_HOW: i32 = -11;
 /// A revision was refused. The code is this one plus the number of the fault, from 1 to 27.
 pub const FAULT: i32 = 100;

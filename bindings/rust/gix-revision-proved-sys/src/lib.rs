@@ -3,6 +3,7 @@
 #![no_std]
 #![allow(non_camel_case_types)]
 
+use core::ffi::c_char;
 use core::marker::{PhantomData, PhantomPinned};
 
 pub const GIX_OK: i32 = 0;
@@ -14,6 +15,9 @@ pub const GIX_TOO_MANY: i32 = -5;
 pub const GIX_NO_KIND: i32 = -6;
 pub const GIX_NO_GRAPH: i32 = -7;
 pub const GIX_NO_LEVELS: i32 = -8;
+pub const GIX_ALTERED: i32 = -9;
+pub const GIX_MISSHAPEN: i32 = -10;
+pub const GIX_NO_HOW: i32 = -11;
 pub const GIX_FAULT: i32 = 100;
 
 pub const GIX_INCLUDE: u32 = 0;
@@ -45,7 +49,17 @@ pub struct gix_name {
 
 #[repr(C)]
 #[derive(Clone, Copy, Debug)]
+pub struct gix_commit {
+    pub time: i64,
+    pub generation: u32,
+    pub has_generation: bool,
+    pub parents_len: usize,
+}
+
+#[repr(C)]
+#[derive(Clone, Copy, Debug)]
 pub struct gix_how {
+    pub size: usize,
     pub max_candidates: usize,
     pub hex_len: usize,
     pub first_parent: bool,
@@ -70,6 +84,9 @@ pub struct gix_fault {
 }
 
 extern "C" {
+    pub fn gix_version() -> u32;
+    pub fn gix_id_read(out: *mut gix_id, hex: *const c_char, hex_len: usize) -> bool;
+    pub fn gix_id_write(out: *mut c_char, id: *const gix_id);
     pub fn gix_history_new(seed: u64, out: *mut *mut gix_history) -> i32;
     pub fn gix_history_open(
         bytes: *const u8,
@@ -87,6 +104,25 @@ extern "C" {
         has_generation: bool,
         generation: u32,
     ) -> i32;
+    pub fn gix_history_insert_object(
+        history: *mut gix_history,
+        id: *const gix_id,
+        content: *const u8,
+        content_len: usize,
+    ) -> i32;
+    pub fn gix_history_len(history: *mut gix_history) -> usize;
+    pub fn gix_history_commit(
+        history: *mut gix_history,
+        id: *const gix_id,
+        out: *mut gix_commit,
+        parents: *mut gix_id,
+        parents_len: usize,
+    ) -> i32;
+    pub fn gix_history_abbreviate(
+        history: *mut gix_history,
+        id: *const gix_id,
+        least: usize,
+    ) -> usize;
     pub fn gix_history_merge_bases(
         history: *mut gix_history,
         first: *const gix_id,
@@ -107,6 +143,11 @@ extern "C" {
         history: *mut gix_history,
         ancestor: *const gix_id,
         of: *const gix_id,
+    ) -> i32;
+    pub fn gix_history_reaches(
+        history: *mut gix_history,
+        from: *const gix_id,
+        ancestor: *const gix_id,
     ) -> i32;
     pub fn gix_history_independent(
         history: *mut gix_history,
@@ -155,6 +196,11 @@ extern "C" {
         name: *const u8,
         name_len: usize,
         id: *const gix_id,
+    ) -> i32;
+    pub fn gix_history_unname(
+        history: *mut gix_history,
+        name: *const u8,
+        name_len: usize,
     ) -> i32;
     pub fn gix_history_resolve(
         history: *mut gix_history,

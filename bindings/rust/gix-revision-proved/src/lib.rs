@@ -40,11 +40,25 @@ use gix_revision_proved_sys as sys;
 use std::collections::hash_map::RandomState;
 use std::fmt;
 use std::hash::{BuildHasher, Hasher};
+use std::iter::FusedIterator;
+use std::mem::size_of;
 use std::ptr::{self, NonNull};
+use std::str::FromStr;
 
 /// The 20 bytes of an id.
+///
+/// ```
+/// use gix_revision_proved::Id;
+///
+/// let id: Id = "00112233445566778899aabbccddeeff00112233".parse()?;
+/// assert_eq!(id.0[1], 0x11);
+/// assert_eq!(id.to_string(), "00112233445566778899aabbccddeeff00112233");
+/// assert_eq!(format!("{id:?}"), "Id(00112233445566778899aabbccddeeff00112233)");
+/// assert!("0011".parse::<Id>().is_err());
+/// # Ok::<(), gix_revision_proved::ParseIdError>(())
+/// ```
 #[repr(transparent)]
-#[derive(Clone, Copy, Debug, PartialEq, Eq, PartialOrd, Ord, Hash)]
+#[derive(Clone, Copy, PartialEq, Eq, PartialOrd, Ord, Hash)]
 pub struct Id(pub [u8; 20]);
 
 impl Id {
@@ -54,13 +68,64 @@ impl Id {
 }
 
 impl fmt::Display for Id {
+    /// Writes 40 hex digits in lower case.
     fn fmt(&self, f: &mut fmt::Formatter<'_>) -> fmt::Result {
         self.0.iter().try_for_each(|byte| write!(f, "{byte:02x}"))
     }
 }
 
+impl fmt::Debug for Id {
+    fn fmt(&self, f: &mut fmt::Formatter<'_>) -> fmt::Result {
+        write!(f, "Id({self})")
+    }
+}
+
+/// The text is not 40 hex digits.
+#[derive(Clone, Copy, Debug, PartialEq, Eq)]
+pub struct ParseIdError;
+
+impl fmt::Display for ParseIdError {
+    fn fmt(&self, f: &mut fmt::Formatter<'_>) -> fmt::Result {
+        f.write_str("an id is 40 hex digits")
+    }
+}
+
+impl std::error::Error for ParseIdError {}
+
+impl FromStr for Id {
+    type Err = ParseIdError;
+
+    /// Reads 40 hex digits, in upper or lower case.
+    fn from_str(text: &str) -> Result<Id, ParseIdError> {
+        let digit = |byte: u8| char::from(byte).to_digit(16).map(|it| it as u8);
+        let mut id = Id([0; 20]);
+        let (pairs, rest) = (text.as_bytes().chunks_exact(2), text.len() % 2);
+        if pairs.len() != 20 || rest != 0 {
+            return Err(ParseIdError);
+        }
+        for (byte, pair) in id.0.iter_mut().zip(pairs) {
+            let (high, low) = (digit(pair[0]), digit(pair[1]));
+            *byte = high.zip(low).map(|(h, l)| 16 * h + l).ok_or(ParseIdError)?;
+        }
+        Ok(id)
+    }
+}
+
+impl From<[u8; 20]> for Id {
+    fn from(bytes: [u8; 20]) -> Id {
+        Id(bytes)
+    }
+}
+
+impl AsRef<[u8]> for Id {
+    fn as_ref(&self) -> &[u8] {
+        &self.0
+    }
+}
+
 /// Why a call failed. The history keeps its commits and can be used again.
 #[derive(Clone, Copy, Debug, PartialEq, Eq)]
+#[non_exhaustive]
 pub enum Error {
     /// An allocation failed.
     OutOfMemory,
@@ -74,6 +139,10 @@ pub enum Error {
     NoGraph,
     /// A commit of the file has no level, or a level that is not greater than its parents'.
     NoLevels,
+    /// The id of a commit is not the hash of its content.
+    Altered,
+    /// The content is not a commit that can be read.
+    Misshapen,
     /// The revision has a fault, with a number from 1 to 27. The part of the text that it names
     /// begins at the byte `start` and has `length` bytes. If the text has these bytes at several
     /// places, `start` is the last one.
@@ -82,17 +151,26 @@ pub enum Error {
         start: usize,
         length: usize,
     },
+    /// The library returned a code, or the kind of a set, that this crate does not know.
+    Unknown(i32),
 }
 
 impl fmt::Display for Error {
     fn fmt(&self, f: &mut fmt::Formatter<'_>) -> fmt::Result {
         match self {
             Error::OutOfMemory => f.write_str("out of memory"),
-            Error::AlreadyThere => f.write_str("the history has a commit under that id"),
-            Error::NoCommit => f.write_str("the history lacks that commit"),
-            Error::TooMany => f.write_str("there are too many commits to count"),
-            Error::NoGraph => f.write_str("the bytes are no commit-graph file that is read"),
-            Error::NoLevels => f.write_str("the levels of the commit-graph file do not fall"),
+            Error::AlreadyThere => f.write_str("the history has a commit with this id"),
+            Error::NoCommit => f.write_str("the history does not have the commit"),
+            Error::TooMany => f.write_str("2^32 commits or more are reachable"),
+            Error::NoGraph => {
+                f.write_str("the bytes are not a commit-graph file that can be opened")
+            }
+            Error::NoLevels => {
+                f.write_str("levels of the commit-graph file are missing or not ordered")
+            }
+            Error::Altered => f.write_str("the id of the commit is not the hash of its content"),
+            Error::Misshapen => f.write_str("the content is not a commit that can be read"),
+            Error::Unknown(code) => write!(f, "the library returned the unknown code {code}"),
             Error::Fault {
                 number,
                 start,
@@ -117,7 +195,10 @@ fn answered(code: i32) -> Result<bool, Error> {
         sys::GIX_TOO_MANY => Err(Error::TooMany),
         sys::GIX_NO_GRAPH => Err(Error::NoGraph),
         sys::GIX_NO_LEVELS => Err(Error::NoLevels),
-        _ => Err(Error::OutOfMemory),
+        sys::GIX_ALTERED => Err(Error::Altered),
+        sys::GIX_MISSHAPEN => Err(Error::Misshapen),
+        sys::GIX_OUT_OF_MEMORY => Err(Error::OutOfMemory),
+        _ => Err(Error::Unknown(code)),
     }
 }
 
@@ -131,7 +212,7 @@ fn meant(code: i32, span: &sys::gix_span, fault: &sys::gix_fault) -> Result<Span
         });
     }
     answered(code)?;
-    Ok(Span::of_raw(span))
+    Span::of_raw(span).ok_or(Error::Unknown(span.kind as i32))
 }
 
 const NO_FAULT: sys::gix_fault = sys::gix_fault {
@@ -146,7 +227,8 @@ pub struct How {
     /// How many names are considered; more than 32 count as 32. With 0 only the commit's own name
     /// is used.
     pub max_candidates: usize,
-    /// How many hex digits of the id are printed; more than 40 count as 40.
+    /// How many hex digits of the id are printed; more than 40 count as 40. With 0 the name alone is
+    /// printed, or all digits if no name is found.
     pub hex_len: usize,
     /// Follow only first parents.
     pub first_parent: bool,
@@ -167,6 +249,17 @@ impl Default for How {
             long_form: false,
         }
     }
+}
+
+/// A commit of a history.
+#[derive(Clone, Debug, PartialEq, Eq)]
+pub struct Commit {
+    /// The parents in git's order.
+    pub parents: Vec<Id>,
+    /// The commit date in seconds since 1970.
+    pub time: i64,
+    /// The generation number, if there is one.
+    pub generation: Option<u32>,
 }
 
 /// A set of commits (gitrevisions, "Specifying Ranges").
@@ -203,9 +296,10 @@ impl Span {
         }
     }
 
-    fn of_raw(raw: &sys::gix_span) -> Span {
+    /// Returns the set, unless its kind is one of a later library.
+    fn of_raw(raw: &sys::gix_span) -> Option<Span> {
         let (first, second) = (Id(raw.first.bytes), Id(raw.second.bytes));
-        match raw.kind {
+        Some(match raw.kind {
             sys::GIX_INCLUDE => Span::Include(first),
             sys::GIX_EXCLUDE => Span::Exclude(first),
             sys::GIX_RANGE => Span::Range {
@@ -217,14 +311,34 @@ impl Span {
                 ours: second,
             },
             sys::GIX_ONLY_PARENTS => Span::OnlyParents(first),
-            _ => Span::WithoutParents(first),
-        }
+            sys::GIX_WITHOUT_PARENTS => Span::WithoutParents(first),
+            _ => return None,
+        })
     }
+}
+
+/// Returns the version of the C library that is used: its three numbers.
+pub fn library_version() -> (u32, u32, u32) {
+    let version = unsafe { sys::gix_version() };
+    (version / 10000, version / 100 % 100, version % 100)
 }
 
 /// Returns a random seed for the hash tables of a history.
 fn random_seed() -> u64 {
     RandomState::new().build_hasher().finish()
+}
+
+/// The length of the first page of a list whose length is not known. Each further one is four times
+/// as long.
+const FIRST_PAGE: usize = 1000;
+
+/// Returns room for `len` ids.
+fn room(len: usize) -> Result<Vec<Id>, Error> {
+    let mut room = Vec::new();
+    room.try_reserve_exact(len)
+        .map_err(|_| Error::OutOfMemory)?;
+    room.resize(len, Id([0; 20]));
+    Ok(room)
 }
 
 /// Commits, ref names for revisions, and what earlier queries have cached.
@@ -250,7 +364,9 @@ impl History {
     /// [`Error::NoGraph`] and [`Error::NoLevels`].
     pub fn open(bytes: &[u8]) -> Result<History, Error> {
         let mut at = ptr::null_mut();
-        answered(unsafe { sys::gix_history_open(bytes.as_ptr(), bytes.len(), random_seed(), &mut at) })?;
+        answered(unsafe {
+            sys::gix_history_open(bytes.as_ptr(), bytes.len(), random_seed(), &mut at)
+        })?;
         NonNull::new(at).map(History).ok_or(Error::OutOfMemory)
     }
 
@@ -288,6 +404,82 @@ impl History {
         Ok(())
     }
 
+    /// Adds the commit with this content, after a check of its id.
+    ///
+    /// The content is what `git cat-file commit` prints. The commit has no generation number.
+    ///
+    /// # Errors
+    ///
+    /// - [`Error::Altered`]: the id is not the hash of the content.
+    /// - [`Error::Misshapen`]: the content cannot be read as a commit.
+    /// - [`Error::AlreadyThere`].
+    pub fn insert_object(&mut self, id: Id, content: &[u8]) -> Result<(), Error> {
+        answered(unsafe {
+            sys::gix_history_insert_object(self.at(), id.raw(), content.as_ptr(), content.len())
+        })?;
+        Ok(())
+    }
+
+    /// Returns the number of commits.
+    ///
+    /// After an [`insert`](History::insert) that failed with [`Error::OutOfMemory`], it may be too
+    /// great by one until a commit with this id is added.
+    pub fn len(&mut self) -> usize {
+        unsafe { sys::gix_history_len(self.at()) }
+    }
+
+    /// Returns whether there are no commits, with the reservation of [`History::len`].
+    pub fn is_empty(&mut self) -> bool {
+        self.len() == 0
+    }
+
+    /// Returns a commit, or `None` if the history does not have it.
+    ///
+    /// ```
+    /// use gix_revision_proved::{Commit, History, Id};
+    ///
+    /// let mut history = History::new()?;
+    /// history.insert(Id([2; 20]), &[Id([1; 20])], 5, None)?;
+    /// let commit = Commit { parents: vec![Id([1; 20])], time: 5, generation: None };
+    /// assert_eq!(history.commit(Id([2; 20]))?, Some(commit));
+    /// assert_eq!(history.commit(Id([1; 20]))?, None);
+    /// # Ok::<(), gix_revision_proved::Error>(())
+    /// ```
+    pub fn commit(&mut self, id: Id) -> Result<Option<Commit>, Error> {
+        let mut fields = sys::gix_commit {
+            time: 0,
+            generation: 0,
+            has_generation: false,
+            parents_len: 0,
+        };
+        let mut parents = room(2)?;
+        loop {
+            let (at, len) = (parents.as_mut_ptr().cast(), parents.len());
+            let code =
+                unsafe { sys::gix_history_commit(self.at(), id.raw(), &mut fields, at, len) };
+            if !answered(code)? {
+                return Ok(None);
+            }
+            if fields.parents_len <= len {
+                parents.truncate(fields.parents_len);
+                return Ok(Some(Commit {
+                    parents,
+                    time: fields.time,
+                    generation: fields.has_generation.then_some(fields.generation),
+                }));
+            }
+            parents = room(fields.parents_len)?;
+        }
+    }
+
+    /// Returns how many hex digits of `id` are enough, like `git rev-parse --short`.
+    ///
+    /// It is the least number, from `least` on and from 4 to 40, such that no other id of a commit
+    /// of the history begins with these digits.
+    pub fn abbreviate(&mut self, id: Id, least: usize) -> usize {
+        unsafe { sys::gix_history_abbreviate(self.at(), id.raw(), least) }
+    }
+
     /// Returns the merge bases of `first` and a hypothetical merge of `others`, like
     /// `git merge-base --all`.
     ///
@@ -296,26 +488,26 @@ impl History {
     ///
     /// Premises: [acyclic, ordered generations](crate#premises).
     pub fn merge_bases(&mut self, first: Id, others: &[Id]) -> Result<Vec<Id>, Error> {
-        let mut out = vec![Id([0; 20]); 8];
+        let mut out = room(8)?;
         let mut count = 0;
         loop {
-            let (room, len) = (out.as_mut_ptr().cast(), out.len());
+            let (at, len) = (out.as_mut_ptr().cast(), out.len());
             answered(unsafe {
                 sys::gix_history_merge_bases(
                     self.at(),
                     first.raw(),
                     others.as_ptr().cast(),
                     others.len(),
-                    room,
+                    at,
                     len,
                     &mut count,
                 )
             })?;
-            let was = out.len();
-            out.resize(count, Id([0; 20]));
-            if count <= was {
+            if count <= len {
+                out.truncate(count);
                 return Ok(out);
             }
+            out = room(count)?;
         }
     }
 
@@ -327,14 +519,14 @@ impl History {
     /// Premises: [acyclic, ordered generations](crate#premises).
     pub fn octopus(&mut self, first: Id, others: &[Id]) -> Result<Option<Id>, Error> {
         let mut out = Id([0; 20]);
-        let room = ptr::from_mut(&mut out).cast();
+        let at = ptr::from_mut(&mut out).cast();
         let found = answered(unsafe {
             sys::gix_history_octopus(
                 self.at(),
                 first.raw(),
                 others.as_ptr().cast(),
                 others.len(),
-                room,
+                at,
             )
         })?;
         Ok(found.then_some(out))
@@ -357,15 +549,15 @@ impl History {
     ///
     /// Premises: [acyclic, ordered generations](crate#premises).
     pub fn independent(&mut self, ids: &[Id]) -> Result<Vec<Id>, Error> {
-        let mut out = ids.to_vec();
+        let mut out = room(ids.len())?;
         let mut count = 0;
-        let room = out.as_mut_ptr().cast();
+        let at = out.as_mut_ptr().cast();
         answered(unsafe {
             sys::gix_history_independent(
                 self.at(),
                 ids.as_ptr().cast(),
                 ids.len(),
-                room,
+                at,
                 ids.len(),
                 &mut count,
             )
@@ -396,15 +588,15 @@ impl History {
     /// Returns those of `ids` that the history has, each once, in the order of
     /// [`History::merge_bases`].
     pub fn newest_first(&mut self, ids: &[Id]) -> Result<Vec<Id>, Error> {
-        let mut out = ids.to_vec();
+        let mut out = room(ids.len())?;
         let mut count = 0;
-        let room = out.as_mut_ptr().cast();
+        let at = out.as_mut_ptr().cast();
         answered(unsafe {
             sys::gix_history_newest_first(
                 self.at(),
                 ids.as_ptr().cast(),
                 ids.len(),
-                room,
+                at,
                 ids.len(),
                 &mut count,
             )
@@ -429,22 +621,38 @@ impl History {
     /// # Ok::<(), gix_revision_proved::Error>(())
     /// ```
     pub fn missing(&mut self, after: Option<Id>, page: usize) -> Result<Vec<Id>, Error> {
-        let mut out = vec![Id([0; 20]); page];
-        let mut count = 0;
-        let room = out.as_mut_ptr().cast();
-        let after = after.as_slice();
-        answered(unsafe {
-            sys::gix_history_missing(
-                self.at(),
-                after.as_ptr().cast(),
-                after.len(),
-                room,
-                page,
-                &mut count,
-            )
-        })?;
-        out.truncate(count);
-        Ok(out)
+        let (mut found, mut after, mut len) = (Vec::new(), after, FIRST_PAGE);
+        while found.len() < page {
+            let ids = self.page(What::Missing, len.min(page - found.len()), after)?;
+            let is_last = ids.len() < len;
+            found
+                .try_reserve(ids.len())
+                .map_err(|_| Error::OutOfMemory)?;
+            after = ids.last().copied();
+            found.extend(ids);
+            if is_last {
+                break;
+            }
+            len = len.saturating_mul(4);
+        }
+        Ok(found)
+    }
+
+    /// Returns an iterator over all missing parents in rising order.
+    ///
+    /// They are fetched on pages of growing length, each of which goes over all missing parents.
+    ///
+    /// ```
+    /// use gix_revision_proved::{History, Id};
+    ///
+    /// let id = |byte| Id([byte; 20]);
+    /// let mut history = History::new()?;
+    /// history.insert(id(3), &[id(2), id(1)], 3, None)?;
+    /// assert_eq!(history.missing_parents().collect::<Result<Vec<_>, _>>()?, [id(1), id(2)]);
+    /// # Ok::<(), gix_revision_proved::Error>(())
+    /// ```
+    pub fn missing_parents(&mut self) -> Ids<'_> {
+        Ids::of(self, What::Missing, None)
     }
 
     /// Returns the description of `commit` by its own name or by that of an ancestor, and its
@@ -482,6 +690,7 @@ impl History {
             long_form,
         } = how;
         let how = sys::gix_how {
+            size: size_of::<sys::gix_how>(),
             max_candidates,
             hex_len,
             first_parent,
@@ -523,6 +732,11 @@ impl History {
     pub fn name(&mut self, name: &[u8], id: Id) -> Result<(), Error> {
         answered(unsafe { sys::gix_history_name(self.at(), name.as_ptr(), name.len(), id.raw()) })?;
         Ok(())
+    }
+
+    /// Takes a ref name back. Returns whether there was such a name.
+    pub fn unname(&mut self, name: &[u8]) -> Result<bool, Error> {
+        answered(unsafe { sys::gix_history_unname(self.at(), name.as_ptr(), name.len()) })
     }
 
     /// Resolves a revision such as `main~2..topic` to a set of commits. An abbreviated id wins over
@@ -573,10 +787,10 @@ impl History {
         meant(code, &raw, &fault)
     }
 
-    /// Returns the commits of a set in rising order of their ids. They are fetched `page` at a
-    /// time, but at least one.
+    /// Returns an iterator over the commits of a set in rising order of their ids.
     ///
-    /// Each page computes the whole list.
+    /// They are fetched `page` at a time; 0 counts as 1. Each page computes the whole list, so pass
+    /// `usize::MAX` to have it computed once.
     ///
     /// ```
     /// use gix_revision_proved::{History, Id, Span};
@@ -591,15 +805,8 @@ impl History {
     /// assert_eq!(history.list(span, 1).collect::<Result<Vec<_>, _>>()?, [id(1), id(2)]);
     /// # Ok::<(), gix_revision_proved::Error>(())
     /// ```
-    pub fn list(&mut self, span: Span, page: usize) -> Commits<'_> {
-        Commits {
-            history: self,
-            span,
-            page: page.max(1),
-            after: None,
-            fetched: Vec::new().into_iter(),
-            is_last: false,
-        }
+    pub fn list(&mut self, span: Span, page: usize) -> Ids<'_> {
+        Ids::of(self, What::Span(span), Some(page.max(1)))
     }
 
     /// Returns the number of commits of a set, like `git rev-list --count`.
@@ -610,24 +817,32 @@ impl History {
         Ok(count)
     }
 
-    fn page(&mut self, span: Span, page: usize, after: Option<Id>) -> Result<Vec<Id>, Error> {
-        let mut out = vec![Id([0; 20]); page];
-        let mut count = 0;
-        let (raw, after) = (span.to_raw(), after.as_slice());
-        let room = out.as_mut_ptr().cast();
-        answered(unsafe {
-            sys::gix_history_list(
-                self.at(),
-                &raw,
-                after.as_ptr().cast(),
-                after.len(),
-                room,
-                page,
-                &mut count,
-            )
+    /// Returns the first `len` ids of a list after the id `after`.
+    fn page(&mut self, what: What, len: usize, after: Option<Id>) -> Result<Vec<Id>, Error> {
+        let (mut out, mut count, after) = (room(len)?, 0, after.as_slice());
+        let (from, passed) = (after.as_ptr().cast(), after.len());
+        let (history, at) = (self.at(), out.as_mut_ptr().cast());
+        answered(match what {
+            What::Missing => unsafe {
+                sys::gix_history_missing(history, from, passed, at, len, &mut count)
+            },
+            What::Span(span) => unsafe {
+                let raw = span.to_raw();
+                sys::gix_history_list(history, &raw, from, passed, at, len, &mut count)
+            },
         })?;
         out.truncate(count);
         Ok(out)
+    }
+
+    /// Returns the length of a page: `page`, but no longer than the list and one more.
+    fn page_len(&mut self, what: What, page: usize) -> Result<usize, Error> {
+        match what {
+            What::Span(span) if page > FIRST_PAGE => {
+                Ok(self.count(span)?.saturating_add(1).min(page))
+            }
+            _ => Ok(page),
+        }
     }
 }
 
@@ -637,37 +852,63 @@ impl Drop for History {
     }
 }
 
-/// Iterator over the commits of a set, which fetches a page at a time. It ends after an error.
-pub struct Commits<'a> {
+/// A list that the library returns on pages.
+#[derive(Clone, Copy)]
+enum What {
+    Span(Span),
+    Missing,
+}
+
+/// Iterator over ids that are fetched a page at a time. It ends after an error.
+pub struct Ids<'a> {
     history: &'a mut History,
-    span: Span,
-    page: usize,
+    what: What,
+    /// The length of each page; without it they grow.
+    page: Option<usize>,
+    /// The length of the next page.
+    next: usize,
     after: Option<Id>,
     fetched: std::vec::IntoIter<Id>,
     is_last: bool,
 }
 
-impl Iterator for Commits<'_> {
+impl<'a> Ids<'a> {
+    fn of(history: &'a mut History, what: What, page: Option<usize>) -> Ids<'a> {
+        Ids {
+            history,
+            what,
+            page,
+            next: page.unwrap_or(FIRST_PAGE),
+            after: None,
+            fetched: Vec::new().into_iter(),
+            is_last: false,
+        }
+    }
+
+    /// Fetches the next page.
+    fn fetch(&mut self) -> Result<(), Error> {
+        let len = self.history.page_len(self.what, self.next)?;
+        let ids = self.history.page(self.what, len, self.after)?;
+        self.is_last = ids.len() < len;
+        self.after = ids.last().copied();
+        self.fetched = ids.into_iter();
+        self.next = self.page.unwrap_or(self.next.saturating_mul(4));
+        Ok(())
+    }
+}
+
+impl Iterator for Ids<'_> {
     type Item = Result<Id, Error>;
 
     fn next(&mut self) -> Option<Result<Id, Error>> {
-        if let Some(id) = self.fetched.next() {
-            return Some(Ok(id));
-        }
-        if self.is_last {
-            return None;
-        }
-        match self.history.page(self.span, self.page, self.after) {
-            Ok(ids) => {
-                self.is_last = ids.len() < self.page;
-                self.after = ids.last().copied();
-                self.fetched = ids.into_iter();
-                self.fetched.next().map(Ok)
-            }
-            Err(error) => {
+        if self.fetched.len() == 0 && !self.is_last {
+            if let Err(error) = self.fetch() {
                 self.is_last = true;
-                Some(Err(error))
+                return Some(Err(error));
             }
         }
+        self.fetched.next().map(Ok)
     }
 }
+
+impl FusedIterator for Ids<'_> {}

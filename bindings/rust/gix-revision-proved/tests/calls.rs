@@ -1,6 +1,6 @@
 //! Each call over a criss-cross, and a history that another thread uses.
 
-use gix_revision_proved::{Error, History, How, Id, Span};
+use gix_revision_proved::{library_version, Commit, Error, History, How, Id, Span};
 
 const fn id(byte: u8) -> Id {
     Id([byte; 20])
@@ -141,6 +141,15 @@ fn commits_are_described() -> Result<(), Error> {
         history.describe(id(0x99), &[(id(0x11), b"v1")], How::default()),
         Err(Error::NoCommit)
     );
+    let how = How {
+        hex_len: 0,
+        fallback_to_id: true,
+        ..How::default()
+    };
+    let found = history.describe(id(0x44), &[(id(0x11), b"v1")], how)?;
+    assert_eq!(found, Some((b"v1".to_vec(), 3)));
+    let found = history.describe(id(0x44), &[], how)?;
+    assert_eq!(found, Some((b"4".repeat(40), 0)));
     let long = [b'v'; 100];
     assert_eq!(
         history.describe(id(0x11), &[(id(0x11), &long)], How::default())?,
@@ -176,6 +185,126 @@ fn texts_are_resolved() -> Result<(), Error> {
         })
     );
     Ok(())
+}
+
+#[test]
+fn pages_have_any_length() -> Result<(), Error> {
+    let mut history = criss_cross()?;
+    let span = Span::Include(id(0x55));
+    let all = [id(0x11), id(0x22), id(0x33), id(0x55)];
+    for page in [0, 1, 3, 4, 5, 1001, usize::MAX / 20, usize::MAX] {
+        let listed: Result<Vec<_>, _> = history.list(span, page).collect();
+        assert_eq!(listed?, all, "{page}");
+    }
+    let lost: Vec<Id> = (0..5500_u32)
+        .map(|k| {
+            let mut id = Id([0; 20]);
+            id.0[16..].copy_from_slice(&k.to_be_bytes());
+            id
+        })
+        .collect();
+    history.insert(id(0x66), &lost, 6, None)?;
+    for page in [1, 1000, 1001, 5499, 5500, 5501, usize::MAX] {
+        assert_eq!(history.missing(None, page)?, lost[..page.min(5500)]);
+    }
+    assert_eq!(history.missing(None, 0)?, []);
+    assert_eq!(history.missing(Some(lost[5498]), usize::MAX)?, [lost[5499]]);
+    let mut found = history.missing_parents();
+    assert_eq!(found.by_ref().collect::<Result<Vec<_>, _>>()?, lost);
+    assert_eq!(found.next(), None);
+    Ok(())
+}
+
+#[test]
+fn ids_are_digits() {
+    let text = "00112233445566778899aAbBcCdDeEfF00112233";
+    let read: Id = text.parse().unwrap();
+    assert_eq!(read.0[..3], [0, 0x11, 0x22]);
+    assert_eq!(read.to_string(), text.to_lowercase());
+    assert_eq!(format!("{read:?}"), format!("Id({read})"));
+    for wrong in [
+        "",
+        &text[1..],
+        &text.replace('2', "g"),
+        &"é".repeat(20),
+        &format!("{text}0"),
+    ] {
+        assert!(wrong.parse::<Id>().is_err(), "{wrong}");
+    }
+}
+
+#[test]
+fn commits_are_looked_up() -> Result<(), Error> {
+    let mut history = criss_cross()?;
+    let parents: Vec<Id> = (1..9).map(id).collect();
+    history.insert(id(0x66), &parents, -6, Some(7))?;
+    let commit = Commit {
+        parents,
+        time: -6,
+        generation: Some(7),
+    };
+    assert_eq!(history.commit(id(0x66))?, Some(commit));
+    assert_eq!(history.commit(id(0x99))?, None);
+    assert_eq!(history.len(), 6);
+    assert!(!history.is_empty());
+    let mut near = id(0x66);
+    near.0[4] = 0x67;
+    assert_eq!(history.abbreviate(id(0x66), 0), 4);
+    history.insert(near, &[], 6, None)?;
+    assert_eq!(history.abbreviate(id(0x66), 7), 10);
+    assert_eq!(history.abbreviate(id(0x11), usize::MAX), 40);
+    Ok(())
+}
+
+#[test]
+fn commits_are_checked() -> Result<(), Error> {
+    let content = b"tree 4b825dc642cb6eb9a060e54bf8d69288fbee4904
+parent 1111111111111111111111111111111111111111
+author a <a@b> 5 +0000
+committer a <a@b> 7 +0000
+
+m
+";
+    let own: Id = "163ba4c0c966e03dfae90637407a44f5437f71f8".parse().unwrap();
+    let other: Id = "b584dc718100df6c37020ad91e1b82d043e16312".parse().unwrap();
+    let mut history = History::new()?;
+    history.insert_object(own, content)?;
+    let commit = Commit {
+        parents: vec![id(0x11)],
+        time: 7,
+        generation: None,
+    };
+    assert_eq!(history.commit(own)?, Some(commit));
+    assert_eq!(
+        history.insert_object(own, content),
+        Err(Error::AlreadyThere)
+    );
+    assert_eq!(history.insert_object(id(1), content), Err(Error::Altered));
+    assert_eq!(
+        history.insert_object(other, b"no commit\n"),
+        Err(Error::Misshapen)
+    );
+    assert_eq!(history.len(), 1);
+    Ok(())
+}
+
+#[test]
+fn names_are_taken_back() -> Result<(), Error> {
+    let mut history = criss_cross()?;
+    history.name(b"main", id(0x44))?;
+    assert!(history.unname(b"main")?);
+    assert!(!history.unname(b"main")?);
+    assert!(history.resolve(b"main", 0, 0).is_err());
+    Ok(())
+}
+
+#[test]
+fn versions_agree() {
+    let (first, second, third) = library_version();
+    assert_eq!(
+        format!("{first}.{second}.{third}"),
+        env!("CARGO_PKG_VERSION")
+    );
 }
 
 #[test]

@@ -1,4 +1,4 @@
-use Rattle.std.proofs.Common.{◌≡◌, sym, subst, None}
+use Rattle.std.proofs.Common.{◌≡◌, ap, sym, subst, ◌∙◌, None}
 use Rattle.gix_base.specs.declared.hash.ObjectId.{ObjectId}
 use Rattle.gix_revwalk.specs.History.{entry_at}
 use Rattle.gix_c.specs.Behind.{commits_in}
@@ -13,4 +13,5 @@ returns c =
       put.1,
       subst (λ (v : History). (id : ObjectId) → entry_at (commits_in v) id ≡ None) (sym put.2) c.new-history.ensures.empty,
       subst (λ (v : History). Remembers (commits_in v) v.named.items) (sym put.2) c.new-history.ensures.noted,
+      ap (λ (v : History). v.table.ids.keys) put.2 ∙ c.new-history.ensures.ids,
     )

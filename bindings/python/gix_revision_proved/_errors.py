@@ -1,0 +1,92 @@
+"""What a call raises if it fails."""
+
+from __future__ import annotations
+
+
+class Refused(Exception):
+    """A call failed. The history keeps its commits and can be used again."""
+
+
+class AlreadyThere(Refused):
+    """The history has a commit with this id, and keeps it."""
+
+
+class NoCommit(Refused):
+    """The history does not have the commit."""
+
+
+class TooMany(Refused):
+    """2^32 commits or more are reachable."""
+
+
+class NoKind(Refused):
+    """The kind of a set is not one of the six."""
+
+
+class NoGraph(Refused):
+    """The bytes are not a commit-graph file that can be opened."""
+
+
+class NoLevels(Refused):
+    """A commit of the file has no level, or a level that is not greater than its parents'."""
+
+
+class Altered(Refused):
+    """The id of a commit is not the hash of its content."""
+
+
+class Misshapen(Refused):
+    """The content is not a commit that can be read."""
+
+
+class Fault(Refused):
+    """The revision has a fault, with a number from 1 to 27.
+
+    The part of the text that it names begins at the byte `start` and has `length` bytes. If the
+    text has these bytes at several places, `start` is the last one.
+    """
+
+    def __init__(self, number: int, start: int, length: int) -> None:
+        super().__init__(number, start, length)
+        self.number = number
+        self.start = start
+        self.length = length
+
+    def __str__(self) -> str:
+        return f"the revision has fault {self.number}, in {self.length} bytes from byte {self.start}"
+
+
+class UnknownCode(Refused):
+    """The library returned a code that this package does not know, as a later library may."""
+
+    def __init__(self, code: int) -> None:
+        super().__init__(code)
+        self.code = code
+
+    def __str__(self) -> str:
+        return f"the library returned the unknown code {self.code}"
+
+
+_OK, _NONE, _OUT_OF_MEMORY = 0, 1, -1
+_REFUSALS = {
+    -2: AlreadyThere,
+    -4: NoCommit,
+    -5: TooMany,
+    -6: NoKind,
+    -7: NoGraph,
+    -8: NoLevels,
+    -9: Altered,
+    -10: Misshapen,
+}
+
+
+def answered(code: int) -> bool:
+    """Returns whether the code is GIX_OK and not GIX_NONE, or raises the error that it means."""
+    if code in (_OK, _NONE):
+        return code == _OK
+    if code == _OUT_OF_MEMORY:
+        raise MemoryError
+    refusal = _REFUSALS.get(code)
+    if refusal is None:
+        raise UnknownCode(code)
+    raise refusal(refusal.__doc__)

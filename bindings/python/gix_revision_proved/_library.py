@@ -1,0 +1,229 @@
+"""The functions of the C library, by ctypes, and the conversion of what they take and return."""
+
+from __future__ import annotations
+
+import ctypes
+import operator
+import os
+import threading
+from collections.abc import Iterable, Sequence
+
+from ._errors import answered
+
+Id = bytes | bytearray | memoryview | str
+Text = bytes | bytearray | memoryview | str
+
+
+class RawId(ctypes.Structure):
+    _fields_ = [("bytes", ctypes.c_uint8 * 20)]
+
+
+class RawName(ctypes.Structure):
+    _fields_ = [("id", RawId), ("text", ctypes.c_char_p), ("text_len", ctypes.c_size_t)]
+
+
+class RawHow(ctypes.Structure):
+    _fields_ = [
+        ("size", ctypes.c_size_t),
+        ("max_candidates", ctypes.c_size_t),
+        ("hex_len", ctypes.c_size_t),
+        ("first_parent", ctypes.c_bool),
+        ("fallback_to_id", ctypes.c_bool),
+        ("long_form", ctypes.c_bool),
+    ]
+
+
+class RawSpan(ctypes.Structure):
+    _fields_ = [("kind", ctypes.c_uint32), ("first", RawId), ("second", RawId)]
+
+
+class RawCommit(ctypes.Structure):
+    _fields_ = [
+        ("time", ctypes.c_int64),
+        ("generation", ctypes.c_uint32),
+        ("has_generation", ctypes.c_bool),
+        ("parents_len", ctypes.c_size_t),
+    ]
+
+
+class RawFault(ctypes.Structure):
+    _fields_ = [("number", ctypes.c_uint8), ("start", ctypes.c_size_t), ("length", ctypes.c_size_t)]
+
+
+Handle, Size = ctypes.c_void_p, ctypes.c_size_t
+_Ids, _Count, _Bytes = ctypes.POINTER(RawId), ctypes.POINTER(Size), ctypes.c_char_p
+_Span, _Fault, _Depth = ctypes.POINTER(RawSpan), ctypes.POINTER(RawFault), ctypes.POINTER(ctypes.c_uint32)
+_Moment = (ctypes.c_int64, ctypes.c_int32)
+
+# The parameters of each function that returns a code.
+_PARAMETERS: dict[str, tuple[object, ...]] = {
+    "new": (ctypes.c_uint64, ctypes.POINTER(Handle)),
+    "open": (_Bytes, Size, ctypes.c_uint64, ctypes.POINTER(Handle)),
+    "insert": (Handle, _Ids, _Ids, Size, ctypes.c_int64, ctypes.c_bool, ctypes.c_uint32),
+    "insert_object": (Handle, _Ids, _Bytes, Size),
+    "commit": (Handle, _Ids, ctypes.POINTER(RawCommit), _Ids, Size),
+    "merge_bases": (Handle, _Ids, _Ids, Size, _Ids, Size, _Count),
+    "octopus": (Handle, _Ids, _Ids, Size, _Ids),
+    "is_ancestor": (Handle, _Ids, _Ids),
+    "independent": (Handle, _Ids, Size, _Ids, Size, _Count),
+    "ahead_behind": (Handle, _Ids, _Ids, _Count, _Count),
+    "newest_first": (Handle, _Ids, Size, _Ids, Size, _Count),
+    "missing": (Handle, _Ids, Size, _Ids, Size, _Count),
+    "describe": (Handle, _Ids, ctypes.POINTER(RawName), Size, ctypes.POINTER(RawHow), _Bytes, Size, _Count, _Depth),
+    "name": (Handle, _Bytes, Size, _Ids),
+    "unname": (Handle, _Bytes, Size),
+    "resolve": (Handle, _Bytes, Size, *_Moment, _Span, _Fault),
+    "rev_parse": (Handle, _Bytes, Size, *_Moment, _Span, _Fault),
+    "list": (Handle, _Span, _Ids, Size, _Ids, Size, _Count),
+    "count": (Handle, _Span, _Count),
+}
+
+_NAME = "libgix_revision.so.1"
+
+
+def _path() -> str:
+    """Returns the path of the library, or its name if the system has to look for it.
+
+    The library is in the folder of this file in a wheel, and in the one above in the tarball.
+    """
+    folder = os.path.dirname(os.path.abspath(__file__))
+    beside = [f"{it}/{_NAME}" for it in (folder, os.path.dirname(folder)) if os.path.exists(f"{it}/{_NAME}")]
+    return os.environ.get("GIX_REVISION_LIBRARY") or (beside[0] if beside else _NAME)
+
+
+def _load() -> ctypes.CDLL:
+    library = ctypes.CDLL(_path())
+    for name, types in _PARAMETERS.items():
+        function = getattr(library, f"gix_history_{name}")
+        function.restype, function.argtypes = ctypes.c_int32, types
+    library.gix_history_free.restype, library.gix_history_free.argtypes = None, (Handle,)
+    library.gix_history_len.restype, library.gix_history_len.argtypes = Size, (Handle,)
+    library.gix_history_abbreviate.restype, library.gix_history_abbreviate.argtypes = Size, (Handle, _Ids, Size)
+    library.gix_version.restype, library.gix_version.argtypes = ctypes.c_uint32, ()
+    return library
+
+
+_library = _load()
+
+
+class Owner:
+    """Owns a history of the library, and lets one call at a time use it.
+
+    Other threads wait. A call from the thread that is in a call, as by a signal handler, is refused.
+    """
+
+    __slots__ = ("_at", "_lock", "_is_busy", "_free")
+
+    def __init__(self, make: str, *arguments: object) -> None:
+        self._at, self._lock, self._is_busy, self._free = Handle(), threading.RLock(), False, _library.gix_history_free
+        answered(getattr(_library, f"gix_history_{make}")(*arguments, _seed(), ctypes.byref(self._at)))
+
+    def call(self, name: str, *arguments: object) -> int:
+        """Calls a function with the history and these arguments, and returns what it returns."""
+        function = getattr(_library, f"gix_history_{name}")
+        with self._lock:
+            if self._is_busy:
+                raise RuntimeError("the history is in use by this thread")
+            try:
+                self._is_busy = True
+                if not self._at:
+                    raise ValueError("the history is closed")
+                result: int = function(self._at, *arguments)
+                return result
+            finally:
+                self._is_busy = False
+
+    def close(self) -> None:
+        with self._lock:
+            if self._is_busy:
+                raise RuntimeError("the history is in use by this thread")
+            at, self._at = self._at, Handle()
+            if at:
+                self._free(at)
+
+    def __del__(self) -> None:
+        # Nothing else refers to it any more, so no call is under way.
+        if getattr(self, "_at", None):
+            self._free(self._at)
+
+
+def library_version() -> tuple[int, int, int]:
+    """Returns the version of the C library that is used, such as (1, 0, 0)."""
+    version: int = _library.gix_version()
+    return version // 10000, version // 100 % 100, version % 100
+
+
+def _seed() -> int:
+    """Returns a random seed for the hash tables of a history."""
+    return int.from_bytes(os.urandom(8), "little")
+
+
+def number(value: int, bits: int, signed: bool = False) -> int:
+    """Returns an integer if a C integer of that many bits holds it. Otherwise raises OverflowError."""
+    value = operator.index(value)
+    least, end = (-(1 << (bits - 1)), 1 << (bits - 1)) if signed else (0, 1 << bits)
+    if not least <= value < end:
+        raise OverflowError(f"{value} is not from {least} to {end - 1}")
+    return value
+
+
+def size(value: int) -> int:
+    """Returns an integer if a `size_t` holds it. Otherwise raises OverflowError."""
+    return number(value, 8 * ctypes.sizeof(Size))
+
+
+def text_of(text: Text) -> bytes:
+    """Returns the bytes of a text. A `str` is encoded as UTF-8, as file names of git are."""
+    if isinstance(text, str):
+        return text.encode("utf-8", "surrogateescape")
+    if isinstance(text, (bytes, bytearray, memoryview)):
+        return bytes(text)
+    raise TypeError(f"a text is str or bytes, not {type(text).__name__}")
+
+
+def raw_of(id: Id) -> bytes:
+    """Returns the 20 bytes of an id."""
+    if isinstance(id, str):
+        try:
+            raw = bytes.fromhex(id) if len(id) == 40 else b""
+        except ValueError:
+            raw = b""
+    elif isinstance(id, (bytes, bytearray, memoryview)):
+        raw = bytes(id)
+    else:
+        raise TypeError(f"an id is str or bytes, not {type(id).__name__}")
+    if len(raw) != 20:
+        raise ValueError(f"an id is 20 bytes, or 40 hex digits: {id!r}")
+    return raw
+
+
+def one(id: Id) -> RawId:
+    return RawId.from_buffer_copy(raw_of(id))
+
+
+def many(ids: Iterable[Id]) -> tuple[ctypes.Array[RawId], int]:
+    """Returns the ids as a C array, and their number. The array has room for at least one id."""
+    if isinstance(ids, (str, bytes, bytearray, memoryview)):
+        raise TypeError("a list of ids, not one id")
+    raw = b"".join(map(raw_of, ids))
+    count = len(raw) // 20
+    return (RawId * max(1, count)).from_buffer_copy(raw or bytes(20)), count
+
+
+def hex_of(id: RawId) -> str:
+    return bytes(id.bytes).hex()
+
+
+def hexes_of(ids: ctypes.Array[RawId], count: int) -> list[str]:
+    """Returns the first ids of a C array as hex digits."""
+    digits = bytes(memoryview(ids).cast("B")[: 20 * count]).hex()
+    return [digits[at : at + 40] for at in range(0, 40 * count, 40)]
+
+
+def names_of(names: Iterable[tuple[Id, Text]]) -> tuple[ctypes.Array[RawName], Sequence[object]]:
+    """Returns names as a C array, and what has to live as long as the array."""
+    texts, given = [], []
+    for id, text in names:
+        texts.append(text_of(text))
+        given.append(RawName(one(id), texts[-1], len(texts[-1])))
+    return (RawName * max(1, len(given)))(*given), texts

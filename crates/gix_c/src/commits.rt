@@ -1,0 +1,84 @@
+//! C functions that count the commits of a history, and look one up.
+
+ghost use Rattle.std.specs.Prelude.{◌≡◌, ⊤, Some, None, if◌then◌else◌, length};
+ghost use Rattle.gix_revwalk.specs.History.{Has};
+ghost use Rattle.gix_revwalk.specs.Sizes.{HasSize};
+ghost use Rattle.gix_c.specs.Answers.{ByCode, id_of};
+ghost use Rattle.gix_c.specs.Behind.{commits_of};
+ghost use Rattle.gix_c.specs.Commits.{HasCommit, IsKnown};
+
+use crate::handle::Handle;
+use crate::ids::{bytes_of_each, write};
+use crate::status::{NONE, OK, OUT_OF_MEMORY};
+use gix_revision::graph::SourceCommit;
+use gix_revision::hash::ObjectId;
+use std::alloc::Global;
+
+/// A commit without its parents: its date, its generation number if there is one, and the number of
+/// its parents.
+#[repr(C)]
+#[derive(Clone, Copy)]
+pub struct CommitFields {
+    time: i64,
+    generation: u32,
+    has_generation: bool,
+    parents_len: usize,
+}
+
+/// Returns the fields of a commit.
+fn fields_of(commit: &SourceCommit) -> CommitFields
+    ensures time { result.time ≡ commit.now.time }
+    ensures generation { (if result.has_generation then Some result.generation else None)
+        ≡ commit.now.generation }
+    ensures parents { result.parents_len ≡ length commit.now.parents.items }
+{
+    CommitFields {
+        time: commit.time,
+        generation: commit.generation.unwrap_or(0),
+        has_generation: commit.generation.is_some(),
+        parents_len: commit.parents.len(),
+    }
+}
+
+/// Returns the number of commits that the history has.
+#[unsafe(no_mangle)]
+pub extern "C" fn gix_history_len(history: &mut Handle) -> usize
+    ensures size { IsKnown history.old → HasSize (Has (commits_of history.old)) result }
+    ensures kept { history.new.value ≡ history.old.value }
+{
+    history.get_mut().table.ids.len()
+}
+
+/// Writes the commit of `id`: its fields, and as many first parents as fit into `parents`.
+#[unsafe(no_mangle)]
+pub extern "C" fn gix_history_commit(
+    alloc: Global,
+    history: &mut Handle,
+    id: &[u8; 20],
+    out: &mut CommitFields,
+    parents: &mut [[u8; 20]],
+) -> i32
+    ensures commit { ByCode result
+        (HasCommit (commits_of history.old) (id_of id.now) parents.old parents.new out.new)
+        (¬ Has (commits_of history.old) (id_of id.now)) ⊤ }
+    ensures unwritten { ByCode result ⊤
+        ((out.new ≡ out.old) × (parents.new ≡ parents.old))
+        ((result ≡ OUT_OF_MEMORY) × (out.new ≡ out.old) × (parents.new ≡ parents.old)) }
+    ensures kept { history.new.value ≡ history.old.value }
+{
+    let source = history.get_mut().graph.source();
+    let found = match source.get(alloc, ObjectId(*id)) {
+        Ok(found) => found,
+        Err(_) => return OUT_OF_MEMORY,
+    };
+    let Some(commit) = found else {
+        return NONE;
+    };
+    let Ok(bytes) = bytes_of_each(alloc, &commit.parents) else {
+        return OUT_OF_MEMORY;
+    };
+    let mut count = 0;
+    write(&bytes, parents, &mut count);
+    *out = fields_of(&commit);
+    OK
+}
