@@ -5,6 +5,7 @@ ghost use Rattle.gix_base.specs.declared.hash.ObjectId.{ObjectId};
 ghost use Rattle.gix_revwalk.specs.History.{entry_at};
 ghost use Rattle.gix_history.specs.Grown.{Grows};
 
+use crate::ahead::Ahead;
 use crate::beyond::Beyond;
 use crate::error::ReadError;
 use crate::known::{Known, Tried};
@@ -25,8 +26,6 @@ pub struct History<R: Reader + Drop, A: Allocator = Global> {
     pub known: Known<A>,
     /// The reader, which may know more about an error.
     pub reader: R,
-    /// Parents of read commits that were not read yet, the farthest first.
-    pub(crate) edge: Vec<ObjectId, A>,
 }
 
 impl<R: Reader + Drop, A: Allocator + Copy> History<R, A> {
@@ -41,15 +40,18 @@ impl<R: Reader + Drop, A: Allocator + Copy> History<R, A> {
         History {
             known: Known::new(alloc, seed),
             reader,
-            edge: Vec::new(alloc),
         }
     }
 
     /// Answers a question, and reads the commits that the answer needs.
     ///
-    /// It is tried over the commits that were read. If it wants another one, that commit and its
-    /// nearest ancestors are read: as many as this call has read so far, and at least 64. Then the
-    /// question is tried again.
+    /// If the question names a commit that was not read, all that it names are read, and 64 of their
+    /// ancestors. Then it is tried over the commits that were read. If it wants another one, that
+    /// commit is read, and ancestors of all that the call has met: as many as the call has read so
+    /// far, and at least 64. Then the question is tried again.
+    ///
+    /// Ancestors are read by their commit dates, the newest first. Those that earlier calls have read
+    /// are passed over. They count as read, except those newer than the wanted commit.
     ///
     /// # Errors
     ///
@@ -63,12 +65,25 @@ impl<R: Reader + Drop, A: Allocator + Copy> History<R, A> {
         ensures grown { Grows self.old.known self.new.known }
         ensures means { IfOk result (Q.means question.now (self.new.known.commits ++ K.beyond)) }
     {
-        let before = self.known.len();
-        self.read_named(alloc, question)?;
+        let mut ahead = Ahead::new(alloc, &self.known);
+        self.read_named(alloc, question, &mut ahead)?;
+        self.ask_over::<K, Q>(alloc, question, &mut ahead)
+    }
+
+    /// Tries a question, and reads the commit that it wants and others, until it has an answer.
+    fn ask_over<K: Beyond, Q: Question>(
+        &mut self,
+        alloc: A,
+        question: &Q,
+        ahead: &mut Ahead<A>,
+    ) -> Result<Q::Answer, ReadError>
+        ensures grown { Grows self.old.known self.new.known }
+        ensures means { IfOk result (Q.means question.now (self.new.known.commits ++ K.beyond)) }
+    {
         for _ in 0..u64::MAX {
             match self.known.try_ask::<K, Q>(question)? {
                 Tried::Answered(answer) => return Ok(answer),
-                Tried::Wants(id) => self.read_from(alloc, id, before)?,
+                Tried::Wants(id) => self.read_from(alloc, id, ahead)?,
             }
         }
         Err(ReadError::OutOfMemory)
@@ -80,7 +95,7 @@ impl<R: Reader + Drop, A: Allocator + Copy> History<R, A> {
     ///
     /// Any [`ReadError`].
     pub fn commit(&mut self, alloc: A, id: ObjectId) -> Result<SourceCommit<A>, ReadError> {
-        self.read_one(alloc, id, &mut Vec::new(alloc))?;
+        self.read_one(alloc, id)?;
         match self.known.commits().get(alloc, id)? {
             Some(commit) => Ok(commit),
             None => Err(ReadError::Missing(id)),
@@ -90,6 +105,5 @@ impl<R: Reader + Drop, A: Allocator + Copy> History<R, A> {
     /// Forgets all commits that were read.
     pub fn forget(&mut self, alloc: A) {
         self.known = self.known.emptied(alloc);
-        self.edge.clear();
     }
 }

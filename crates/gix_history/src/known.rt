@@ -69,6 +69,11 @@ impl<A: Allocator + Copy> Known<A> {
         Known::new(alloc, self.seed)
     }
 
+    /// Returns the seed of the hash maps.
+    pub(crate) fn seed(&self) -> Seed {
+        self.seed
+    }
+
     /// Returns the commits.
     pub fn commits(&self) -> &MemorySource<A>
         ensures { result.now ≡ self.now.commits }
@@ -99,6 +104,19 @@ impl<A: Allocator + Copy> Known<A> {
         ensures { IfOk result (λ b. b ≡ is_some (entry_at self.now.commits id)) }
     {
         Ok(self.commits.get(alloc, id)?.is_some())
+    }
+
+    /// Returns the time of the commit `id`; `None` if it is not known.
+    pub(crate) fn time(&self, alloc: A, id: ObjectId) -> Result<Option<i64>, AllocError> {
+        Ok(self.commits.get(alloc, id)?.map(|commit| commit.time))
+    }
+
+    /// Returns the parents of the commit `id`; none if it is not known.
+    pub(crate) fn parents(&self, alloc: A, id: ObjectId) -> Result<Vec<ObjectId, A>, AllocError> {
+        match self.commits.get(alloc, id)? {
+            Some(commit) => Ok(commit.parents),
+            None => Ok(Vec::new(alloc)),
+        }
     }
 
     /// Returns where the commit `id` is from; `None` if this was not noted.
