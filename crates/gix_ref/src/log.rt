@@ -17,6 +17,8 @@ pub struct LogEntry<A: Allocator = Global> {
     pub new: ObjectId,
     /// When it changed, in seconds since 1970.
     pub seconds: u64,
+    /// The digits of the time zone as one number: 130 for `+0130`.
+    pub zone: i32,
     /// The message, without the line feed.
     pub message: Vec<u8, A>,
 }
@@ -45,6 +47,7 @@ struct Line<'a> {
     old: ObjectId,
     new: ObjectId,
     seconds: u64,
+    zone: i32,
     message: &'a [u8],
 }
 
@@ -65,25 +68,26 @@ fn number(digits: &[u8]) -> Option<u64> {
     Some(value)
 }
 
-/// Returns what comes after a time zone such as `+0100`.
-fn after_zone(text: &[u8]) -> Option<&[u8]> {
-    let (zone, rest) = text.split_at_checked(5)?;
+/// Returns the number that a time zone such as `+0130` says.
+fn zone_of(zone: &[u8]) -> Option<i32> {
     let (sign, digits) = zone.split_first()?;
-    if (*sign == b'+' || *sign == b'-') && digits.iter().all(|b| b.is_ascii_digit()) {
-        Some(rest)
-    } else {
-        None
+    let value = i32::try_from(number(digits)?).ok()?;
+    match *sign {
+        b'+' => Some(value),
+        b'-' => value.checked_neg(),
+        _ => None,
     }
 }
 
-/// Returns the date and the message of what comes after the two ids.
-fn date_and_message(text: &[u8]) -> Option<(u64, &[u8])> {
+/// Returns the date, the time zone and the message of what comes after the two ids.
+fn date_and_message(text: &[u8]) -> Option<(u64, i32, &[u8])> {
     let rest = cut(text, b'>').1?.strip_prefix(b" ")?;
     let (digits, rest) = cut(rest, b' ');
     let seconds = number(digits)?;
-    let message = after_zone(rest?)?;
+    let (zone, message) = rest?.split_at_checked(5)?;
+    let zone = zone_of(zone)?;
     let message = message.strip_prefix(b"\t").unwrap_or(message);
-    (seconds != 0).then_some((seconds, message))
+    (seconds != 0).then_some((seconds, zone, message))
 }
 
 /// Returns the id at the front of a text, and what comes after a blank.
@@ -99,11 +103,12 @@ fn id_and_rest(text: &[u8]) -> Option<(ObjectId, &[u8])> {
 fn line_of(line: &[u8]) -> Option<Line<'_>> {
     let (old, rest) = id_and_rest(line)?;
     let (new, rest) = id_and_rest(rest)?;
-    let (seconds, message) = date_and_message(rest)?;
+    let (seconds, zone, message) = date_and_message(rest)?;
     Some(Line {
         old,
         new,
         seconds,
+        zone,
         message,
     })
 }
@@ -116,6 +121,7 @@ impl<A: Allocator + Copy> Reflog<A> {
                 old,
                 new,
                 seconds,
+                zone,
                 message,
             },
         ) = line_of(line)
@@ -125,6 +131,7 @@ impl<A: Allocator + Copy> Reflog<A> {
                 old,
                 new,
                 seconds,
+                zone,
                 message,
             })?;
         }
