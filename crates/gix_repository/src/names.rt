@@ -32,6 +32,8 @@ pub(crate) struct Names<A: Allocator> {
     pub(crate) full: Vec<u8, A>,
     /// The full name at the end of symbolic references.
     pub(crate) target: Vec<u8, A>,
+    /// Whether a further rule reads the name, too.
+    pub(crate) is_ambiguous: bool,
 }
 
 /// Holds the object that a name stands for, and the names of the reference if it is one.
@@ -54,7 +56,8 @@ fn described_digits(name: &[u8]) -> Option<&[u8]> {
 
 impl<F: Folders + Drop, A: Allocator + Copy> Repository<F, A> {
     /// Returns the object that a name stands for: an id, a reference, the output of `git describe`,
-    /// or an abbreviated object name. A name comes before digits, but not before all 40.
+    /// or an abbreviated object name. A name comes before digits, but not before all 40. `@` is
+    /// short for `HEAD`.
     ///
     /// Of several objects with the same digits the one is meant that is `wanted`.
     pub(crate) fn look_up(&mut self, name: &[u8], wanted: Wanted) -> Result<Named<A>, Refusal> {
@@ -103,9 +106,14 @@ impl<F: Folders + Drop, A: Allocator + Copy> Repository<F, A> {
         Ok(())
     }
 
-    /// Returns the reference with a short name.
+    /// Returns the reference with a short name. `@` is short for `HEAD`.
     fn reference(&mut self, name: &[u8]) -> Result<Option<Named<A>>, Refusal> {
-        let Some(named) = self.references.short(name)? else {
+        let short = if name == b"@".as_slice() {
+            b"HEAD".as_slice()
+        } else {
+            name
+        };
+        let Some(named) = self.references.short(short)? else {
             return Ok(None);
         };
         if named.is_ambiguous || self.is_one_id(name)? {
@@ -117,6 +125,7 @@ impl<F: Folders + Drop, A: Allocator + Copy> Repository<F, A> {
                 written: name.to_vec(self.alloc)?,
                 full: named.name,
                 target: named.reference.name,
+                is_ambiguous: named.is_ambiguous,
             }),
         }))
     }
@@ -137,6 +146,7 @@ impl<F: Folders + Drop, A: Allocator + Copy> Repository<F, A> {
     ///
     /// - `Unknown` if none does, or these are not at least four digits.
     /// - `Ambiguous` if more than one does, and not exactly one of them is wanted.
+    /// - `Object` if it has to be known which one is wanted, and an object was not read.
     fn completed(&mut self, digits: &[u8], wanted: Wanted) -> Result<ObjectId, Refusal> {
         let Ok(prefix) = Prefix::from_hex(digits) else {
             return Err(Refusal::Unknown);
@@ -170,13 +180,12 @@ impl<F: Folders + Drop, A: Allocator + Copy> Repository<F, A> {
         found.ok_or(Refusal::Ambiguous)
     }
 
-    /// Returns whether an object is wanted. One that is not read is not.
+    /// Returns whether an object is wanted.
     pub(crate) fn is_wanted(&mut self, id: ObjectId, wanted: Wanted) -> Result<bool, Refusal> {
-        match self.peeled(id) {
-            Ok((_, Kind::Commit)) if wanted == Wanted::Committish => Ok(true),
-            Ok((peeled, Kind::Commit)) if wanted == Wanted::OnlyCommit => Ok(peeled == id),
-            Ok((_, Kind::Commit | Kind::Tree)) => Ok(wanted == Wanted::Treeish),
-            Err(Refusal::OutOfMemory) => Err(Refusal::OutOfMemory),
+        match self.peeled(id)? {
+            (_, Kind::Commit) if wanted == Wanted::Committish => Ok(true),
+            (peeled, Kind::Commit) if wanted == Wanted::OnlyCommit => Ok(peeled == id),
+            (_, Kind::Commit | Kind::Tree) => Ok(wanted == Wanted::Treeish),
             _ => Ok(wanted == Wanted::Any),
         }
     }

@@ -1,5 +1,6 @@
 //! Looks names up in reflogs (gitrevisions, `<refname>@{<date>}`, `<refname>@{<n>}`, `@{-<n>}`).
 
+use crate::dates::push_full_date;
 use crate::error::Refusal;
 use crate::names::{Named, Names, Wanted};
 use crate::repository::Repository;
@@ -32,7 +33,7 @@ impl<F: Folders + Drop, A: Allocator + Copy> Repository<F, A> {
     /// # Errors
     ///
     /// - `Unknown` if there is no reflog.
-    /// - `Fatal` if it has fewer entries.
+    /// - `Fatal` if it has too few entries. The message names the reference as it was written.
     pub(crate) fn logged(
         &mut self,
         names: &Names<A>,
@@ -44,6 +45,7 @@ impl<F: Folders + Drop, A: Allocator + Copy> Repository<F, A> {
         match query {
             // An empty reflog says nothing, and the newest entry is what the reference says.
             ReflogLookup::Entry(0) if reflog.entries.is_empty() => self.followed(&names.target),
+            _ if reflog.entries.is_empty() => self.too_empty(names),
             ReflogLookup::Entry(number) => match reflog.nth(number) {
                 Some(id) => Ok(id),
                 None => self.too_short(&names.written, reflog.entries.len()),
@@ -59,6 +61,16 @@ impl<F: Folders + Drop, A: Allocator + Copy> Repository<F, A> {
             return Err(Refusal::OutOfMemory);
         }
         self.say(b"fatal: log for '", written, &behind)?;
+        Err(Refusal::Fatal)
+    }
+
+    /// Says that a reflog has no entries.
+    fn too_empty(&mut self, names: &Names<A>) -> Result<ObjectId, Refusal> {
+        let name = match self.references.reflog(&names.full)? {
+            Some(_) => &names.full,
+            None => &names.target,
+        };
+        self.say(b"fatal: log for ", name, b" is empty")?;
         Err(Refusal::Fatal)
     }
 
@@ -79,26 +91,39 @@ impl<F: Folders + Drop, A: Allocator + Copy> Repository<F, A> {
     ) -> Result<ObjectId, Refusal> {
         match reflog.at(seconds.max(0).cast_unsigned()) {
             Some(AtDate::Id(id)) => Ok(id),
+            Some(AtDate::Now) => self.followed(&names.target),
+            // git takes second 0 for the number of an entry here.
+            Some(AtDate::Before(_, _)) if seconds <= 0 => {
+                self.too_short(&names.written, reflog.entries.len())
+            }
             Some(AtDate::Before(id, _)) => {
-                self.say(
-                    b"warning: log for '",
-                    &names.written,
-                    b"' does not go back so far",
-                )?;
+                self.warn_of_begin(reflog, &names.written)?;
                 Ok(id)
             }
-            Some(AtDate::Now) => self.followed(&names.target),
-            None => self.too_short(&names.written, 0),
+            None => self.too_empty(names),
         }
+    }
+
+    /// Warns of the date of a reflog's first entry, since it does not go back further.
+    fn warn_of_begin(&mut self, reflog: &Reflog<A>, written: &[u8]) -> Result<(), Refusal> {
+        let Some(oldest) = reflog.entries.first() else {
+            return Ok(());
+        };
+        let mut behind = b"' only goes back to ".to_vec(self.alloc)?;
+        push_full_date(&mut behind, oldest.seconds, oldest.zone)?;
+        self.say(b"warning: log for '", written, &behind)?;
+        Ok(())
     }
 
     /// Returns the object that an entry of the current branch's reflog names.
     pub(crate) fn logged_here(&mut self, query: ReflogLookup) -> Result<ObjectId, Refusal> {
         let branch = self.current_branch()?;
+        let short = branch.strip_prefix(b"refs/heads/".as_slice());
         let names = Names {
-            written: Vec::new(self.alloc),
+            written: short.unwrap_or(b"HEAD").to_vec(self.alloc)?,
             full: branch.as_slice().to_vec(self.alloc)?,
             target: branch,
+            is_ambiguous: false,
         };
         self.logged(&names, query)
     }

@@ -313,16 +313,24 @@ impl<F: Folders + Drop, A: Allocator + Copy> Repository<F, A> {
     }
 
     /// Returns the full name of the reference that a text names, at the end of symbolic references;
-    /// `None` if it names an object otherwise.
+    /// `None` if it names an object otherwise (git-rev-parse, "--symbolic-full-name").
+    ///
+    /// It adds no message: [`Repository::object`] has added those about the text.
     ///
     /// # Errors
     ///
-    /// Those of [`Repository::object`].
+    /// - `Ambiguous` if several rules read the name, unless `core.warnAmbiguousRefs` is unset. git
+    ///   prints no name then.
+    /// - Those of [`Repository::object`].
     pub fn reference_of(&mut self, text: &[u8]) -> Result<Option<Vec<u8, A>>, Refusal> {
-        let (_, reference) = self.read(text, Wanted::Any)?;
-        match reference {
-            Some(names) => Ok(Some(names.target)),
-            None => Ok(None),
+        let was_quiet = self.is_quiet;
+        self.is_quiet = true;
+        let found = self.read(text, Wanted::Any);
+        self.is_quiet = was_quiet;
+        match found? {
+            (_, Some(names)) if names.is_ambiguous && self.warns => Err(Refusal::Ambiguous),
+            (_, Some(names)) => Ok(Some(names.target)),
+            _ => Ok(None),
         }
     }
 

@@ -198,6 +198,7 @@ impl<F: Folders + Drop, A: Allocator + Copy> Repository<F, A> {
                     written: name.as_slice().to_vec(self.alloc)?,
                     full: name,
                     target: reference.name,
+                    is_ambiguous: false,
                 }),
             }),
             None => Err(Refusal::Unknown),
@@ -210,10 +211,11 @@ impl<F: Folders + Drop, A: Allocator + Copy> Repository<F, A> {
         names: &Names<A>,
         kind: SiblingBranch,
     ) -> Result<Named<A>, Refusal> {
-        let short = names.target.strip_prefix(b"refs/heads/".as_slice());
-        if names.written.as_slice() == b"HEAD".as_slice()
-            || short == Some(names.written.as_slice())
-        {
+        let written = names.written.as_slice();
+        if written == b"HEAD".as_slice() || written == b"@".as_slice() {
+            return self.sibling_here(kind);
+        }
+        if names.target.strip_prefix(b"refs/heads/".as_slice()) == Some(written) {
             return self.sibling(&names.target, kind);
         }
         self.say(b"fatal: no such branch: '", &names.written, b"'")?;
