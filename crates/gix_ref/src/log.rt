@@ -267,7 +267,7 @@ impl<F: Folders + Drop, A: Allocator + Copy> References<F, A> {
     }
 
     /// Reads a reflog.
-    fn read_log(&self, name: &[u8]) -> Result<Option<Reflog<A>>, Fault> {
+    pub(crate) fn read_log(&self, name: &[u8]) -> Result<Option<Reflog<A>>, Fault> {
         let path = self.path(b"logs/", name)?;
         match read(self.alloc, &self.files, &path, name)? {
             Some(bytes) => Ok(Some(Reflog::parse(self.alloc, &bytes)?)),
