@@ -23,16 +23,12 @@ pub(crate) enum Wanted {
     Treeish,
 }
 
-/// Holds the names of a reference.
+/// Is the reference that a revision names.
 #[derive(Drop)]
-pub(crate) struct Names<A: Allocator> {
-    /// The name as it was written.
-    pub(crate) written: Vec<u8, A>,
-    /// The full name by the rule that read it.
-    pub(crate) full: Vec<u8, A>,
+pub(crate) struct NamedReference<A: Allocator> {
     /// The full name at the end of symbolic references.
     pub(crate) target: Vec<u8, A>,
-    /// Whether a further rule reads the name, too.
+    /// Whether a further rule reads the short name, too.
     pub(crate) is_ambiguous: bool,
 }
 
@@ -40,7 +36,32 @@ pub(crate) struct Names<A: Allocator> {
 #[derive(Drop)]
 pub(crate) struct Named<A: Allocator> {
     pub(crate) id: ObjectId,
-    pub(crate) reference: Option<Names<A>>,
+    pub(crate) reference: Option<NamedReference<A>>,
+}
+
+/// Returns what was read by the rules of short names.
+pub(crate) fn read<A: Allocator>(named: gix_ref::Named<A>) -> Named<A> {
+    let gix_ref::Named {
+        name: _,
+        reference,
+        is_ambiguous,
+    } = named;
+    Named {
+        id: reference.id,
+        reference: Some(NamedReference {
+            target: reference.name,
+            is_ambiguous,
+        }),
+    }
+}
+
+/// Returns the name that `@` is short for, and any other name as it is.
+pub(crate) fn unabbreviated(name: &[u8]) -> &[u8] {
+    if name == b"@".as_slice() {
+        b"HEAD"
+    } else {
+        name
+    }
 }
 
 /// Returns the digits behind the last `-g` of a name that `git describe` may have printed.
@@ -106,32 +127,19 @@ impl<F: Folders + Drop, A: Allocator + Copy> Repository<F, A> {
         Ok(())
     }
 
-    /// Returns the reference with a short name. `@` is short for `HEAD`.
+    /// Returns the reference with a short name, and warns if the name is ambiguous.
     fn reference(&mut self, name: &[u8]) -> Result<Option<Named<A>>, Refusal> {
-        let short = if name == b"@".as_slice() {
-            b"HEAD".as_slice()
-        } else {
-            name
-        };
-        let Some(named) = self.references.short(short)? else {
+        let Some(named) = self.references.short(unabbreviated(name))? else {
             return Ok(None);
         };
         if named.is_ambiguous || self.is_one_id(name)? {
             self.warn_ambiguous(name)?;
         }
-        Ok(Some(Named {
-            id: named.reference.id,
-            reference: Some(Names {
-                written: name.to_vec(self.alloc)?,
-                full: named.name,
-                target: named.reference.name,
-                is_ambiguous: named.is_ambiguous,
-            }),
-        }))
+        Ok(Some(read(named)))
     }
 
     /// Returns whether exactly one object begins with the digits.
-    fn is_one_id(&mut self, digits: &[u8]) -> Result<bool, Refusal> {
+    pub(crate) fn is_one_id(&mut self, digits: &[u8]) -> Result<bool, Refusal> {
         let Ok(prefix) = Prefix::from_hex(digits) else {
             return Ok(false);
         };
