@@ -220,19 +220,22 @@ impl<F: Folders + Drop, A: Allocator + Copy> References<F, A> {
         }
     }
 
-    /// Reads all files of a folder, and adds its folders.
+    /// Reads the files of a folder that may have a prefix, and adds its folders that may.
     fn read_folder(
         &mut self,
         items: &mut Items<A>,
         folders: &mut Vec<Vec<u8, A>, A>,
         folder: &[u8],
+        prefix: &[u8],
     ) -> Result<(), Fault> {
         let names = self.names_of(folder)?;
         for entry in names.split(|b| *b == 0) {
             if !is_hidden(entry) {
                 let mut name = folder.to_vec(self.alloc)?;
                 name.extend_from_slice(entry)?;
-                self.read_entry(items, folders, &name)?;
+                if name.starts_with(prefix) || prefix.starts_with(&name) {
+                    self.read_entry(items, folders, &name)?;
+                }
             }
         }
         Ok(())
@@ -260,7 +263,7 @@ impl<F: Folders + Drop, A: Allocator + Copy> References<F, A> {
             let Some(folder) = folders.pop() else {
                 break;
             };
-            self.read_folder(items, &mut folders, &folder)?;
+            self.read_folder(items, &mut folders, &folder, prefix)?;
         }
         Ok(())
     }
