@@ -128,6 +128,12 @@ impl<F: Folders + Drop, A: Allocator + Copy> Repository<F, A> {
         }
     }
 
+    /// Returns whether a remote says itself what is pushed to it.
+    fn says_push(&self, remote: &[u8]) -> Result<bool, Refusal> {
+        let refspecs = self.settings.remote(self.alloc, remote, b"push")?;
+        Ok(!refspecs.is_empty() || self.setting(b"remote", Some(remote), b"mirror").is_some())
+    }
+
     /// Returns the branch that a branch is pushed to, as its remote's settings `push` say.
     fn pushed_by_refspec(
         &self,
@@ -135,31 +141,40 @@ impl<F: Folders + Drop, A: Allocator + Copy> Repository<F, A> {
         branch: &[u8],
     ) -> Result<Option<Vec<u8, A>>, Refusal> {
         match self.mapped_by(remote, b"push", branch)? {
-            Some(mapped) => self.tracking(remote, &mapped),
+            Some(mapped) => self.mapped_by(remote, b"fetch", &mapped),
             None => Ok(None),
         }
     }
 
-    /// Returns the branch that a branch is pushed to (git-config, `push.default`).
+    /// Returns the branch that a branch is pushed to.
     fn pushed(&self, branch: &[u8], short: &[u8]) -> Result<Option<Vec<u8, A>>, Refusal> {
         let remote = self.push_remote(short);
-        if let Some(pushed) = self.pushed_by_refspec(remote, branch)? {
-            return Ok(Some(pushed));
+        if self.says_push(remote)? {
+            self.pushed_by_refspec(remote, branch)
+        } else {
+            self.pushed_by_default(remote, branch, short)
         }
-        let how = self.setting(b"push", None, b"default");
-        let how = how.unwrap_or(b"simple");
-        if how == b"nothing".as_slice() {
-            return Ok(None);
-        }
+    }
+
+    /// Returns the branch that a branch is pushed to (git-config, `push.default`).
+    fn pushed_by_default(
+        &self,
+        remote: &[u8],
+        branch: &[u8],
+        short: &[u8],
+    ) -> Result<Option<Vec<u8, A>>, Refusal> {
+        let how = self.setting(b"push", None, b"default").unwrap_or(b"simple");
         if how == b"upstream".as_slice() || how == b"tracking".as_slice() {
             return self.upstream(short);
         }
-        let own = self.tracking(remote, branch)?;
-        if how != b"simple".as_slice() {
+        let own = self.mapped_by(remote, b"fetch", branch)?;
+        if how == b"current".as_slice() || how == b"matching".as_slice() {
             return Ok(own);
         }
-        let upstream = self.upstream(short)?;
-        Ok(if are_same(&upstream, &own) { own } else { None })
+        if how == b"simple".as_slice() && are_same(&self.upstream(short)?, &own) {
+            return Ok(own);
+        }
+        Ok(None)
     }
 
     /// Returns the full name of the sibling of a branch, whose short name is `short`.
@@ -203,7 +218,11 @@ impl<F: Folders + Drop, A: Allocator + Copy> Repository<F, A> {
     fn has_branch(&mut self, short: &[u8]) -> Result<bool, Refusal> {
         let mut branch = b"refs/heads/".to_vec(self.alloc)?;
         branch.extend_from_slice(short)?;
-        Ok(self.references.follow(&branch)?.is_some())
+        match self.references.follow(&branch) {
+            Ok(found) => Ok(found.is_some()),
+            Err(gix_ref::Error::Broken(_) | gix_ref::Error::TooDeep(_)) => Ok(false),
+            Err(error) => Err(Refusal::from(error)),
+        }
     }
 
     /// Returns what the sibling of a branch stands for, whose short name is `short`.
