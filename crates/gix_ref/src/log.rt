@@ -1,5 +1,9 @@
 //! Reads reflogs (git-reflog; gitrepository-layout, "logs").
 
+ghost use Rattle.std.specs.Prelude.{◌≡◌};
+ghost use Rattle.std.specs.Option.{option_map};
+ghost use Rattle.gix_ref.specs.Changes.{is_null, last_old, last_new, changes_ago};
+
 use crate::error::{Error, Fault};
 use crate::files::read;
 use crate::lines::{cut, id_of};
@@ -157,7 +161,9 @@ impl<A: Allocator + Copy> Reflog<A> {
 }
 
 /// Tells whether an id has zeros only.
-fn is_null(id: &ObjectId) -> bool {
+fn is_null(id: &ObjectId) -> bool
+    ensures { result ≡ is_null id.now.0 }
+{
     for byte in id.as_bytes() {
         if *byte != 0 {
             return false;
@@ -166,12 +172,31 @@ fn is_null(id: &ObjectId) -> bool {
     true
 }
 
-/// Returns the new id of an entry.
-fn new_of<A: Allocator>(entry: Option<&LogEntry<A>>) -> Option<ObjectId> {
-    match entry {
-        Some(entry) => Some(entry.new),
+/// Returns the new id of the last entry.
+fn last_new<A: Allocator>(entries: &[LogEntry<A>]) -> Option<ObjectId>
+    ensures { option_map (λ id. id.0) result ≡ last_new entries.now }
+{
+    match entries.split_last() {
+        Some((entry, _)) => Some(entry.new),
         None => None,
     }
+}
+
+/// Returns the old id of the last entry whose old id has not zeros only.
+fn last_old<A: Allocator>(entries: &[LogEntry<A>]) -> Option<ObjectId>
+    ensures { option_map (λ id. id.0) result ≡ last_old entries.now }
+{
+    let mut rest = entries;
+    for _ in 0..entries.len() {
+        let Some((entry, front)) = rest.split_last() else {
+            return None;
+        };
+        if !is_null(&entry.old) {
+            return Some(entry.old);
+        }
+        rest = front;
+    }
+    None
 }
 
 /// Returns the old id of an entry, unless it has zeros only.
@@ -188,21 +213,17 @@ impl<A: Allocator> Reflog<A> {
     /// That is the new id of the newest entry if `n` is 0. Otherwise it is the old id of the `n`th
     /// newest entry, or of the next older one whose old id has not zeros only, as in git. It is
     /// `None` if there is no such entry.
-    pub fn nth(&self, n: usize) -> Option<ObjectId> {
+    pub fn nth(&self, n: usize) -> Option<ObjectId>
+        ensures { option_map (λ id. id.0) result ≡ changes_ago n self.now.entries.items }
+    {
+        let entries = self.entries.as_slice();
         match n.checked_sub(1) {
-            None => new_of(self.entries.last()),
-            Some(before) => self.old_among(self.entries.len().saturating_sub(before)),
-        }
-    }
-
-    /// Returns the old id of the last of the first entries whose old id has not zeros only.
-    fn old_among(&self, count: usize) -> Option<ObjectId> {
-        for i in 0..count {
-            if let Some(old) = old_of(self.entries.get(count - 1 - i)) {
-                return Some(old);
+            None => last_new(entries),
+            Some(before) => {
+                let (older, _) = entries.split_at(entries.len().saturating_sub(before));
+                last_old(older)
             }
         }
-        None
     }
 
     /// Returns the id that the reference had at a date (gitrevisions, `<refname>@{<date>}`).
