@@ -2,3 +2,5 @@ pub mod Cut
 pub mod Ids
 pub mod Trims
 pub mod Knows
+pub mod Changes
+pub mod Leads

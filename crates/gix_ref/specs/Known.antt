@@ -2,7 +2,6 @@
 use Rattle.std.specs.Prelude.{◌≡◌, ℕ, List, [], ◌∷◌, ◌++◌, ◌⊎◌, cond, Option, None, Some, nat_eq}
 use Rattle.std.specs.Option.{option_map, unwrap_or}
 use Rattle.std.specs.Cmp.Lexicographic.{pointwise}
-use Rattle.std.specs.declared.vec.Vec.{Vec}
 use Rattle.gix_ref.specs.Loose.{Says, loose_says}
 use Rattle.gix_ref.specs.Packed.{packed_says}
 use Rattle.gix_ref.specs.declared.store.Reading.{Reading}

@@ -5,4 +5,6 @@ pub mod Packed
 pub mod Said
 pub mod Known
 pub mod Errors
+pub mod Leads
 pub mod Found
+pub mod Changes

@@ -1,5 +1,5 @@
 -- What the file of a loose reference says (gitrepository-layout, "refs"; git-symbolic-ref).
-use Rattle.std.specs.Prelude.{ℕ, List, [], ◌∷◌, Bool, true, ◌==◌, ◌||◌, ◌&&◌, cond, Option, None, Some, length, take, drop, codes, nat_eq}
+use Rattle.std.specs.Prelude.{ℕ, List, [], ◌∷◌, Bool, true, ◌==◌, ◌||◌, cond, Option, None, Some, take, drop, codes, nat_eq}
 use Rattle.std.specs.Cmp.Lexicographic.{pointwise}
 use Rattle.gix_ref.specs.Lines.{id_of}
 use Rattle.gix_ref.specs.Names.{is_name}

@@ -1,6 +1,5 @@
 -- What a file `packed-refs` says (git-pack-refs; gitrepository-layout, "packed-refs").
 use Rattle.std.specs.Prelude.{ℕ, List, [], ◌∷◌, Bool, false, ◌==◌, ◌&&◌, cond, Option, None, Some, take, drop, codes, nat_eq}
-use Rattle.std.specs.Option.{option_map}
 use Rattle.std.specs.Cmp.Lexicographic.{pointwise}
 use Rattle.gix_ref.specs.Lines.{lines, id_of}
 use Rattle.gix_ref.specs.Loose.{Says, HasId}

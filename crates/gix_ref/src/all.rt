@@ -1,7 +1,7 @@
 //! Lists references (git-for-each-ref).
 
 use crate::error::{Error, Fault};
-use crate::files::fault_of;
+use crate::files::{ensure_missing, fault_of, read_listed};
 use crate::find::{Led, MOST_READ, Reference};
 use crate::lines::cut;
 use crate::loose::{self, Said};
@@ -9,7 +9,7 @@ use crate::name::is_full_name;
 use crate::packed::{peeled_after, record};
 use crate::store::References;
 use gix_base::hash::ObjectId;
-use gix_odb::files::Folders;
+use gix_odb::files::{FileError, Folders};
 use std::alloc::{Allocator, Global};
 
 /// Is a reference of a list.
@@ -188,7 +188,8 @@ impl<F: Folders + Drop, A: Allocator + Copy> References<F, A> {
         folders: &mut Vec<Vec<u8, A>, A>,
         name: &[u8],
     ) -> Result<(), Fault> {
-        match self.read_file(name) {
+        let path = self.path(b"", name)?;
+        match read_listed(self.alloc, &self.files, &path) {
             Ok(Some(content)) => self.keep(name, Some(content)),
             Ok(None) => {
                 let mut folder = name.to_vec(self.alloc)?;
@@ -198,10 +199,10 @@ impl<F: Folders + Drop, A: Allocator + Copy> References<F, A> {
                 }
                 Ok(())
             }
-            Err(Fault::NotUtf8(_)) => {
+            Err(FileError::NotUtf8) => {
                 items.add(self.alloc, name, Outcome::LeftOut(Why::NotUtf8))
             }
-            Err(error) => Err(error),
+            Err(error) => Err(fault_of(name, error)),
         }
     }
 
@@ -211,23 +212,30 @@ impl<F: Folders + Drop, A: Allocator + Copy> References<F, A> {
         let mut names = Vec::new(self.alloc);
         match self.files.names(&path, &mut names) {
             Ok(()) => Ok(names),
+            Err(FileError::NotUtf8) => {
+                ensure_missing(self.alloc, &self.files, &path, folder)?;
+                Ok(names)
+            }
             Err(error) => Err(fault_of(folder, error)),
         }
     }
 
-    /// Reads all files of a folder, and adds its folders.
+    /// Reads the files of a folder that may have a prefix, and adds its folders that may.
     fn read_folder(
         &mut self,
         items: &mut Items<A>,
         folders: &mut Vec<Vec<u8, A>, A>,
         folder: &[u8],
+        prefix: &[u8],
     ) -> Result<(), Fault> {
         let names = self.names_of(folder)?;
         for entry in names.split(|b| *b == 0) {
             if !is_hidden(entry) {
                 let mut name = folder.to_vec(self.alloc)?;
                 name.extend_from_slice(entry)?;
-                self.read_entry(items, folders, &name)?;
+                if name.starts_with(prefix) || prefix.starts_with(&name) {
+                    self.read_entry(items, folders, &name)?;
+                }
             }
         }
         Ok(())
@@ -255,7 +263,7 @@ impl<F: Folders + Drop, A: Allocator + Copy> References<F, A> {
             let Some(folder) = folders.pop() else {
                 break;
             };
-            self.read_folder(items, &mut folders, &folder)?;
+            self.read_folder(items, &mut folders, &folder, prefix)?;
         }
         Ok(())
     }

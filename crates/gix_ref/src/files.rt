@@ -1,6 +1,7 @@
 //! Reads files whole.
 
 use crate::error::{ErrorName, Fault};
+use crate::lines::cut;
 use gix_odb::files::{FileError, Folders, Opened};
 use std::alloc::Allocator;
 use std::io::ErrorKind;
@@ -37,13 +38,74 @@ fn read_whole<O: Opened, A: Allocator>(file: &O, bytes: &mut Vec<u8, A>) -> Resu
     Ok(())
 }
 
-/// Returns the bytes of a file; `None` if there is no such file. Errors have this name.
-pub(crate) fn read<F: Folders, A: Allocator + Copy>(
+/// Returns the folder and the name of the first part of a path that is not UTF-8.
+fn first_odd(path: &[u8], valid: usize) -> (&[u8], &[u8]) {
+    let front = path.get(..valid).unwrap_or(&[]);
+    let begin = match front.iter().rposition(|b| *b == b'/') {
+        Some(slash) => slash.saturating_add(1),
+        None => 0,
+    };
+    let folder = path.get(..begin).unwrap_or(&[]);
+    let rest = path.get(begin..).unwrap_or(&[]);
+    (folder, cut(rest, b'/').0)
+}
+
+/// Tells whether a folder has an entry of this name. The current folder has an empty path.
+fn has_entry<F: Folders, A: Allocator>(
+    alloc: A,
+    files: &F,
+    folder: &[u8],
+    entry: &[u8],
+) -> Result<bool, FileError> {
+    let mut names = Vec::new(alloc);
+    let folder = if folder.is_empty() {
+        b".".as_slice()
+    } else {
+        folder
+    };
+    files.names(folder, &mut names)?;
+    Ok(names.split(|b| *b == 0).any(|name| name == entry))
+}
+
+/// Tells whether there may be a file of this path, which is not UTF-8 and was not opened.
+///
+/// There is none if the folder before the first name that is not UTF-8 does not list that name.
+fn may_be_there<F: Folders, A: Allocator>(
+    alloc: A,
+    files: &F,
+    path: &[u8],
+) -> Result<bool, FileError> {
+    let valid = match str::from_utf8(path) {
+        Ok(_) => return Ok(true),
+        Err(error) => error.valid_up_to(),
+    };
+    let (folder, entry) = first_odd(path, valid);
+    match has_entry(alloc, files, folder, entry) {
+        Err(error) if is_no_file(error) => Ok(false),
+        found => found,
+    }
+}
+
+/// Fails if there may be a file of this path, which is not UTF-8 and was not opened.
+pub(crate) fn ensure_missing<F: Folders, A: Allocator>(
     alloc: A,
     files: &F,
     path: &[u8],
     name: &[u8],
-) -> Result<Option<Vec<u8, A>>, Fault> {
+) -> Result<(), Fault> {
+    match may_be_there(alloc, files, path) {
+        Ok(true) => Err(fault_of(name, FileError::NotUtf8)),
+        Ok(false) => Ok(()),
+        Err(error) => Err(fault_of(name, error)),
+    }
+}
+
+/// Returns the bytes of a file, as [`read`] does, but fails if the path is not UTF-8.
+pub(crate) fn read_listed<F: Folders, A: Allocator + Copy>(
+    alloc: A,
+    files: &F,
+    path: &[u8],
+) -> Result<Option<Vec<u8, A>>, FileError> {
     let mut bytes = Vec::new(alloc);
     let read = match files.open(path) {
         Ok(Some(file)) => read_whole(&file, &mut bytes),
@@ -53,6 +115,23 @@ pub(crate) fn read<F: Folders, A: Allocator + Copy>(
     match read {
         Ok(()) => Ok(Some(bytes)),
         Err(error) if is_no_file(error) => Ok(None),
+        Err(error) => Err(error),
+    }
+}
+
+/// Returns the bytes of a file; `None` if there is no such file. Errors have this name.
+pub(crate) fn read<F: Folders, A: Allocator + Copy>(
+    alloc: A,
+    files: &F,
+    path: &[u8],
+    name: &[u8],
+) -> Result<Option<Vec<u8, A>>, Fault> {
+    match read_listed(alloc, files, path) {
+        Ok(read) => Ok(read),
+        Err(FileError::NotUtf8) => {
+            ensure_missing(alloc, files, path, name)?;
+            Ok(None)
+        }
         Err(error) => Err(fault_of(name, error)),
     }
 }

@@ -1,11 +1,12 @@
 //! Finds a reference by its full name, and follows symbolic references.
 
-ghost use Rattle.std.specs.Prelude.{◌≡◌, [], IfOk, Some};
+ghost use Rattle.std.specs.Prelude.{◌≡◌, [], IfOk, IfSome, OnErr, Some};
 ghost use Rattle.std.specs.Option.{option_map, unwrap_or};
 ghost use Rattle.gix_ref.specs.Loose.{loose_says};
 ghost use Rattle.gix_ref.specs.Packed.{packed_says};
 ghost use Rattle.gix_ref.specs.Known.{Known, Grows, known, says};
-ghost use Rattle.gix_ref.specs.Found.{found_says};
+ghost use Rattle.gix_ref.specs.Leads.{leads, name_leads, name_says, Settles};
+ghost use Rattle.gix_ref.specs.Found.{found_says, led_to, answer_says, answer_leads};
 
 use crate::error::{Error, ErrorName, Fault};
 use crate::loose::{self, Said};
@@ -87,7 +88,7 @@ impl<F: Folders + Drop, A: Allocator + Copy> References<F, A> {
     /// Returns what a reference says. Reads its file unless the answer has read it.
     pub(crate) fn look_up(&mut self, name: &[u8]) -> Result<Option<Found<A>>, Fault>
         ensures grows { Grows (known self.old) (known self.new) }
-        ensures found { IfOk result (λ f. (later : Known) → Grows (known self.new) later → says later name.now ≡ option_map found_says f) }
+        ensures found { IfOk result (λ f. Settles (known self.new) (λ k. says k name.now) (option_map found_says f)) }
     {
         self.read_loose(name)?;
         if let Some(content) = self.content(name) {
@@ -98,10 +99,13 @@ impl<F: Folders + Drop, A: Allocator + Copy> References<F, A> {
     }
 
     /// Returns where a reference leads. Reads at most so many references.
-    pub(crate) fn follow_on(&mut self, name: &[u8], most: u32) -> Result<Led<A>, Fault> {
+    pub(crate) fn follow_on(&mut self, name: &[u8], most: u32) -> Result<Led<A>, Fault>
+        ensures { IfOk result (λ l. Settles (known self.new) (λ k. leads most k name.now) (led_to l)) }
+    {
         let mut last = name.to_vec(self.alloc)?;
         for _ in 0..most {
-            match self.look_up(&last)? {
+            let found = self.look_up(&last)?;
+            match found {
                 Some(Found::Id(id, peeled)) => {
                     let name = last;
                     return Ok(Led::Ends(Reference { name, id, peeled }));
@@ -115,7 +119,9 @@ impl<F: Folders + Drop, A: Allocator + Copy> References<F, A> {
     }
 
     /// Returns where the reference with a full name leads. What is no name leads nowhere.
-    pub(crate) fn follow_name(&mut self, name: &[u8]) -> Result<Led<A>, Fault> {
+    pub(crate) fn follow_name(&mut self, name: &[u8]) -> Result<Led<A>, Fault>
+        ensures { IfOk result (λ l. Settles (known self.new) (λ k. name_leads k name.now) (led_to l)) }
+    {
         if is_full_name(name) {
             self.follow_on(name, MOST_READ)
         } else {
@@ -133,7 +139,9 @@ impl<F: Folders + Drop, A: Allocator + Copy> References<F, A> {
     /// - `Broken` if the loose file says neither an id nor the name of a reference.
     /// - `Failed` if a file cannot be read, and `NotUtf8` if the path is not UTF-8.
     /// - `OutOfMemory` if an allocation failed.
-    pub fn find(&mut self, name: &[u8]) -> Result<Option<Target<A>>, Error> {
+    pub fn find(&mut self, name: &[u8]) -> Result<Option<Target<A>>, Error>
+        ensures found { IfSome (answer_says result) (Settles (known self.new) (λ k. name_says k name.now)) }
+    {
         self.begin();
         if !is_full_name(name) {
             return Ok(None);
@@ -155,7 +163,9 @@ impl<F: Folders + Drop, A: Allocator + Copy> References<F, A> {
     ///
     /// - Those of [`References::find`].
     /// - `TooDeep` if the fifth reference is symbolic, too.
-    pub fn follow(&mut self, name: &[u8]) -> Result<Option<Reference<A>>, Error> {
+    pub fn follow(&mut self, name: &[u8]) -> Result<Option<Reference<A>>, Error>
+        ensures followed { IfSome (answer_leads result) (Settles (known self.new) (λ k. name_leads k name.now)) }
+    {
         self.begin();
         match self.follow_name(name) {
             Ok(Led::Ends(reference)) => Ok(Some(reference)),

@@ -32,5 +32,5 @@ pub use error::{Error, ErrorName};
 pub use find::{Reference, Target};
 pub use log::{AtDate, LogEntry, Reflog};
 pub use name::is_full_name;
-pub use short::Named;
+pub use short::{Logged, Named};
 pub use store::References;

@@ -1,5 +1,9 @@
 //! Reads reflogs (git-reflog; gitrepository-layout, "logs").
 
+ghost use Rattle.std.specs.Prelude.{◌≡◌};
+ghost use Rattle.std.specs.Option.{option_map};
+ghost use Rattle.gix_ref.specs.Changes.{is_null, last_old, last_new, changes_ago};
+
 use crate::error::{Error, Fault};
 use crate::files::read;
 use crate::lines::{cut, id_of};
@@ -17,6 +21,8 @@ pub struct LogEntry<A: Allocator = Global> {
     pub new: ObjectId,
     /// When it changed, in seconds since 1970.
     pub seconds: u64,
+    /// The digits of the time zone as one number: 130 for `+0130`.
+    pub zone: i32,
     /// The message, without the line feed.
     pub message: Vec<u8, A>,
 }
@@ -45,6 +51,7 @@ struct Line<'a> {
     old: ObjectId,
     new: ObjectId,
     seconds: u64,
+    zone: i32,
     message: &'a [u8],
 }
 
@@ -65,25 +72,26 @@ fn number(digits: &[u8]) -> Option<u64> {
     Some(value)
 }
 
-/// Returns what comes after a time zone such as `+0100`.
-fn after_zone(text: &[u8]) -> Option<&[u8]> {
-    let (zone, rest) = text.split_at_checked(5)?;
+/// Returns the number that a time zone such as `+0130` says.
+fn zone_of(zone: &[u8]) -> Option<i32> {
     let (sign, digits) = zone.split_first()?;
-    if (*sign == b'+' || *sign == b'-') && digits.iter().all(|b| b.is_ascii_digit()) {
-        Some(rest)
-    } else {
-        None
+    let value = i32::try_from(number(digits)?).ok()?;
+    match *sign {
+        b'+' => Some(value),
+        b'-' => value.checked_neg(),
+        _ => None,
     }
 }
 
-/// Returns the date and the message of what comes after the two ids.
-fn date_and_message(text: &[u8]) -> Option<(u64, &[u8])> {
+/// Returns the date, the time zone and the message of what comes after the two ids.
+fn date_and_message(text: &[u8]) -> Option<(u64, i32, &[u8])> {
     let rest = cut(text, b'>').1?.strip_prefix(b" ")?;
     let (digits, rest) = cut(rest, b' ');
     let seconds = number(digits)?;
-    let message = after_zone(rest?)?;
+    let (zone, message) = rest?.split_at_checked(5)?;
+    let zone = zone_of(zone)?;
     let message = message.strip_prefix(b"\t").unwrap_or(message);
-    (seconds != 0).then_some((seconds, message))
+    (seconds != 0).then_some((seconds, zone, message))
 }
 
 /// Returns the id at the front of a text, and what comes after a blank.
@@ -99,11 +107,12 @@ fn id_and_rest(text: &[u8]) -> Option<(ObjectId, &[u8])> {
 fn line_of(line: &[u8]) -> Option<Line<'_>> {
     let (old, rest) = id_and_rest(line)?;
     let (new, rest) = id_and_rest(rest)?;
-    let (seconds, message) = date_and_message(rest)?;
+    let (seconds, zone, message) = date_and_message(rest)?;
     Some(Line {
         old,
         new,
         seconds,
+        zone,
         message,
     })
 }
@@ -116,6 +125,7 @@ impl<A: Allocator + Copy> Reflog<A> {
                 old,
                 new,
                 seconds,
+                zone,
                 message,
             },
         ) = line_of(line)
@@ -125,6 +135,7 @@ impl<A: Allocator + Copy> Reflog<A> {
                 old,
                 new,
                 seconds,
+                zone,
                 message,
             })?;
         }
@@ -150,7 +161,9 @@ impl<A: Allocator + Copy> Reflog<A> {
 }
 
 /// Tells whether an id has zeros only.
-fn is_null(id: &ObjectId) -> bool {
+fn is_null(id: &ObjectId) -> bool
+    ensures { result ≡ is_null id.now.0 }
+{
     for byte in id.as_bytes() {
         if *byte != 0 {
             return false;
@@ -159,12 +172,31 @@ fn is_null(id: &ObjectId) -> bool {
     true
 }
 
-/// Returns the new id of an entry.
-fn new_of<A: Allocator>(entry: Option<&LogEntry<A>>) -> Option<ObjectId> {
-    match entry {
-        Some(entry) => Some(entry.new),
+/// Returns the new id of the last entry.
+fn last_new<A: Allocator>(entries: &[LogEntry<A>]) -> Option<ObjectId>
+    ensures { option_map (λ id. id.0) result ≡ last_new entries.now }
+{
+    match entries.split_last() {
+        Some((entry, _)) => Some(entry.new),
         None => None,
     }
+}
+
+/// Returns the old id of the last entry whose old id has not zeros only.
+fn last_old<A: Allocator>(entries: &[LogEntry<A>]) -> Option<ObjectId>
+    ensures { option_map (λ id. id.0) result ≡ last_old entries.now }
+{
+    let mut rest = entries;
+    for _ in 0..entries.len() {
+        let Some((entry, front)) = rest.split_last() else {
+            return None;
+        };
+        if !is_null(&entry.old) {
+            return Some(entry.old);
+        }
+        rest = front;
+    }
+    None
 }
 
 /// Returns the old id of an entry, unless it has zeros only.
@@ -181,21 +213,17 @@ impl<A: Allocator> Reflog<A> {
     /// That is the new id of the newest entry if `n` is 0. Otherwise it is the old id of the `n`th
     /// newest entry, or of the next older one whose old id has not zeros only, as in git. It is
     /// `None` if there is no such entry.
-    pub fn nth(&self, n: usize) -> Option<ObjectId> {
+    pub fn nth(&self, n: usize) -> Option<ObjectId>
+        ensures { option_map (λ id. id.0) result ≡ changes_ago n self.now.entries.items }
+    {
+        let entries = self.entries.as_slice();
         match n.checked_sub(1) {
-            None => new_of(self.entries.last()),
-            Some(before) => self.old_among(self.entries.len().saturating_sub(before)),
-        }
-    }
-
-    /// Returns the old id of the last of the first entries whose old id has not zeros only.
-    fn old_among(&self, count: usize) -> Option<ObjectId> {
-        for i in 0..count {
-            if let Some(old) = old_of(self.entries.get(count - 1 - i)) {
-                return Some(old);
+            None => last_new(entries),
+            Some(before) => {
+                let (older, _) = entries.split_at(entries.len().saturating_sub(before));
+                last_old(older)
             }
         }
-        None
     }
 
     /// Returns the id that the reference had at a date (gitrevisions, `<refname>@{<date>}`).
@@ -260,7 +288,7 @@ impl<F: Folders + Drop, A: Allocator + Copy> References<F, A> {
     }
 
     /// Reads a reflog.
-    fn read_log(&self, name: &[u8]) -> Result<Option<Reflog<A>>, Fault> {
+    pub(crate) fn read_log(&self, name: &[u8]) -> Result<Option<Reflog<A>>, Fault> {
         let path = self.path(b"logs/", name)?;
         match read(self.alloc, &self.files, &path, name)? {
             Some(bytes) => Ok(Some(Reflog::parse(self.alloc, &bytes)?)),

@@ -2,7 +2,9 @@
 
 use crate::error::{Error, Fault};
 use crate::find::{Led, Reference};
+use crate::log::Reflog;
 use crate::store::References;
+use gix_base::hash::ObjectId;
 use gix_odb::files::Folders;
 use std::alloc::{AllocError, Allocator, Global};
 
@@ -49,6 +51,18 @@ pub struct Named<A: Allocator = Global> {
     /// The reference to which it leads.
     pub reference: Reference<A>,
     /// Whether a further rule has a reference, too.
+    pub is_ambiguous: bool,
+}
+
+/// Is the reference with a reflog that a short name stands for.
+#[derive(Drop)]
+pub struct Logged<A: Allocator = Global> {
+    /// The full name of the reference that has the reflog.
+    pub name: Vec<u8, A>,
+    /// What it stands for now.
+    pub id: ObjectId,
+    pub reflog: Reflog<A>,
+    /// Whether a further rule has a reference with a reflog, too.
     pub is_ambiguous: bool,
 }
 
@@ -120,6 +134,72 @@ impl<F: Folders + Drop, A: Allocator + Copy> References<F, A> {
     pub fn short(&mut self, short: &[u8]) -> Result<Option<Named<A>>, Error> {
         self.begin();
         match self.first_read(short) {
+            Ok(found) => Ok(found),
+            Err(fault) => Err(fault.error()),
+        }
+    }
+
+    /// Returns the reflog of the reference with a full name, or else of the one to which it leads.
+    fn log_of(&self, name: Vec<u8, A>, led: Reference<A>) -> Result<Option<Logged<A>>, Fault> {
+        let id = led.id;
+        let (name, reflog) = match self.read_log(&name)? {
+            Some(reflog) => (name, reflog),
+            None => match self.read_log(&led.name)? {
+                Some(reflog) => (led.name, reflog),
+                None => return Ok(None),
+            },
+        };
+        Ok(Some(Logged {
+            name,
+            id,
+            reflog,
+            is_ambiguous: false,
+        }))
+    }
+
+    /// Returns the reference with a reflog that a rule reads.
+    fn logged_by(&mut self, rule: &Rule, short: &[u8]) -> Result<Option<Logged<A>>, Fault> {
+        let name = full_name(self.alloc, rule, short)?;
+        match self.sound(&name)? {
+            Some(reference) => self.log_of(name, reference),
+            None => Ok(None),
+        }
+    }
+
+    /// Tells whether one of the rules reads a short name as a reference with a reflog.
+    fn is_logged_by(&mut self, rules: &[Rule], short: &[u8]) -> Result<bool, Fault> {
+        for rule in rules {
+            if self.logged_by(rule, short)?.is_some() {
+                return Ok(true);
+            }
+        }
+        Ok(false)
+    }
+
+    /// Returns the reference with a reflog that the first rule reads.
+    fn first_logged(&mut self, short: &[u8]) -> Result<Option<Logged<A>>, Fault> {
+        for (i, rule) in RULES.iter().enumerate() {
+            if let Some(mut logged) = self.logged_by(rule, short)? {
+                let others = RULES.get(i.saturating_add(1)..).unwrap_or(&[]);
+                logged.is_ambiguous = self.is_logged_by(others, short)?;
+                return Ok(Some(logged));
+            }
+        }
+        Ok(None)
+    }
+
+    /// Returns the reference with a reflog that a short name stands for; `None` if there is none.
+    ///
+    /// As in git, a reference without a reflog is passed over, and a further rule may win
+    /// (gitrevisions, `<refname>@{<n>}`). If a symbolic reference has none, the one to which it
+    /// leads may have one.
+    ///
+    /// # Errors
+    ///
+    /// Those of [`References::short`].
+    pub fn short_logged(&mut self, short: &[u8]) -> Result<Option<Logged<A>>, Error> {
+        self.begin();
+        match self.first_logged(short) {
             Ok(found) => Ok(found),
             Err(fault) => Err(fault.error()),
         }

@@ -1,5 +1,6 @@
 //! Lists the objects that ambiguous digits may mean, as git does in a hint.
 
+use crate::dates::{offset_of, push_date};
 use crate::error::Refusal;
 use crate::names::Wanted;
 use crate::repository::Repository;
@@ -7,9 +8,7 @@ use gix_odb::Object;
 use gix_odb::files::Folders;
 use gix_revision::hash::{ObjectId, Prefix};
 use gix_revision::object::Kind;
-use jiff_core::{Offset, Timestamp};
 use std::alloc::Allocator;
-use std::io::Write;
 
 /// How many objects are listed at most.
 const MOST_LISTED: usize = 1024;
@@ -45,37 +44,12 @@ fn number(text: &[u8]) -> Option<i64> {
     text.parse::<i64>().ok()
 }
 
-/// Returns how many seconds a time zone such as `+0130` is ahead of UTC.
-fn offset_of(zone: &[u8]) -> Option<i64> {
-    let number = number(zone)?;
-    let minutes = (number / 100).checked_mul(60)?.checked_add(number % 100)?;
-    minutes.checked_mul(60)
-}
-
 /// Returns the seconds and the offset at the end of the line of an author.
 fn moment(line: &[u8]) -> Option<(i64, i64)> {
     let mut fields = line.rsplit(|b| *b == b' ');
     let zone = fields.next()?;
     let seconds = fields.next()?;
-    Some((number(seconds)?, offset_of(zone)?))
-}
-
-/// Adds a date in the form 2005-04-07. A date that has none is that of the epoch, as in git.
-fn push_date<A: Allocator>(to: &mut Vec<u8, A>, seconds: i64, offset: i64) -> Result<(), Refusal> {
-    let (year, month, day) = date_of(seconds, offset).unwrap_or((1970, 1, 1));
-    match write!(to, "{year:04}-{month:02}-{day:02}") {
-        Ok(()) => Ok(()),
-        Err(_) => Err(Refusal::OutOfMemory),
-    }
-}
-
-/// Returns the year, month and day of a moment in a time zone.
-fn date_of(seconds: i64, offset: i64) -> Option<(i16, u8, u8)> {
-    let nanoseconds = i128::from(seconds).checked_mul(1_000_000_000)?;
-    let timestamp = Timestamp::from_nanosecond(nanoseconds).ok()?;
-    let offset = Offset::from_seconds(offset).ok()?;
-    let date = offset.to_datetime(timestamp).date;
-    Some((date.year, date.month, date.day))
+    Some((number(seconds)?, offset_of(number(zone)?)?))
 }
 
 /// Adds the subject of a commit: the first paragraph of its message, on one line.

@@ -15,6 +15,7 @@
 
 mod candidates;
 mod commits;
+mod dates;
 mod digits;
 mod error;
 mod messages;

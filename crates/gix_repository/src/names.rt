@@ -23,22 +23,45 @@ pub(crate) enum Wanted {
     Treeish,
 }
 
-/// Holds the names of a reference.
+/// Is the reference that a revision names.
 #[derive(Drop)]
-pub(crate) struct Names<A: Allocator> {
-    /// The name as it was written.
-    pub(crate) written: Vec<u8, A>,
-    /// The full name by the rule that read it.
-    pub(crate) full: Vec<u8, A>,
+pub(crate) struct NamedReference<A: Allocator> {
     /// The full name at the end of symbolic references.
     pub(crate) target: Vec<u8, A>,
+    /// Whether a further rule reads the short name, too.
+    pub(crate) is_ambiguous: bool,
 }
 
 /// Holds the object that a name stands for, and the names of the reference if it is one.
 #[derive(Drop)]
 pub(crate) struct Named<A: Allocator> {
     pub(crate) id: ObjectId,
-    pub(crate) reference: Option<Names<A>>,
+    pub(crate) reference: Option<NamedReference<A>>,
+}
+
+/// Returns what was read by the rules of short names.
+pub(crate) fn read<A: Allocator>(named: gix_ref::Named<A>) -> Named<A> {
+    let gix_ref::Named {
+        name: _,
+        reference,
+        is_ambiguous,
+    } = named;
+    Named {
+        id: reference.id,
+        reference: Some(NamedReference {
+            target: reference.name,
+            is_ambiguous,
+        }),
+    }
+}
+
+/// Returns the name that `@` is short for, and any other name as it is.
+pub(crate) fn unabbreviated(name: &[u8]) -> &[u8] {
+    if name == b"@".as_slice() {
+        b"HEAD"
+    } else {
+        name
+    }
 }
 
 /// Returns the digits behind the last `-g` of a name that `git describe` may have printed.
@@ -54,7 +77,8 @@ fn described_digits(name: &[u8]) -> Option<&[u8]> {
 
 impl<F: Folders + Drop, A: Allocator + Copy> Repository<F, A> {
     /// Returns the object that a name stands for: an id, a reference, the output of `git describe`,
-    /// or an abbreviated object name. A name comes before digits, but not before all 40.
+    /// or an abbreviated object name. A name comes before digits, but not before all 40. `@` is
+    /// short for `HEAD`.
     ///
     /// Of several objects with the same digits the one is meant that is `wanted`.
     pub(crate) fn look_up(&mut self, name: &[u8], wanted: Wanted) -> Result<Named<A>, Refusal> {
@@ -103,26 +127,19 @@ impl<F: Folders + Drop, A: Allocator + Copy> Repository<F, A> {
         Ok(())
     }
 
-    /// Returns the reference with a short name.
+    /// Returns the reference with a short name, and warns if the name is ambiguous.
     fn reference(&mut self, name: &[u8]) -> Result<Option<Named<A>>, Refusal> {
-        let Some(named) = self.references.short(name)? else {
+        let Some(named) = self.references.short(unabbreviated(name))? else {
             return Ok(None);
         };
         if named.is_ambiguous || self.is_one_id(name)? {
             self.warn_ambiguous(name)?;
         }
-        Ok(Some(Named {
-            id: named.reference.id,
-            reference: Some(Names {
-                written: name.to_vec(self.alloc)?,
-                full: named.name,
-                target: named.reference.name,
-            }),
-        }))
+        Ok(Some(read(named)))
     }
 
     /// Returns whether exactly one object begins with the digits.
-    fn is_one_id(&mut self, digits: &[u8]) -> Result<bool, Refusal> {
+    pub(crate) fn is_one_id(&mut self, digits: &[u8]) -> Result<bool, Refusal> {
         let Ok(prefix) = Prefix::from_hex(digits) else {
             return Ok(false);
         };
@@ -137,6 +154,7 @@ impl<F: Folders + Drop, A: Allocator + Copy> Repository<F, A> {
     ///
     /// - `Unknown` if none does, or these are not at least four digits.
     /// - `Ambiguous` if more than one does, and not exactly one of them is wanted.
+    /// - `Object` if it has to be known which one is wanted, and an object was not read.
     fn completed(&mut self, digits: &[u8], wanted: Wanted) -> Result<ObjectId, Refusal> {
         let Ok(prefix) = Prefix::from_hex(digits) else {
             return Err(Refusal::Unknown);
@@ -170,13 +188,12 @@ impl<F: Folders + Drop, A: Allocator + Copy> Repository<F, A> {
         found.ok_or(Refusal::Ambiguous)
     }
 
-    /// Returns whether an object is wanted. One that is not read is not.
+    /// Returns whether an object is wanted.
     pub(crate) fn is_wanted(&mut self, id: ObjectId, wanted: Wanted) -> Result<bool, Refusal> {
-        match self.peeled(id) {
-            Ok((_, Kind::Commit)) if wanted == Wanted::Committish => Ok(true),
-            Ok((peeled, Kind::Commit)) if wanted == Wanted::OnlyCommit => Ok(peeled == id),
-            Ok((_, Kind::Commit | Kind::Tree)) => Ok(wanted == Wanted::Treeish),
-            Err(Refusal::OutOfMemory) => Err(Refusal::OutOfMemory),
+        match self.peeled(id)? {
+            (_, Kind::Commit) if wanted == Wanted::Committish => Ok(true),
+            (peeled, Kind::Commit) if wanted == Wanted::OnlyCommit => Ok(peeled == id),
+            (_, Kind::Commit | Kind::Tree) => Ok(wanted == Wanted::Treeish),
             _ => Ok(wanted == Wanted::Any),
         }
     }

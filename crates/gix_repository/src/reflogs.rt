@@ -1,59 +1,103 @@
 //! Looks names up in reflogs (gitrevisions, `<refname>@{<date>}`, `<refname>@{<n>}`, `@{-<n>}`).
 
+use crate::dates::push_full_date;
 use crate::error::Refusal;
-use crate::names::{Named, Names, Wanted};
+use crate::names::{Named, read, unabbreviated};
 use crate::repository::Repository;
 use gix_odb::files::Folders;
-use gix_ref::{AtDate, Reflog, Target};
+use gix_ref::{AtDate, Logged, Reflog, Target};
 use gix_revision::hash::ObjectId;
 use gix_revision::spec::parse::delegate::ReflogLookup;
 use std::alloc::Allocator;
 use std::io::Write;
 
 impl<F: Folders + Drop, A: Allocator + Copy> Repository<F, A> {
-    /// Returns the full name of the current branch, or `HEAD` if it leads to none.
-    fn current_branch(&mut self) -> Result<Vec<u8, A>, Refusal> {
-        match self.references.find(b"HEAD")? {
-            Some(Target::Symbolic(name)) => Ok(name),
-            _ => Ok(b"HEAD".to_vec(self.alloc)?),
-        }
-    }
-
-    /// Returns the reflog of the first of two names that has one.
-    fn reflog_of(&mut self, name: &[u8], target: &[u8]) -> Result<Option<Reflog<A>>, Refusal> {
-        match self.references.reflog(name)? {
-            Some(reflog) => Ok(Some(reflog)),
-            None => Ok(self.references.reflog(target)?),
-        }
-    }
-
-    /// Returns the object that an entry of a reference's reflog names.
+    /// Returns the object that an entry of a reflog names, by the first rule that reads the name as
+    /// a reference with a reflog.
     ///
     /// # Errors
     ///
-    /// - `Unknown` if there is no reflog.
-    /// - `Fatal` if it has fewer entries.
+    /// - `Unknown` if no rule does.
+    /// - `Fatal` if the reflog has too few entries. The message has the name as it was written.
     pub(crate) fn logged(
         &mut self,
-        names: &Names<A>,
+        written: &[u8],
         query: ReflogLookup,
     ) -> Result<ObjectId, Refusal> {
-        let Some(reflog) = self.reflog_of(&names.full, &names.target)? else {
+        let Some(logged) = self.references.short_logged(unabbreviated(written))? else {
             return Err(Refusal::Unknown);
         };
-        match query {
-            // An empty reflog says nothing, and the newest entry is what the reference says.
-            ReflogLookup::Entry(0) if reflog.entries.is_empty() => self.followed(&names.target),
-            ReflogLookup::Entry(number) => match reflog.nth(number) {
-                Some(id) => Ok(id),
-                None => self.too_short(&names.written, reflog.entries.len()),
+        if logged.is_ambiguous || self.is_one_id(written)? {
+            self.warn_ambiguous(written)?;
+        }
+        self.entry_of(&logged, written, query)
+    }
+
+    /// Returns the object that an entry of the current branch's reflog names.
+    pub(crate) fn logged_here(&mut self, query: ReflogLookup) -> Result<ObjectId, Refusal> {
+        let Some(reference) = self.references.follow(b"HEAD")? else {
+            return Err(Refusal::Unknown);
+        };
+        let reflog = match self.references.reflog(&reference.name)? {
+            Some(reflog) => reflog,
+            None => Reflog {
+                entries: Vec::new(self.alloc),
             },
-            ReflogLookup::Date(time) => self.logged_at(&reflog, names, time.seconds),
+        };
+        let short = reference.name.strip_prefix(b"refs/heads/".as_slice());
+        let written = short.unwrap_or(b"HEAD").to_vec(self.alloc)?;
+        let logged = Logged {
+            name: reference.name,
+            id: reference.id,
+            reflog,
+            is_ambiguous: false,
+        };
+        self.entry_of(&logged, &written, query)
+    }
+
+    /// Returns the object that an entry of a reflog names.
+    fn entry_of(
+        &mut self,
+        logged: &Logged<A>,
+        written: &[u8],
+        query: ReflogLookup,
+    ) -> Result<ObjectId, Refusal> {
+        match query {
+            ReflogLookup::Entry(0) => Ok(logged.reflog.nth(0).unwrap_or(logged.id)),
+            _ if logged.reflog.entries.is_empty() => {
+                self.say(b"fatal: log for ", &logged.name, b" is empty")?;
+                Err(Refusal::Fatal)
+            }
+            ReflogLookup::Entry(number) => match logged.reflog.nth(number) {
+                Some(id) => Ok(id),
+                None => self.too_short(&logged.reflog, written),
+            },
+            ReflogLookup::Date(time) => self.entry_at(logged, written, time.seconds),
+        }
+    }
+
+    /// Returns the object that a reflog with entries names at a date.
+    fn entry_at(
+        &mut self,
+        logged: &Logged<A>,
+        written: &[u8],
+        seconds: i64,
+    ) -> Result<ObjectId, Refusal> {
+        match logged.reflog.at(seconds.max(0).cast_unsigned()) {
+            Some(AtDate::Id(id)) => Ok(id),
+            Some(AtDate::Now) => Ok(logged.id),
+            Some(AtDate::Before(id, _)) if seconds > 0 => {
+                self.warn_of_begin(&logged.reflog, written)?;
+                Ok(id)
+            }
+            // git takes second 0 for the number of an entry here.
+            _ => self.too_short(&logged.reflog, written),
         }
     }
 
     /// Says that a reflog has too few entries.
-    fn too_short(&mut self, written: &[u8], entries: usize) -> Result<ObjectId, Refusal> {
+    fn too_short(&mut self, reflog: &Reflog<A>, written: &[u8]) -> Result<ObjectId, Refusal> {
+        let entries = reflog.entries.len();
         let mut behind = Vec::new(self.alloc);
         if write!(behind, "' only has {entries} entries").is_err() {
             return Err(Refusal::OutOfMemory);
@@ -62,45 +106,15 @@ impl<F: Folders + Drop, A: Allocator + Copy> Repository<F, A> {
         Err(Refusal::Fatal)
     }
 
-    /// Returns what a reference stands for.
-    fn followed(&mut self, name: &[u8]) -> Result<ObjectId, Refusal> {
-        match self.references.follow(name)? {
-            Some(reference) => Ok(reference.id),
-            None => Err(Refusal::Unknown),
-        }
-    }
-
-    /// Returns the object that a reflog names at a date.
-    fn logged_at(
-        &mut self,
-        reflog: &Reflog<A>,
-        names: &Names<A>,
-        seconds: i64,
-    ) -> Result<ObjectId, Refusal> {
-        match reflog.at(seconds.max(0).cast_unsigned()) {
-            Some(AtDate::Id(id)) => Ok(id),
-            Some(AtDate::Before(id, _)) => {
-                self.say(
-                    b"warning: log for '",
-                    &names.written,
-                    b"' does not go back so far",
-                )?;
-                Ok(id)
-            }
-            Some(AtDate::Now) => self.followed(&names.target),
-            None => self.too_short(&names.written, 0),
-        }
-    }
-
-    /// Returns the object that an entry of the current branch's reflog names.
-    pub(crate) fn logged_here(&mut self, query: ReflogLookup) -> Result<ObjectId, Refusal> {
-        let branch = self.current_branch()?;
-        let names = Names {
-            written: Vec::new(self.alloc),
-            full: branch.as_slice().to_vec(self.alloc)?,
-            target: branch,
+    /// Warns of the date of a reflog's first entry, since it does not go back further.
+    fn warn_of_begin(&mut self, reflog: &Reflog<A>, written: &[u8]) -> Result<(), Refusal> {
+        let Some(oldest) = reflog.entries.first() else {
+            return Ok(());
         };
-        self.logged(&names, query)
+        let mut behind = b"' only goes back to ".to_vec(self.alloc)?;
+        push_full_date(&mut behind, oldest.seconds, oldest.zone)?;
+        self.say(b"warning: log for '", written, &behind)?;
+        Ok(())
     }
 
     /// Returns the branch or commit that was checked out before.
@@ -108,28 +122,49 @@ impl<F: Folders + Drop, A: Allocator + Copy> Repository<F, A> {
         let Some(reflog) = self.references.reflog(b"HEAD")? else {
             return Err(Refusal::Unknown);
         };
-        match reflog.checked_out_before(number) {
-            Some(name) => self.look_up(name, Wanted::Committish),
-            None => Err(Refusal::Unknown),
+        let Some(name) = reflog.checked_out_before(number) else {
+            return Err(Refusal::Unknown);
+        };
+        if let Ok(id) = ObjectId::from_hex(name) {
+            return Ok(Named {
+                id,
+                reference: None,
+            });
         }
+        let Some(named) = self.references.short(name)? else {
+            return Err(Refusal::Unknown);
+        };
+        if named.is_ambiguous {
+            self.warn_of_earlier(number)?;
+        }
+        Ok(read(named))
+    }
+
+    /// Warns that the name of the branch that was checked out before is ambiguous.
+    fn warn_of_earlier(&mut self, number: usize) -> Result<(), Refusal> {
+        let mut written = Vec::new(self.alloc);
+        if write!(written, "@{{-{number}}}").is_err() {
+            return Err(Refusal::OutOfMemory);
+        }
+        self.warn_ambiguous(&written)?;
+        Ok(())
     }
 
     /// Returns what a reference stood for, the oldest first, by its reflog; what it stands for if it
-    /// has none.
+    /// has none (git-merge-base, "--fork-point").
     ///
     /// # Errors
     ///
     /// - `Unknown` if the text names no reference.
+    /// - `Ambiguous` if several rules read the name, unless `core.warnAmbiguousRefs` is unset.
+    /// - `Fatal` for a branch that has no sibling. The message is among the messages.
     /// - `Reference` if a file was not read.
     /// - `OutOfMemory` if an allocation failed.
     pub fn logged_ids(&mut self, text: &[u8]) -> Result<Vec<ObjectId, A>, Refusal> {
-        let Some(named) = self.references.short(text)? else {
+        let Some((id, target)) = self.reference_unwarned(text)? else {
             return Err(Refusal::Unknown);
         };
-        let id = named.reference.id;
-        let full = named.name;
-        let target = named.reference.name;
-        match self.reflog_of(&full, &target)? {
+        match self.references.reflog(&target)? {
             Some(reflog) if !reflog.entries.is_empty() => self.ids_of(&reflog),
             _ => self.only(id),
         }
@@ -154,11 +189,15 @@ impl<F: Folders + Drop, A: Allocator + Copy> Repository<F, A> {
         Ok(ids)
     }
 
-    /// Returns the full name of the current branch; `None` if HEAD leads to no branch.
+    /// Returns the full name of the current branch, which may have no commits yet; `None` if HEAD
+    /// leads to no branch.
     pub fn branch(&mut self) -> Result<Option<Vec<u8, A>>, Refusal> {
-        match self.references.find(b"HEAD")? {
-            Some(Target::Symbolic(name)) => Ok(Some(name)),
-            _ => Ok(None),
+        let Some(Target::Symbolic(name)) = self.references.find(b"HEAD")? else {
+            return Ok(None);
+        };
+        match self.references.follow(&name)? {
+            Some(reference) => Ok(Some(reference.name)),
+            None => Ok(Some(name)),
         }
     }
 }

@@ -121,18 +121,6 @@ impl<F: Folders + Drop, A: Allocator + Copy> Repository<F, A> {
         Ok(ids)
     }
 
-    /// Returns the date of a commit, if it was read already.
-    ///
-    /// # Errors
-    ///
-    /// - `OutOfMemory` if an allocation failed.
-    pub fn known_time(&self, id: ObjectId) -> Result<Option<i64>, Refusal> {
-        match self.history.known.commits().get(self.alloc, id)? {
-            Some(commit) => Ok(Some(commit.time)),
-            None => Ok(None),
-        }
-    }
-
     /// Returns what git would have printed on standard error so far.
     pub fn messages(&self) -> &[u8] {
         &self.messages

@@ -1,7 +1,7 @@
 //! Reads revisions (gitrevisions, "Specifying Revisions"): the delegate that answers the parser.
 
 use crate::error::Refusal;
-use crate::names::{Named, Names, Wanted};
+use crate::names::{Named, NamedReference, Wanted};
 use crate::repository::Repository;
 use gix_odb::files::Folders;
 use gix_revision::date::Time;
@@ -20,10 +20,13 @@ struct Lookup<'r, F: Folders + Drop, A: Allocator + Copy> {
     repository: &'r mut Repository<F, A>,
     /// What the digits of several objects mean.
     wanted: Wanted,
+    /// The name with which the revision begins, until it is known what follows: a name before
+    /// `@{..}` is read by other rules.
+    name: Option<Vec<u8, A>>,
     /// The object so far.
     at: Option<ObjectId>,
     /// The reference with which the revision begins.
-    reference: Option<Names<A>>,
+    reference: Option<NamedReference<A>>,
     /// Why the revision names nothing.
     refusal: Option<Refusal>,
 }
@@ -58,8 +61,28 @@ impl<'r, F: Folders + Drop, A: Allocator + Copy> Lookup<'r, F, A> {
         }
     }
 
+    /// Looks up the name with which the revision begins, unless that was done.
+    fn settle(&mut self) -> Result<(), Refusal> {
+        let Some(name) = self.name.take() else {
+            return Ok(());
+        };
+        let Named { id, reference } = self.repository.look_up(&name, self.wanted)?;
+        self.at = Some(id);
+        self.reference = reference;
+        Ok(())
+    }
+
+    /// Looks up the name with which the revision begins at its end.
+    fn end(&mut self) -> Result<(), Exn> {
+        match self.settle() {
+            Ok(()) => Ok(()),
+            Err(refusal) => self.answer(Err(refusal)),
+        }
+    }
+
     /// Returns the object so far.
-    fn current(&self) -> Result<ObjectId, Refusal> {
+    fn current(&mut self) -> Result<ObjectId, Refusal> {
+        self.settle()?;
         match self.at {
             Some(id) => Ok(id),
             None => Err(Refusal::Unknown),
@@ -94,19 +117,35 @@ impl<'r, F: Folders + Drop, A: Allocator + Copy> Lookup<'r, F, A> {
 
     /// Returns the object that an entry of the reflog names.
     fn logged(&mut self, query: ReflogLookup) -> Result<ObjectId, Refusal> {
-        let reference = self.reference.take();
-        match reference {
-            Some(names) => self.repository.logged(&names, query),
+        let name = self.name.take();
+        match name {
+            Some(name) => self.repository.logged(&name, query),
+            None if self.at.is_some() => Err(Refusal::NotSupported),
             None => self.repository.logged_here(query),
         }
     }
 
     /// Returns what the sibling branch stands for.
     fn sibling(&mut self, kind: SiblingBranch) -> Result<Named<A>, Refusal> {
-        let reference = self.reference.take();
-        match reference {
-            Some(names) => self.repository.sibling_of(&names, kind),
+        let name = self.name.take();
+        match name {
+            Some(name) => self.repository.sibling_of(&name, kind),
+            None if self.at.is_some() => Err(Refusal::NotSupported),
             None => self.repository.sibling_here(kind),
+        }
+    }
+
+    /// Returns the commit whose message contains a text.
+    fn searched(&mut self, regex: &[u8], negated: bool) -> Result<ObjectId, Refusal> {
+        self.settle()?;
+        self.repository.searched(self.at, regex, negated)
+    }
+
+    /// Returns why a form of revisions is not supported.
+    fn unsupported(&mut self) -> Refusal {
+        match self.settle() {
+            Ok(()) => Refusal::NotSupported,
+            Err(refusal) => refusal,
         }
     }
 }
@@ -117,8 +156,13 @@ impl<F: Folders + Drop, A: Allocator + Copy> Listener for Lookup<'_, F, A> {
 
 impl<F: Folders + Drop, A: Allocator + Copy> Revision for Lookup<'_, F, A> {
     fn find_ref(&mut self, name: &[u8]) -> Result<(), Exn> {
-        let found = self.repository.look_up(name, self.wanted);
-        self.begin(found)
+        match name.to_vec(self.repository.alloc) {
+            Ok(name) => {
+                self.name = Some(name);
+                Ok(())
+            }
+            Err(_) => self.answer(Err(Refusal::OutOfMemory)),
+        }
     }
 
     // The whole name is looked up first, as in git.
@@ -149,7 +193,8 @@ impl<F: Folders + Drop, A: Allocator + Copy> Revision for Lookup<'_, F, A> {
 impl<F: Folders + Drop, A: Allocator + Copy> Kind for Lookup<'_, F, A> {
     // A single revision has no kind; the ends of ranges are read apart.
     fn kind(&mut self, kind: spec::Kind) -> Result<(), Exn> {
-        self.answer(Err(Refusal::NotSupported))
+        let refusal = self.unsupported();
+        self.answer(Err(refusal))
     }
 }
 
@@ -167,7 +212,7 @@ impl<F: Folders + Drop, A: Allocator + Copy> Navigate for Lookup<'_, F, A> {
     }
 
     fn find(&mut self, regex: &[u8], negated: bool) -> Result<(), Exn> {
-        let found = self.repository.searched(self.at, regex, negated);
+        let found = self.searched(regex, negated);
         self.reference = None;
         self.answer(found)
     }
@@ -179,7 +224,7 @@ impl<F: Folders + Drop, A: Allocator + Copy> Navigate for Lookup<'_, F, A> {
 
 impl<F: Folders + Drop, A: Allocator + Copy> Delegate for Lookup<'_, F, A> {
     fn done(&mut self) -> Result<(), Exn> {
-        Ok(())
+        self.end()
     }
 }
 
@@ -213,7 +258,7 @@ fn has_braces(text: &[u8]) -> bool {
 struct Outcome<A: Allocator> {
     parsed: bool,
     at: Option<ObjectId>,
-    reference: Option<Names<A>>,
+    reference: Option<NamedReference<A>>,
     refusal: Option<Refusal>,
 }
 
@@ -230,15 +275,6 @@ fn wanted_by(text: &[u8]) -> Wanted {
         return Wanted::Any;
     }
     Wanted::Committish
-}
-
-/// Returns what stands before `@{upstream}` or `@{push}` at the end of a text.
-fn before_sibling(text: &[u8]) -> Option<&[u8]> {
-    let inner = text.strip_suffix(b"}".as_slice())?;
-    let at = inner.iter().rposition(|b| *b == b'{')?;
-    let name = inner.get(..at)?.strip_suffix(b"@".as_slice())?;
-    SiblingBranch::parse(inner.get(at.checked_add(1)?..)?)?;
-    Some(name)
 }
 
 impl<F: Folders + Drop, A: Allocator + Copy> Repository<F, A> {
@@ -313,16 +349,44 @@ impl<F: Folders + Drop, A: Allocator + Copy> Repository<F, A> {
     }
 
     /// Returns the full name of the reference that a text names, at the end of symbolic references;
-    /// `None` if it names an object otherwise.
+    /// `None` if it names an object otherwise (git-rev-parse, "--symbolic-full-name").
+    ///
+    /// It adds no message: [`Repository::object`] has added those about the text.
     ///
     /// # Errors
     ///
-    /// Those of [`Repository::object`].
+    /// - `Ambiguous` if several rules read the name, unless `core.warnAmbiguousRefs` is unset. git
+    ///   prints no name then.
+    /// - Those of [`Repository::object`].
     pub fn reference_of(&mut self, text: &[u8]) -> Result<Option<Vec<u8, A>>, Refusal> {
-        let (_, reference) = self.read(text, Wanted::Any)?;
-        match reference {
-            Some(names) => Ok(Some(names.target)),
+        let was_quiet = self.is_quiet;
+        self.is_quiet = true;
+        let found = self.reference_unwarned(text);
+        self.is_quiet = was_quiet;
+        match found? {
+            Some((_, target)) => Ok(Some(target)),
             None => Ok(None),
+        }
+    }
+
+    /// Returns the object and the full name of the reference that a text names, at the end of
+    /// symbolic references; `None` if it names an object otherwise. Adds no warnings.
+    ///
+    /// # Errors
+    ///
+    /// Those of [`Repository::reference_of`].
+    pub(crate) fn reference_unwarned(
+        &mut self,
+        text: &[u8],
+    ) -> Result<Option<(ObjectId, Vec<u8, A>)>, Refusal> {
+        let warns = self.warns;
+        self.warns = false;
+        let found = self.read(text, Wanted::Any);
+        self.warns = warns;
+        match found? {
+            (_, Some(reference)) if reference.is_ambiguous && warns => Err(Refusal::Ambiguous),
+            (id, Some(reference)) => Ok(Some((id, reference.target))),
+            _ => Ok(None),
         }
     }
 
@@ -338,7 +402,7 @@ impl<F: Folders + Drop, A: Allocator + Copy> Repository<F, A> {
         &mut self,
         text: &[u8],
         wanted: Wanted,
-    ) -> Result<(ObjectId, Option<Names<A>>), Refusal> {
+    ) -> Result<(ObjectId, Option<NamedReference<A>>), Refusal> {
         let Outcome {
             parsed,
             at,
@@ -346,7 +410,6 @@ impl<F: Folders + Drop, A: Allocator + Copy> Repository<F, A> {
             refusal,
         } = self.looked_up(text, wanted);
         match (refusal, at) {
-            (Some(Refusal::Unknown), _) => Err(self.no_branch_or_unknown(text)?),
             (Some(refusal), _) => Err(refusal),
             (None, Some(id)) if parsed => Ok((id, reference)),
             // git reads more than the grammar, such as `@{-1}@{u}`.
@@ -361,33 +424,27 @@ impl<F: Folders + Drop, A: Allocator + Copy> Repository<F, A> {
         let mut lookup = Lookup {
             repository: self,
             wanted,
+            name: None,
             at: None,
             reference: None,
             refusal: None,
         };
-        let parsed = is_looked_up(alloc, text, now, &mut lookup);
+        let is_parsed = is_looked_up(alloc, text, now, &mut lookup);
+        // The name may still wait if the rest of the text was refused.
+        let is_settled = lookup.end().is_ok();
         let Lookup {
             repository: _,
             wanted: _,
+            name: _,
             at,
             reference,
             refusal,
         } = lookup;
         Outcome {
-            parsed,
+            parsed: is_parsed && is_settled,
             at,
             reference,
             refusal,
         }
-    }
-
-    /// Says that there is no branch of the name before `@{upstream}` or `@{push}`, if a text that
-    /// names nothing ends so.
-    fn no_branch_or_unknown(&mut self, text: &[u8]) -> Result<Refusal, Refusal> {
-        let Some(name) = before_sibling(text) else {
-            return Ok(Refusal::Unknown);
-        };
-        self.say(b"fatal: no such branch: '", name, b"'")?;
-        Ok(Refusal::Fatal)
     }
 }

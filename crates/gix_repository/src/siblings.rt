@@ -2,7 +2,7 @@
 //! `[<branchname>]@{push}`).
 
 use crate::error::Refusal;
-use crate::names::{Named, Names};
+use crate::names::{Named, read, unabbreviated};
 use crate::repository::Repository;
 use gix_odb::files::Folders;
 use gix_revision::spec::parse::delegate::SiblingBranch;
@@ -90,13 +90,27 @@ impl<F: Folders + Drop, A: Allocator + Copy> Repository<F, A> {
         self.mapped_by(remote, b"fetch", name)
     }
 
+    /// Returns the remote and the branch there from which a local branch is merged, whose short name
+    /// is `short` (git-config, `branch.<name>.remote`, `branch.<name>.merge`).
+    fn merged_from(&self, short: &[u8]) -> Result<Option<(&[u8], &[u8])>, Refusal> {
+        let Some(remote) = self.setting(b"branch", Some(short), b"remote") else {
+            return Ok(None);
+        };
+        // Of several branches the first one is the upstream.
+        let merged = self
+            .settings
+            .values(self.alloc, b"branch", Some(short), b"merge")?;
+        match merged.first() {
+            Some(Some(name)) => Ok(Some((remote, *name))),
+            _ => Ok(None),
+        }
+    }
+
     /// Returns the upstream branch of a local branch, whose short name is `short`.
     fn upstream(&self, short: &[u8]) -> Result<Option<Vec<u8, A>>, Refusal> {
-        let remote = self.setting(b"branch", Some(short), b"remote");
-        let merge = self.setting(b"branch", Some(short), b"merge");
-        match (remote, merge) {
-            (Some(remote), Some(merge)) => self.tracking(remote, merge),
-            _ => Ok(None),
+        match self.merged_from(short)? {
+            Some((remote, name)) => self.tracking(remote, name),
+            None => Ok(None),
         }
     }
 
@@ -114,6 +128,12 @@ impl<F: Folders + Drop, A: Allocator + Copy> Repository<F, A> {
         }
     }
 
+    /// Returns whether a remote says itself what is pushed to it.
+    fn says_push(&self, remote: &[u8]) -> Result<bool, Refusal> {
+        let refspecs = self.settings.remote(self.alloc, remote, b"push")?;
+        Ok(!refspecs.is_empty() || self.setting(b"remote", Some(remote), b"mirror").is_some())
+    }
+
     /// Returns the branch that a branch is pushed to, as its remote's settings `push` say.
     fn pushed_by_refspec(
         &self,
@@ -121,42 +141,51 @@ impl<F: Folders + Drop, A: Allocator + Copy> Repository<F, A> {
         branch: &[u8],
     ) -> Result<Option<Vec<u8, A>>, Refusal> {
         match self.mapped_by(remote, b"push", branch)? {
-            Some(mapped) => self.tracking(remote, &mapped),
+            Some(mapped) => self.mapped_by(remote, b"fetch", &mapped),
             None => Ok(None),
         }
     }
 
-    /// Returns the branch that a branch is pushed to (git-config, `push.default`).
+    /// Returns the branch that a branch is pushed to.
     fn pushed(&self, branch: &[u8], short: &[u8]) -> Result<Option<Vec<u8, A>>, Refusal> {
         let remote = self.push_remote(short);
-        if let Some(pushed) = self.pushed_by_refspec(remote, branch)? {
-            return Ok(Some(pushed));
+        if self.says_push(remote)? {
+            self.pushed_by_refspec(remote, branch)
+        } else {
+            self.pushed_by_default(remote, branch, short)
         }
-        let how = self.setting(b"push", None, b"default");
-        let how = how.unwrap_or(b"simple");
-        if how == b"nothing".as_slice() {
-            return Ok(None);
-        }
+    }
+
+    /// Returns the branch that a branch is pushed to (git-config, `push.default`).
+    fn pushed_by_default(
+        &self,
+        remote: &[u8],
+        branch: &[u8],
+        short: &[u8],
+    ) -> Result<Option<Vec<u8, A>>, Refusal> {
+        let how = self.setting(b"push", None, b"default").unwrap_or(b"simple");
         if how == b"upstream".as_slice() || how == b"tracking".as_slice() {
             return self.upstream(short);
         }
-        let own = self.tracking(remote, branch)?;
-        if how != b"simple".as_slice() {
+        let own = self.mapped_by(remote, b"fetch", branch)?;
+        if how == b"current".as_slice() || how == b"matching".as_slice() {
             return Ok(own);
         }
-        let upstream = self.upstream(short)?;
-        Ok(if are_same(&upstream, &own) { own } else { None })
+        if how == b"simple".as_slice() && are_same(&self.upstream(short)?, &own) {
+            return Ok(own);
+        }
+        Ok(None)
     }
 
-    /// Returns the full name of a branch's sibling.
-    fn sibling_name(&mut self, branch: &[u8], kind: SiblingBranch) -> Result<Vec<u8, A>, Refusal> {
-        let Some(short) = branch.strip_prefix(b"refs/heads/".as_slice()) else {
-            self.say(b"fatal: no such branch: '", branch, b"'")?;
-            return Err(Refusal::Fatal);
-        };
+    /// Returns the full name of the sibling of a branch, whose short name is `short`.
+    fn sibling_name(&mut self, short: &[u8], kind: SiblingBranch) -> Result<Vec<u8, A>, Refusal> {
         let found = match kind {
             SiblingBranch::Upstream => self.upstream(short)?,
-            SiblingBranch::Push => self.pushed(branch, short)?,
+            SiblingBranch::Push => {
+                let mut branch = b"refs/heads/".to_vec(self.alloc)?;
+                branch.extend_from_slice(short)?;
+                self.pushed(&branch, short)?
+            }
         };
         match found {
             Some(name) => Ok(name),
@@ -170,60 +199,67 @@ impl<F: Folders + Drop, A: Allocator + Copy> Repository<F, A> {
             // git has several reasons.
             return Ok(Refusal::NotSupported);
         }
-        match self.setting(b"branch", Some(short), b"merge") {
-            Some(merge) => {
-                let merge = merge.to_vec(self.alloc)?;
-                self.say(
-                    b"fatal: upstream branch '",
-                    &merge,
-                    b"' not stored as a remote-tracking branch",
-                )?;
-            }
-            None => self.say(b"fatal: no upstream configured for branch '", short, b"'")?,
+        if let Some((_, merge)) = self.merged_from(short)? {
+            let merge = merge.to_vec(self.alloc)?;
+            self.say(
+                b"fatal: upstream branch '",
+                &merge,
+                b"' not stored as a remote-tracking branch",
+            )?;
+        } else if self.has_branch(short)? {
+            self.say(b"fatal: no upstream configured for branch '", short, b"'")?;
+        } else {
+            self.say(b"fatal: no such branch: '", short, b"'")?;
         }
         Ok(Refusal::Fatal)
     }
 
-    /// Returns what the sibling of the branch with this full name stands for.
-    pub(crate) fn sibling(
-        &mut self,
-        branch: &[u8],
-        kind: SiblingBranch,
-    ) -> Result<Named<A>, Refusal> {
-        let name = self.sibling_name(branch, kind)?;
-        match self.references.follow(&name)? {
-            Some(reference) => Ok(Named {
-                id: reference.id,
-                reference: Some(Names {
-                    written: name.as_slice().to_vec(self.alloc)?,
-                    full: name,
-                    target: reference.name,
-                }),
-            }),
+    /// Returns whether there is a branch with this short name.
+    fn has_branch(&mut self, short: &[u8]) -> Result<bool, Refusal> {
+        let mut branch = b"refs/heads/".to_vec(self.alloc)?;
+        branch.extend_from_slice(short)?;
+        match self.references.follow(&branch) {
+            Ok(found) => Ok(found.is_some()),
+            Err(gix_ref::Error::Broken(_) | gix_ref::Error::TooDeep(_)) => Ok(false),
+            Err(error) => Err(Refusal::from(error)),
+        }
+    }
+
+    /// Returns what the sibling of a branch stands for, whose short name is `short`.
+    ///
+    /// Its settings count even if there is no such branch. As git does, it shortens the full name of
+    /// the sibling, and reads it again by the rules.
+    fn sibling(&mut self, short: &[u8], kind: SiblingBranch) -> Result<Named<A>, Refusal> {
+        let name = self.sibling_name(short, kind)?;
+        let text = self.references.shortest(&name, false)?;
+        match self.references.short(text)? {
+            Some(named) => Ok(read(named)),
             None => Err(Refusal::Unknown),
         }
     }
 
-    /// Returns what the sibling of a branch stands for, which is written by its short name.
+    /// Returns what the sibling of the branch stands for whose short name is written.
     pub(crate) fn sibling_of(
         &mut self,
-        names: &Names<A>,
+        written: &[u8],
         kind: SiblingBranch,
     ) -> Result<Named<A>, Refusal> {
-        let short = names.target.strip_prefix(b"refs/heads/".as_slice());
-        if names.written.as_slice() == b"HEAD".as_slice()
-            || short == Some(names.written.as_slice())
-        {
-            return self.sibling(&names.target, kind);
+        if unabbreviated(written) == b"HEAD".as_slice() {
+            self.sibling_here(kind)
+        } else {
+            self.sibling(written, kind)
         }
-        self.say(b"fatal: no such branch: '", &names.written, b"'")?;
-        Err(Refusal::Fatal)
     }
 
     /// Returns what the sibling of the current branch stands for.
     pub(crate) fn sibling_here(&mut self, kind: SiblingBranch) -> Result<Named<A>, Refusal> {
-        match self.branch()? {
-            Some(branch) => self.sibling(&branch, kind),
+        let branch = self.branch()?;
+        let short = match &branch {
+            Some(branch) => branch.strip_prefix(b"refs/heads/".as_slice()),
+            None => None,
+        };
+        match short {
+            Some(short) => self.sibling(short, kind),
             None => {
                 self.say(b"fatal: HEAD does not point to a branch", b"", b"")?;
                 Err(Refusal::Fatal)

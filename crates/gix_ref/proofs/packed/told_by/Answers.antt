@@ -1,4 +1,4 @@
-use Rattle.std.proofs.Common.{◌≡◌, drop, take, [], cond, None, sym, ap, arith}
+use Rattle.std.proofs.Common.{take, cond, None, sym, ap, arith}
 use Rattle.std.proofs.lemmas.List.{drop_all}
 use Rattle.gix_ref.specs.Lines.{id_of}
 use Rattle.gix_ref.specs.Packed.{is_named}

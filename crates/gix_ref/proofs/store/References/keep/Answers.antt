@@ -1,4 +1,4 @@
-use Rattle.std.proofs.Common.{ℕ, List, [], ◌∷◌, refl, inr}
+use Rattle.std.proofs.Common.{List, [], ◌∷◌, refl, inr}
 use Rattle.std.specs.Option.{option_map}
 use Rattle.gix_ref.specs.Known.{Read}
 use Rattle.gix_ref.proofs.Knows.{kept}

@@ -1,4 +1,4 @@
-use Rattle.std.proofs.Common.{◌∙◌, sym}
+use Rattle.std.proofs.Common.{◌∙◌}
 use Rattle.gix_ref.specs.Known.{known}
 use Rattle.gix_ref.proofs.Knows.{loose-grows, packed-grows, if_ok}
 use Rattle.gix_ref.proofs.store.References.look_up.Goals as goal

@@ -1,0 +1,8 @@
+use Rattle.std.proofs.Common.{◌≡◌, ◌-◌}
+use Rattle.gix_ref.specs.Known.{Known, Grows, known}
+use Rattle.gix_ref.specs.Leads.{leads}
+use Rattle.gix_ref.proofs.store.References.follow_on.Given as goal
+
+abbrev pub invariant-loop : goal.invariant-loop
+invariant-loop g l =
+    (later : Known) → Grows (known l.self) later → leads l.most later l.name ≡ leads (l.most - l.counter) later l.last.items

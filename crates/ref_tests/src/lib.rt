@@ -1,0 +1,11 @@
+//! Tests of `gix_ref` over files in memory: git's answers, and each call and allocation fails.
+#![tactic(auto)]
+
+#[cfg(test)]
+mod answers;
+#[cfg(test)]
+mod fake;
+#[cfg(test)]
+mod rows;
+#[cfg(test)]
+mod tables;
