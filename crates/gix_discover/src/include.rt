@@ -8,7 +8,7 @@ use crate::head::branch;
 use crate::paths::{absolute, folder_of, is_absolute, joined, resolved, within};
 use crate::places::Places;
 use crate::source::{read_file, reason_of};
-use crate::wildmatch::is_match;
+use crate::wildmatch::{Rules, is_match};
 use std::alloc::Allocator;
 
 /// How deep files include one another at most, as in git.
@@ -246,7 +246,11 @@ impl<'a, F: Places, A: Allocator + Copy> Reader<'a, F, A> {
         }
         let pattern = pattern.get(literal..).unwrap_or(&[]);
         let path = path.get(literal..).unwrap_or(&[]);
-        Ok(is_match(self.alloc, pattern, path, ignores_case)?)
+        let rules = Rules {
+            ignores_case,
+            is_path: true,
+        };
+        Ok(is_match(self.alloc, pattern, path, rules)?)
     }
 
     /// Tells whether a condition `gitdir:` holds.
@@ -282,7 +286,11 @@ impl<'a, F: Places, A: Allocator + Copy> Reader<'a, F, A> {
         };
         let mut pattern = text.to_vec(self.alloc)?;
         add_stars(&mut pattern)?;
-        Ok(is_match(self.alloc, &pattern, &name, false)?)
+        let rules = Rules {
+            ignores_case: false,
+            is_path: true,
+        };
+        Ok(is_match(self.alloc, &pattern, &name, rules)?)
     }
 
     /// Tells whether a condition of `includeIf` holds. One that git does not know never holds.

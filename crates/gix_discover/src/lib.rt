@@ -6,6 +6,7 @@
 //! - [`Settings`] has what git's config files say, with their includes. Its calls answer for the
 //!   keys that reading a history needs, and [`Settings::values`] for every other.
 //! - [`shallow`] and [`grafts`] read two small files of a repository.
+//! - [`wildmatch::is_match`] compares a text with a pattern, as git does.
 //! - [`Places`] is the trait by which all of them reach files, beyond `gix_odb::files`.
 //!
 //! Nothing in a repository makes these calls run a command or fetch. They open only files that git
@@ -28,7 +29,7 @@ mod settings;
 mod small;
 mod source;
 mod upwards;
-mod wildmatch;
+pub mod wildmatch;
 
 pub use environment::{Environment, Variable};
 pub use error::{DiscoverError, Reason};

@@ -1,21 +1,30 @@
-//! Compares a path with a pattern (gitignore, "Pattern format"), for the conditions of `includeIf`.
+//! Compares a text with a pattern (gitignore, "Pattern format"; git's wildmatch).
 //!
 //! The pattern becomes a list of parts. The parts that may come next are a set, which each byte of
-//! the path moves on, so that no pattern makes the comparison slow.
+//! the text moves on, so that no pattern makes the comparison slow.
 
 use std::alloc::{AllocError, Allocator};
 use std::mem::swap;
+
+/// Says how a text is compared with a pattern.
+#[derive(Clone, Copy)]
+pub struct Rules {
+    /// Whether the case of letters does not count.
+    pub ignores_case: bool,
+    /// Whether the text is a path: only `**` matches a slash, and not `*`, `?` or a class.
+    pub is_path: bool,
+}
 
 /// Is a part of a pattern.
 #[derive(Clone, Copy)]
 enum Part {
     /// This byte.
     Byte(u8),
-    /// Any byte but a slash.
+    /// Any byte; of a path, any but a slash.
     One,
     /// A byte of the class whose text is between these places of the pattern.
     Class(usize, usize),
-    /// Any bytes but slashes.
+    /// Any bytes; of a path, any but slashes.
     Star,
     /// Any bytes.
     Any,
@@ -127,6 +136,7 @@ fn is_in_class(class: &[u8], byte: u8) -> bool {
 fn add_stars<A: Allocator>(
     pattern: &[u8],
     at: usize,
+    rules: Rules,
     parts: &mut Vec<Part, A>,
 ) -> Result<usize, AllocError> {
     let rest = pattern.get(at..).unwrap_or(&[]);
@@ -135,7 +145,7 @@ fn add_stars<A: Allocator>(
         None => rest.len(),
     };
     let before = pattern.get(..at).unwrap_or(&[]);
-    let begins = before.is_empty() || before.ends_with(b"/");
+    let begins = rules.is_path && (before.is_empty() || before.ends_with(b"/"));
     let after = rest.get(count..).unwrap_or(&[]);
     if count > 1 && begins && after.starts_with(b"/") {
         parts.push(Part::Optional)?;
@@ -155,10 +165,11 @@ fn add_stars<A: Allocator>(
 fn add_part<A: Allocator>(
     pattern: &[u8],
     at: usize,
+    rules: Rules,
     parts: &mut Vec<Part, A>,
 ) -> Result<usize, AllocError> {
     let (part, len) = match pattern.get(at..).unwrap_or(&[]) {
-        [b'*', ..] => return add_stars(pattern, at, parts),
+        [b'*', ..] => return add_stars(pattern, at, rules, parts),
         [b'?', ..] => (Part::One, 1),
         [b'\\', byte, ..] => (Part::Byte(*byte), 2),
         [b'\\'] => (Part::Never, 1),
@@ -180,14 +191,18 @@ fn add_part<A: Allocator>(
 }
 
 /// Returns the parts of a pattern.
-fn parts_of<A: Allocator>(alloc: A, pattern: &[u8]) -> Result<Vec<Part, A>, AllocError> {
+fn parts_of<A: Allocator>(
+    alloc: A,
+    pattern: &[u8],
+    rules: Rules,
+) -> Result<Vec<Part, A>, AllocError> {
     let mut parts = Vec::new(alloc);
     let mut at = 0usize;
     for _ in 0..pattern.len() {
         if at >= pattern.len() {
             break;
         }
-        at = at.saturating_add(add_part(pattern, at, &mut parts)?);
+        at = at.saturating_add(add_part(pattern, at, rules, &mut parts)?);
     }
     Ok(parts)
 }
@@ -216,23 +231,23 @@ fn mark_ahead(parts: &[Part], places: &mut [bool]) {
     }
 }
 
-/// Is a pattern, and whether letter case counts.
+/// Is a pattern, with its rules.
 #[derive(Clone, Copy)]
 struct Pattern<'a> {
     text: &'a [u8],
-    ignores_case: bool,
+    rules: Rules,
 }
 
 impl<'a> Pattern<'a> {
     /// Tells whether two bytes are the same.
     fn is_same(&self, one: u8, other: u8) -> bool {
-        one == other || (self.ignores_case && one.eq_ignore_ascii_case(&other))
+        one == other || (self.rules.ignores_case && one.eq_ignore_ascii_case(&other))
     }
 
     /// Tells whether a byte is in the class between two places.
     fn is_in(&self, from: usize, to: usize, byte: u8) -> bool {
         let class = self.text.get(from..to).unwrap_or(&[]);
-        if self.ignores_case {
+        if self.rules.ignores_case {
             is_in_class(class, byte.to_ascii_lowercase())
                 || is_in_class(class, byte.to_ascii_uppercase())
         } else {
@@ -240,16 +255,21 @@ impl<'a> Pattern<'a> {
         }
     }
 
+    /// Tells whether a byte may stand for a part that is no single byte.
+    fn is_free(&self, byte: u8) -> bool {
+        byte != b'/' || !self.rules.is_path
+    }
+
     /// Marks the places to which a byte leads from a place with this part.
     fn mark_next(&self, part: Part, at: usize, byte: u8, next: &mut [bool]) {
         let after = at.saturating_add(1);
         match part {
             Part::Byte(own) if self.is_same(own, byte) => mark(next, after),
-            Part::One if byte != b'/' => mark(next, after),
-            Part::Class(from, to) if byte != b'/' && self.is_in(from, to, byte) => {
+            Part::One if self.is_free(byte) => mark(next, after),
+            Part::Class(from, to) if self.is_free(byte) && self.is_in(from, to, byte) => {
                 mark(next, after)
             }
-            Part::Star if byte != b'/' => mark(next, at),
+            Part::Star if self.is_free(byte) => mark(next, at),
             Part::Any => mark(next, at),
             _ => {}
         }
@@ -274,20 +294,27 @@ fn unmarked<A: Allocator>(alloc: A, parts: usize) -> Result<Vec<bool, A>, AllocE
     Ok(places)
 }
 
-/// Tells whether a path matches a pattern as a whole. `*` and `?` match no slash.
-pub(crate) fn is_match<A: Allocator + Copy>(
+/// Tells whether a text matches a pattern as a whole.
+///
+/// # Errors
+///
+/// Fails if an allocation failed.
+pub fn is_match<A: Allocator + Copy>(
     alloc: A,
+    pattern: &[u8],
     text: &[u8],
-    path: &[u8],
-    ignores_case: bool,
+    rules: Rules,
 ) -> Result<bool, AllocError> {
-    let pattern = Pattern { text, ignores_case };
-    let parts = parts_of(alloc, text)?;
+    let parts = parts_of(alloc, pattern, rules)?;
+    let pattern = Pattern {
+        text: pattern,
+        rules,
+    };
     let mut places = unmarked(alloc, parts.len())?;
     let mut next = unmarked(alloc, parts.len())?;
     mark(&mut places, 0);
     mark_ahead(&parts, &mut places);
-    for byte in path {
+    for byte in text {
         pattern.step(&parts, &places, *byte, &mut next);
         swap(&mut places, &mut next);
     }

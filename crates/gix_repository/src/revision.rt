@@ -383,10 +383,12 @@ impl<F: Folders + Drop, A: Allocator + Copy> Repository<F, A> {
         self.warns = false;
         let found = self.read(text, Wanted::Any);
         self.warns = warns;
-        match found? {
-            (_, Some(reference)) if reference.is_ambiguous && warns => Err(Refusal::Ambiguous),
-            (id, Some(reference)) => Ok(Some((id, reference.target))),
-            _ => Ok(None),
+        match found {
+            Ok((_, Some(reference))) if reference.is_ambiguous && warns => Err(Refusal::Ambiguous),
+            Ok((id, Some(reference))) => Ok(Some((id, reference.target))),
+            // Digits name no reference, whether they are ambiguous or not.
+            Ok((_, None)) | Err(Refusal::Ambiguous) => Ok(None),
+            Err(refusal) => Err(refusal),
         }
     }
 

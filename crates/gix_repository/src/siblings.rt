@@ -251,19 +251,20 @@ impl<F: Folders + Drop, A: Allocator + Copy> Repository<F, A> {
         }
     }
 
+    /// Says that HEAD leads to no branch.
+    fn no_branch(&mut self) -> Result<Named<A>, Refusal> {
+        self.say(b"fatal: HEAD does not point to a branch", b"", b"")?;
+        Err(Refusal::Fatal)
+    }
+
     /// Returns what the sibling of the current branch stands for.
     pub(crate) fn sibling_here(&mut self, kind: SiblingBranch) -> Result<Named<A>, Refusal> {
-        let branch = self.branch()?;
-        let short = match &branch {
-            Some(branch) => branch.strip_prefix(b"refs/heads/".as_slice()),
-            None => None,
+        let Some(branch) = self.branch()? else {
+            return self.no_branch();
         };
-        match short {
+        match branch.strip_prefix(b"refs/heads/".as_slice()) {
             Some(short) => self.sibling(short, kind),
-            None => {
-                self.say(b"fatal: HEAD does not point to a branch", b"", b"")?;
-                Err(Refusal::Fatal)
-            }
+            None => self.no_branch(),
         }
     }
 }

@@ -111,7 +111,8 @@ fn is_completed<F: Folders + Drop, A: Allocator + Copy>(
     digits: &str,
     is_whole: bool,
 ) -> bool {
-    let Ok(prefix) = Prefix::from_hex(&digits.as_bytes()[..4]) else {
+    let first = digits.as_bytes().get(..4).unwrap_or(&[]);
+    let Ok(prefix) = Prefix::from_hex(first) else {
         return false;
     };
     match is_alone(alloc, store, id, prefix) {
