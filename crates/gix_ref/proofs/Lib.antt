@@ -4,3 +4,4 @@ pub mod Trims
 pub mod Knows
 pub mod Changes
 pub mod Leads
+pub mod Rules

@@ -4,7 +4,7 @@ use Rattle.std.specs.Option.{option_map}
 use Rattle.gix_ref.specs.Loose.{Says, HasId, LeadsTo, IsGarbage}
 use Rattle.gix_ref.specs.Leads.{Leads, EndsAt, Nowhere, ToGarbage, TooFar}
 use Rattle.gix_ref.specs.declared.error.Error.{Error}
-use Rattle.gix_ref.specs.declared.error.Error.TheVariants.{Failed, NotUtf8, Broken, TooDeep, OutOfMemory}
+use Rattle.gix_ref.specs.declared.error.Error.TheVariants.{Failed, NotUtf8, Damaged, Broken, TooDeep, OutOfMemory}
 use Rattle.gix_ref.specs.declared.find.Found.{Found}
 use Rattle.gix_ref.specs.declared.find.Found.TheVariants as found
 use Rattle.gix_ref.specs.declared.find.Led.{Led}
@@ -31,6 +31,7 @@ answer_says (Err (Broken name)) = Some (Some IsGarbage)
 answer_says (Err (TooDeep name)) = None
 answer_says (Err (Failed name kind)) = None
 answer_says (Err (NotUtf8 name)) = None
+answer_says (Err (Damaged name)) = None
 answer_says (Err OutOfMemory) = None
 
 -- Where a reference leads that has an id.
@@ -52,4 +53,5 @@ answer_leads (Err (Broken name)) = Some ToGarbage
 answer_leads (Err (TooDeep name)) = Some TooFar
 answer_leads (Err (Failed name kind)) = None
 answer_leads (Err (NotUtf8 name)) = None
+answer_leads (Err (Damaged name)) = None
 answer_leads (Err OutOfMemory) = None

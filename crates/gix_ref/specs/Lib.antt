@@ -7,4 +7,5 @@ pub mod Known
 pub mod Errors
 pub mod Leads
 pub mod Found
+pub mod Short
 pub mod Changes

@@ -1,6 +1,6 @@
 //! Lists references (git-for-each-ref).
 
-use crate::error::{Error, Fault};
+use crate::error::{Error, ErrorName, Fault};
 use crate::files::{ensure_missing, fault_of, read_listed};
 use crate::find::{Led, MOST_READ, Reference};
 use crate::lines::cut;
@@ -12,7 +12,10 @@ use gix_base::hash::ObjectId;
 use gix_odb::files::{FileError, Folders};
 use std::alloc::{Allocator, Global};
 
-/// Is a reference of a list.
+/// The id that git takes for damage in a list.
+const ZEROS: ObjectId = ObjectId([0u8; 20]);
+
+/// A reference of a list.
 #[derive(Drop)]
 pub struct Listed<A: Allocator = Global> {
     /// The full name.
@@ -25,26 +28,27 @@ pub struct Listed<A: Allocator = Global> {
     pub is_symbolic: bool,
 }
 
-/// Says why a reference is left out of a list.
+/// Why a reference is left out of a list.
 #[derive(Clone, Copy, Debug, PartialEq, Eq)]
 pub enum Why {
     /// Its file says neither an id nor a reference, or the id with zeros only, or git refuses its
-    /// name, or one to which it leads is broken or is not found among the first five.
+    /// name.
     Broken,
-    /// It leads to a reference that is not there.
+    /// It is symbolic, and leads to a reference that is not there or is broken, or to none among
+    /// the first five.
     LeadsNowhere,
     /// The name of its file or folder is not UTF-8.
     NotUtf8,
 }
 
-/// Is a reference that is left out of a list.
+/// A reference that is left out of a list, or passed over.
 #[derive(Drop)]
 pub struct Skipped<A: Allocator = Global> {
     pub name: Vec<u8, A>,
     pub why: Why,
 }
 
-/// Is a list of references.
+/// A list of references.
 #[derive(Drop)]
 pub struct Listing<A: Allocator = Global> {
     /// Sorted by name, each name once.
@@ -53,14 +57,14 @@ pub struct Listing<A: Allocator = Global> {
     pub skipped: Vec<Skipped<A>, A>,
 }
 
-/// Is what is known of a reference.
+/// What is known of a reference.
 #[derive(Clone, Copy)]
 enum Outcome {
     Found(ObjectId, Option<ObjectId>, bool),
     LeftOut(Why),
 }
 
-/// Is a name, and the place of its outcome. Of two with one name the first place counts.
+/// A name, and the place of its outcome. Of two with the same name the first place counts.
 #[derive(Drop)]
 struct Item<A: Allocator> {
     name: Vec<u8, A>,
@@ -92,7 +96,7 @@ impl<A: Allocator + Copy> Items<A> {
         Ok(())
     }
 
-    /// Takes out the last item, and tells whether it is the first of its name.
+    /// Takes out the last item, and returns whether it is the first of its name.
     fn pop(&mut self) -> Option<(Item<A>, bool)> {
         let item = self.items.pop()?;
         let is_first = match self.items.last() {
@@ -102,7 +106,7 @@ impl<A: Allocator + Copy> Items<A> {
         Some((item, is_first))
     }
 
-    /// Returns the list. Of items with one name the first that was added counts.
+    /// Returns the list. Of items with the same name the first that was added counts.
     fn listing(&mut self, alloc: A) -> Result<Listing<A>, Fault> {
         self.items.sort_by(|a, b| a
             .name
@@ -125,6 +129,19 @@ impl<A: Allocator + Copy> Items<A> {
 }
 
 impl<A: Allocator + Copy> Listing<A> {
+    /// Tests whether a list of all references has a name; `None` if it is left out.
+    pub(crate) fn tells(&self, name: &[u8]) -> Option<bool> {
+        let is_left_out = self
+            .skipped
+            .binary_search_by(|skipped| skipped.name.as_slice().cmp(name))
+            .is_ok();
+        let is_there = self
+            .references
+            .binary_search_by(|listed| listed.name.as_slice().cmp(name))
+            .is_ok();
+        (!is_left_out).then_some(is_there)
+    }
+
     /// Adds a reference at the end.
     fn add(&mut self, name: Vec<u8, A>, outcome: Option<Outcome>) -> Result<(), Fault> {
         match outcome {
@@ -153,30 +170,50 @@ fn folder_of(prefix: &[u8]) -> &[u8] {
     }
 }
 
-/// Tells whether a name of a folder's entry is passed over, as git does.
+/// Tests whether a name of a folder's entry is passed over, as git does.
 fn is_hidden(name: &[u8]) -> bool {
     name.is_empty() || name.starts_with(b".") || name.ends_with(b".lock")
 }
 
-/// Tells whether a reference with an id is sound: git takes zeros for damage.
-fn outcome_of(id: ObjectId, peeled: Option<ObjectId>, is_symbolic: bool) -> Outcome {
-    if id == ObjectId([0u8; 20]) {
+/// Returns why a file is left out that says neither an id nor a reference.
+pub(crate) fn why_garbage(content: &[u8]) -> Why {
+    if content.starts_with(b"ref:") {
+        Why::LeadsNowhere
+    } else {
+        Why::Broken
+    }
+}
+
+/// Returns the outcome of a loose reference with an id.
+fn outcome_of(id: ObjectId) -> Outcome {
+    if id == ZEROS {
         Outcome::LeftOut(Why::Broken)
     } else {
-        Outcome::Found(id, peeled, is_symbolic)
+        Outcome::Found(id, None, false)
     }
 }
 
 /// The folders of which each worktree has its own.
 static OWN_FOLDERS: [&str; 3] = ["refs/bisect/", "refs/rewritten/", "refs/worktree/"];
 
-/// Tells whether this is one of the folders of which each worktree has its own.
+/// Tests whether this is one of the folders of which each worktree has its own.
 fn is_own_folder(folder: &[u8]) -> bool {
     OWN_FOLDERS.iter().any(|own| own.as_bytes() == folder)
 }
 
+/// Fails if a name of `packed-refs` has a part `..`: git then reads no reference.
+fn ensure_below(name: &[u8]) -> Result<(), Fault> {
+    if name
+        .split(|b| *b == b'/')
+        .any(|part| part == b"..".as_slice())
+    {
+        return Err(Fault::Damaged(ErrorName::new(b"packed-refs")));
+    }
+    Ok(())
+}
+
 impl<F: Folders + Drop, A: Allocator + Copy> References<F, A> {
-    /// Tells whether this is a linked worktree, which has some folders of its own.
+    /// Tests whether this is a linked worktree, which has some folders of its own.
     fn is_linked(&self) -> bool {
         self.git_dir != self.common_dir
     }
@@ -271,9 +308,10 @@ impl<F: Folders + Drop, A: Allocator + Copy> References<F, A> {
     /// Returns the outcome of a symbolic reference that leads to a name.
     fn outcome_of_symbolic(&mut self, next: &[u8]) -> Result<Outcome, Fault> {
         match self.follow_on(next, MOST_READ.saturating_sub(1)) {
-            Ok(Led::Ends(Reference { id, peeled, .. })) => Ok(outcome_of(id, peeled, true)),
-            Ok(Led::Nowhere) => Ok(Outcome::LeftOut(Why::LeadsNowhere)),
-            Ok(Led::Breaks(_) | Led::TooFar) => Ok(Outcome::LeftOut(Why::Broken)),
+            Ok(Led::Ends(Reference { id, peeled, .. })) if id != ZEROS => {
+                Ok(Outcome::Found(id, peeled, true))
+            }
+            Ok(_) => Ok(Outcome::LeftOut(Why::LeadsNowhere)),
             Err(Fault::NotUtf8(_)) => Ok(Outcome::LeftOut(Why::NotUtf8)),
             Err(fault) => Err(fault),
         }
@@ -306,9 +344,9 @@ impl<F: Folders + Drop, A: Allocator + Copy> References<F, A> {
         }
         let outcome = match loose::read(&content) {
             _ if !is_full_name(&name) => Outcome::LeftOut(Why::Broken),
-            Said::Id(id) => outcome_of(id, None, false),
+            Said::Id(id) => outcome_of(id),
             Said::LeadsTo(next) => self.outcome_of_symbolic(next)?,
-            Said::Garbage => Outcome::LeftOut(Why::Broken),
+            Said::Garbage => Outcome::LeftOut(why_garbage(&content)),
         };
         items.add(self.alloc, &name, outcome)
     }
@@ -320,10 +358,11 @@ impl<F: Folders + Drop, A: Allocator + Copy> References<F, A> {
         for _ in 0..bytes.len() {
             let (line, after) = cut(rest, b'\n');
             if let Some((id, name)) = record(line) {
-                if name.starts_with(prefix) && name.starts_with(b"refs/") {
+                if name.starts_with(prefix) {
                     let outcome = if is_full_name(name) {
                         Outcome::Found(id, peeled_after(after), false)
                     } else {
+                        ensure_below(name)?;
                         Outcome::LeftOut(Why::Broken)
                     };
                     items.add(self.alloc, name, outcome)?;
@@ -345,6 +384,7 @@ impl<F: Folders + Drop, A: Allocator + Copy> References<F, A> {
     /// # Errors
     ///
     /// - `Failed` if a file or a folder cannot be read.
+    /// - `Damaged` if `packed-refs` has a line that git does not write.
     /// - `OutOfMemory` if an allocation failed.
     pub fn all(&mut self, prefix: &[u8]) -> Result<Listing<A>, Error> {
         self.begin();

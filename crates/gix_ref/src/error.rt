@@ -1,4 +1,4 @@
-//! Has the reasons why a reference is not read.
+//! The reasons why a reference is not read.
 
 ghost use Rattle.gix_ref.specs.Errors.{IsFileError};
 
@@ -44,13 +44,15 @@ impl ErrorName {
     }
 }
 
-/// Says why a reference or a reflog is not read.
+/// Why a reference or a reflog is not read.
 #[derive(Clone, Copy, Debug, PartialEq, Eq, Drop, StdError)]
 pub enum Error {
     /// The system failed to open, list or read the file or folder with this name.
     Failed(ErrorName, ErrorKind),
     /// The path of the reference is not UTF-8, and `std` opens no such path.
     NotUtf8(ErrorName),
+    /// The file with this name, `packed-refs`, has a line that git does not write.
+    Damaged(ErrorName),
     /// The file of this reference says neither an id nor the name of a reference.
     Broken(ErrorName),
     /// The reference is symbolic, and no id is found among the first five references.
@@ -66,6 +68,7 @@ impl fmt::Display for Error {
             Error::NotUtf8(name) => {
                 write!(f, "unsupported: name '{}' is not UTF-8", name.as_str())
             }
+            Error::Damaged(name) => write!(f, "'{}' is damaged", name.as_str()),
             Error::Broken(name) => write!(f, "broken reference '{}'", name.as_str()),
             Error::TooDeep(name) => {
                 write!(
@@ -79,11 +82,12 @@ impl fmt::Display for Error {
     }
 }
 
-/// Says why a file or memory is not there. It is an error for the caller.
+/// Why a file was not read, or memory not allocated. It is an error for the caller.
 #[derive(Clone, Copy)]
 pub(crate) enum Fault {
     Failed(ErrorName, ErrorKind),
     NotUtf8(ErrorName),
+    Damaged(ErrorName),
     OutOfMemory,
 }
 
@@ -107,6 +111,7 @@ impl Fault {
         match self {
             Fault::Failed(name, kind) => Error::Failed(name, kind),
             Fault::NotUtf8(name) => Error::NotUtf8(name),
+            Fault::Damaged(name) => Error::Damaged(name),
             Fault::OutOfMemory => Error::OutOfMemory,
         }
     }

@@ -15,9 +15,9 @@ pub(crate) fn fault_of(name: &[u8], error: FileError) -> Fault {
     }
 }
 
-/// Tells whether an error says that there is no file of this name.
+/// Tests whether an error says that there is no file of this name.
 ///
-/// A folder is none, and neither is a name that is too long for the system.
+/// This is also so for a folder, and for a name that is too long for the system.
 fn is_no_file(error: FileError) -> bool {
     matches!(
         error,
@@ -50,7 +50,7 @@ fn first_odd(path: &[u8], valid: usize) -> (&[u8], &[u8]) {
     (folder, cut(rest, b'/').0)
 }
 
-/// Tells whether a folder has an entry of this name. The current folder has an empty path.
+/// Tests whether a folder has an entry of this name. The current folder has an empty path.
 fn has_entry<F: Folders, A: Allocator>(
     alloc: A,
     files: &F,
@@ -67,7 +67,7 @@ fn has_entry<F: Folders, A: Allocator>(
     Ok(names.split(|b| *b == 0).any(|name| name == entry))
 }
 
-/// Tells whether there may be a file of this path, which is not UTF-8 and was not opened.
+/// Tests whether there may be a file of this path, which is not UTF-8 and was not opened.
 ///
 /// There is none if the folder before the first name that is not UTF-8 does not list that name.
 fn may_be_there<F: Folders, A: Allocator>(

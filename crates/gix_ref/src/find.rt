@@ -20,7 +20,7 @@ use std::alloc::{Allocator, Global};
 /// How many references are read at most, one leading to the next, as in git.
 pub(crate) const MOST_READ: u32 = 5;
 
-/// Is what a reference says.
+/// What a reference says.
 #[derive(Drop)]
 pub enum Target<A: Allocator = Global> {
     /// An id. `packed-refs` may also say the object to which a tag of this id leads.
@@ -32,7 +32,7 @@ pub enum Target<A: Allocator = Global> {
     Symbolic(Vec<u8, A>),
 }
 
-/// Is a reference that says an id.
+/// A reference that says an id.
 #[derive(Drop)]
 pub struct Reference<A: Allocator = Global> {
     /// The full name of the last reference, to which the symbolic ones lead.
@@ -42,7 +42,7 @@ pub struct Reference<A: Allocator = Global> {
     pub peeled: Option<ObjectId>,
 }
 
-/// Is what a reference says, or that it says garbage.
+/// What a reference says, or that it says garbage.
 #[derive(Drop)]
 pub(crate) enum Found<A: Allocator> {
     Id(ObjectId, Option<ObjectId>),
@@ -50,7 +50,7 @@ pub(crate) enum Found<A: Allocator> {
     Garbage,
 }
 
-/// Says where symbolic references lead.
+/// Where symbolic references lead.
 #[derive(Drop)]
 pub(crate) enum Led<A: Allocator> {
     Ends(Reference<A>),
@@ -100,7 +100,8 @@ impl<F: Folders + Drop, A: Allocator + Copy> References<F, A> {
 
     /// Returns where a reference leads. Reads at most so many references.
     pub(crate) fn follow_on(&mut self, name: &[u8], most: u32) -> Result<Led<A>, Fault>
-        ensures { IfOk result (λ l. Settles (known self.new) (λ k. leads most k name.now) (led_to l)) }
+        ensures grows { Grows (known self.old) (known self.new) }
+        ensures led { IfOk result (λ l. Settles (known self.new) (λ k. leads most k name.now) (led_to l)) }
     {
         let mut last = name.to_vec(self.alloc)?;
         for _ in 0..most {
@@ -120,7 +121,8 @@ impl<F: Folders + Drop, A: Allocator + Copy> References<F, A> {
 
     /// Returns where the reference with a full name leads. What is no name leads nowhere.
     pub(crate) fn follow_name(&mut self, name: &[u8]) -> Result<Led<A>, Fault>
-        ensures { IfOk result (λ l. Settles (known self.new) (λ k. name_leads k name.now) (led_to l)) }
+        ensures grows { Grows (known self.old) (known self.new) }
+        ensures led { IfOk result (λ l. Settles (known self.new) (λ k. name_leads k name.now) (led_to l)) }
     {
         if is_full_name(name) {
             self.follow_on(name, MOST_READ)
@@ -131,13 +133,14 @@ impl<F: Folders + Drop, A: Allocator + Copy> References<F, A> {
 
     /// Returns what the reference with this full name says; `None` if there is none.
     ///
-    /// It is the loose reference, or else what the first line of `packed-refs` says that tells of
-    /// the name. A name that git-check-ref-format refuses names no reference.
+    /// The loose reference counts. If there is none, the first line of `packed-refs` with the name
+    /// counts. A name that git-check-ref-format refuses names no reference.
     ///
     /// # Errors
     ///
     /// - `Broken` if the loose file says neither an id nor the name of a reference.
     /// - `Failed` if a file cannot be read, and `NotUtf8` if the path is not UTF-8.
+    /// - `Damaged` if `packed-refs` has a line that git does not write.
     /// - `OutOfMemory` if an allocation failed.
     pub fn find(&mut self, name: &[u8]) -> Result<Option<Target<A>>, Error>
         ensures found { IfSome (answer_says result) (Settles (known self.new) (λ k. name_says k name.now)) }

@@ -1,7 +1,7 @@
 //! Reads the references and the reflogs of a repository (gitrepository-layout, "refs").
 //!
 //! [`References`] is opened on a `.git` folder, and reaches files by the traits of `gix_odb` alone.
-//! A reference is a loose file, or else a line of `packed-refs`.
+//! A reference is a loose file or, if there is no such file, a line of `packed-refs`.
 //!
 //! - [`References::find`] returns what one reference says, and [`References::follow`] the id at
 //!   the end of its symbolic references.

@@ -12,7 +12,7 @@ use gix_base::hash::ObjectId;
 use gix_odb::files::Folders;
 use std::alloc::{Allocator, Global};
 
-/// Is an entry of a reflog.
+/// An entry of a reflog.
 #[derive(Drop)]
 pub struct LogEntry<A: Allocator = Global> {
     /// The id before the change. It has zeros only if there was none.
@@ -27,13 +27,13 @@ pub struct LogEntry<A: Allocator = Global> {
     pub message: Vec<u8, A>,
 }
 
-/// Is a reflog. The oldest entry comes first.
+/// A reflog. The oldest entry comes first.
 #[derive(Drop)]
 pub struct Reflog<A: Allocator = Global> {
     pub entries: Vec<LogEntry<A>, A>,
 }
 
-/// Is what a reflog says of a date.
+/// What a reflog says of a date.
 #[derive(Clone, Copy, Debug, PartialEq, Eq)]
 pub enum AtDate {
     /// The date is after the newest entry: the reference has the id that it has now.
@@ -45,7 +45,7 @@ pub enum AtDate {
     Before(ObjectId, u64),
 }
 
-/// Is what a line of a reflog says.
+/// What a line of a reflog says.
 #[derive(Clone, Copy)]
 struct Line<'a> {
     old: ObjectId,
@@ -160,7 +160,7 @@ impl<A: Allocator + Copy> Reflog<A> {
     }
 }
 
-/// Tells whether an id has zeros only.
+/// Tests whether an id has zeros only.
 fn is_null(id: &ObjectId) -> bool
     ensures { result ≡ is_null id.now.0 }
 {
@@ -182,7 +182,7 @@ fn last_new<A: Allocator>(entries: &[LogEntry<A>]) -> Option<ObjectId>
     }
 }
 
-/// Returns the old id of the last entry whose old id has not zeros only.
+/// Returns the old id of the last entry whose old id does not have only zeros.
 fn last_old<A: Allocator>(entries: &[LogEntry<A>]) -> Option<ObjectId>
     ensures { option_map (λ id. id.0) result ≡ last_old entries.now }
 {
@@ -211,7 +211,7 @@ impl<A: Allocator> Reflog<A> {
     /// Returns the id that the reference had `n` changes ago (gitrevisions, `<refname>@{<n>}`).
     ///
     /// That is the new id of the newest entry if `n` is 0. Otherwise it is the old id of the `n`th
-    /// newest entry, or of the next older one whose old id has not zeros only, as in git. It is
+    /// newest entry, or of the next older one whose old id is not zeros only, as in git. It is
     /// `None` if there is no such entry.
     pub fn nth(&self, n: usize) -> Option<ObjectId>
         ensures { option_map (λ id. id.0) result ≡ changes_ago n self.now.entries.items }

@@ -9,7 +9,7 @@ use crate::lines::id_of;
 use crate::name::is_full_name;
 use gix_base::hash::ObjectId;
 
-/// Is what a file of a reference says.
+/// What a file of a reference says.
 #[derive(Clone, Copy)]
 pub(crate) enum Said<'a> {
     Id(ObjectId),
@@ -18,7 +18,7 @@ pub(crate) enum Said<'a> {
     Garbage,
 }
 
-/// Tells whether a byte is white space for git.
+/// Tests whether a byte is white space for git.
 fn is_blank(byte: u8) -> bool
     ensures { result ≡ is_blank byte }
 {
@@ -53,7 +53,7 @@ fn trimmed_start(bytes: &[u8]) -> &[u8]
     rest
 }
 
-/// Tells whether the digits of an id may end before this.
+/// Tests whether the digits of an id may end before this.
 fn ends_digits(rest: &[u8]) -> bool
     ensures { result ≡ ends_digits rest.now }
 {

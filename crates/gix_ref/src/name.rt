@@ -1,4 +1,4 @@
-//! Tells what a name of a reference is (git-check-ref-format, `--allow-onelevel`).
+//! Decides what is a name of a reference (git-check-ref-format, `--allow-onelevel`).
 
 ghost use Rattle.std.specs.Prelude.{◌≡◌};
 ghost use Rattle.std.specs.List.{list_all};
@@ -7,7 +7,7 @@ ghost use Rattle.gix_ref.specs.Names.{is_plain, has_pair, is_part, is_name};
 
 use crate::lines::cut;
 
-/// Tells whether a byte may be in a name: no control character, no blank, none of `*:?[\^~`.
+/// Tests whether a byte may be in a name: no control character, no blank, none of `*:?[\^~`.
 fn is_plain(byte: u8) -> bool
     ensures { result ≡ is_plain byte }
 {
@@ -22,7 +22,7 @@ fn is_plain(byte: u8) -> bool
         && byte != b'~'
 }
 
-/// Tells whether all bytes may be in a name.
+/// Tests whether all bytes may be in a name.
 fn are_plain(name: &[u8]) -> bool
     ensures { result ≡ list_all is_plain name.now }
 {
@@ -34,7 +34,7 @@ fn are_plain(name: &[u8]) -> bool
     true
 }
 
-/// Tells whether two bytes are beside each other somewhere.
+/// Tests whether two bytes are beside each other somewhere.
 fn has_pair(name: &[u8], first: u8, second: u8) -> bool
     ensures { result ≡ has_pair first second 0 name.now }
 {
@@ -48,14 +48,14 @@ fn has_pair(name: &[u8], first: u8, second: u8) -> bool
     false
 }
 
-/// Tells whether a part between slashes has a good beginning and end.
+/// Tests whether a part between slashes has a good beginning and end.
 fn is_part(part: &[u8]) -> bool
     ensures { result ≡ is_part part.now }
 {
     !part.is_empty() && !part.starts_with(b".") && !part.ends_with(b".lock")
 }
 
-/// Tells whether all parts between slashes have a good beginning and end.
+/// Tests whether all parts between slashes have a good beginning and end.
 fn are_parts(name: &[u8]) -> bool
     ensures { result ≡ list_all is_part (parts 47 name.now) }
 {
@@ -73,7 +73,7 @@ fn are_parts(name: &[u8]) -> bool
     is_part(rest)
 }
 
-/// Tells whether bytes are the name of a reference, maybe of one level such as `HEAD`.
+/// Tests whether bytes are the name of a reference, which may have one level, such as `HEAD`.
 ///
 /// See git-check-ref-format, `--allow-onelevel`.
 pub fn is_full_name(name: &[u8]) -> bool

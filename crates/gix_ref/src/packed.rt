@@ -9,7 +9,7 @@ ghost use Rattle.gix_ref.specs.Said.{packed_said};
 use crate::lines::{cut, id_of};
 use gix_base::hash::ObjectId;
 
-/// Is what `packed-refs` says of a reference.
+/// What `packed-refs` says of a reference.
 #[derive(Clone, Copy)]
 pub(crate) struct Packed {
     pub(crate) id: ObjectId,
@@ -27,7 +27,69 @@ pub(crate) fn record(line: &[u8]) -> Option<(ObjectId, &[u8])> {
     }
 }
 
-/// Tells whether a text is a blank and this name.
+/// Returns what follows a header, and whether it says that the names are sorted; `None` if git
+/// refuses it.
+fn without_header(bytes: &[u8]) -> Option<(&[u8], bool)> {
+    if !bytes.starts_with(b"#") {
+        return Some((bytes, false));
+    }
+    let (line, after) = cut(bytes, b'\n');
+    let traits = line.strip_prefix(b"# pack-refs with:")?;
+    let is_sorted = traits
+        .split(|b| *b == b' ')
+        .any(|one| one == b"sorted".as_slice());
+    Some((after?, is_sorted))
+}
+
+/// Returns the name of a line `ID NAME`. It is below `refs/`.
+fn name_of(line: &[u8]) -> Option<&[u8]> {
+    let (digits, rest) = line.split_at_checked(40)?;
+    let name = rest.strip_prefix(b" ")?;
+    let is_record = name.starts_with(b"refs/") && digits.iter().all(|b| b.is_ascii_hexdigit());
+    is_record.then_some(name)
+}
+
+/// Returns what follows a line `^ID`, if such a line comes first; `None` if it is no such line.
+fn after_peeled(rest: &[u8]) -> Option<&[u8]> {
+    if !rest.starts_with(b"^") {
+        return Some(rest);
+    }
+    let (line, after) = cut(rest, b'\n');
+    peeled(line)?;
+    after
+}
+
+/// Returns the name in the first line `ID NAME`, and what follows it and its line `^ID`.
+fn first_record(rest: &[u8]) -> Option<(&[u8], &[u8])> {
+    let (line, after) = cut(rest, b'\n');
+    let name = name_of(line)?;
+    Some((name, after_peeled(after?)?))
+}
+
+/// Tests whether a file has only lines that git writes: maybe a header, then lines `ID NAME`, each
+/// maybe with a line `^ID` behind it. If the header says that the names are sorted, they are.
+pub(crate) fn is_whole(bytes: &[u8]) -> bool {
+    let Some((mut rest, is_sorted)) = without_header(bytes) else {
+        return false;
+    };
+    let mut last = b"".as_slice();
+    for _ in 0..bytes.len() {
+        if rest.is_empty() {
+            return true;
+        }
+        let Some((name, after)) = first_record(rest) else {
+            return false;
+        };
+        if is_sorted && name <= last {
+            return false;
+        }
+        last = name;
+        rest = after;
+    }
+    rest.is_empty()
+}
+
+/// Tests whether a text is a blank and this name.
 fn is_named(text: &[u8], name: &[u8]) -> bool
     ensures { result ≡ is_named text.now name.now }
 {

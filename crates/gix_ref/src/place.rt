@@ -1,7 +1,7 @@
-//! Tells where the files of a reference lie (gitrepository-layout, "refs", "worktrees"; git-worktree,
+//! Finds the files of a reference (gitrepository-layout, "refs", "worktrees"; git-worktree,
 //! "Refs").
 
-/// Says where a reference lies: `folder` and `below` are one name, cut behind `worktrees/ID/`.
+/// Where a reference is: `folder` and `below` are one name, cut after `worktrees/ID/`.
 #[derive(Clone, Copy)]
 pub(crate) struct Place<'a> {
     /// Whether it lies in the folder of this worktree, and not in the common one.
@@ -10,7 +10,7 @@ pub(crate) struct Place<'a> {
     pub(crate) below: &'a [u8],
 }
 
-/// Tells whether a name is that of a pseudo reference such as `HEAD`.
+/// Tests whether a name is that of a pseudo reference such as `HEAD`.
 fn is_pseudo(name: &[u8]) -> bool {
     for byte in name {
         if !byte.is_ascii_uppercase() && *byte != b'-' && *byte != b'_' {
@@ -20,7 +20,7 @@ fn is_pseudo(name: &[u8]) -> bool {
     true
 }
 
-/// Tells whether each worktree has its own reference of this name.
+/// Tests whether each worktree has its own reference of this name.
 pub(crate) fn is_per_worktree(name: &[u8]) -> bool {
     is_pseudo(name)
         || name.starts_with(b"refs/worktree/")

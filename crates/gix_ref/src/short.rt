@@ -1,49 +1,25 @@
 //! Reads short names by git's six rules (gitrevisions, `<refname>`), and shortens full names.
 
+ghost use Rattle.std.specs.Prelude.{◌≡◌, ◌++◌, IfOk, None, map};
+ghost use Rattle.std.specs.Option.{option_map};
+ghost use Rattle.gix_ref.specs.Known.{Grows, known};
+ghost use Rattle.gix_ref.specs.Leads.{name_leads, Settles};
+ghost use Rattle.gix_ref.specs.Short.{full_names, wins, first_found, short_means, meant};
+
+use crate::all::{Skipped, Why, why_garbage};
 use crate::error::{Error, Fault};
 use crate::find::{Led, Reference};
 use crate::log::Reflog;
+use crate::loose::{self, Said};
 use crate::store::References;
 use gix_base::hash::ObjectId;
 use gix_odb::files::Folders;
 use std::alloc::{AllocError, Allocator, Global};
 
-/// Is a rule: the full name is the short one between these.
-#[derive(Clone, Copy)]
-pub(crate) struct Rule {
-    before: &'static str,
-    after: &'static str,
-}
+/// What the full names begin with by the rules, the rule that wins first.
+static FRONTS: [&str; 5] = ["", "refs/", "refs/tags/", "refs/heads/", "refs/remotes/"];
 
-/// Has the six rules, the one that wins first.
-static RULES: [Rule; 6] = [
-    Rule {
-        before: "",
-        after: "",
-    },
-    Rule {
-        before: "refs/",
-        after: "",
-    },
-    Rule {
-        before: "refs/tags/",
-        after: "",
-    },
-    Rule {
-        before: "refs/heads/",
-        after: "",
-    },
-    Rule {
-        before: "refs/remotes/",
-        after: "",
-    },
-    Rule {
-        before: "refs/remotes/",
-        after: "/HEAD",
-    },
-];
-
-/// Is the reference that a short name stands for.
+/// The reference that a short name stands for.
 #[derive(Drop)]
 pub struct Named<A: Allocator = Global> {
     /// The full name by the rule. It may be that of a symbolic reference.
@@ -54,7 +30,7 @@ pub struct Named<A: Allocator = Global> {
     pub is_ambiguous: bool,
 }
 
-/// Is the reference with a reflog that a short name stands for.
+/// The reference with a reflog that a short name stands for.
 #[derive(Drop)]
 pub struct Logged<A: Allocator = Global> {
     /// The full name of the reference that has the reflog.
@@ -66,13 +42,34 @@ pub struct Logged<A: Allocator = Global> {
     pub is_ambiguous: bool,
 }
 
-/// Returns the full name of a short one by a rule.
-fn full_name<A: Allocator>(alloc: A, rule: &Rule, short: &[u8]) -> Result<Vec<u8, A>, AllocError> {
+/// Returns three texts one behind the other.
+fn joined<A: Allocator>(
+    alloc: A,
+    front: &[u8],
+    middle: &[u8],
+    end: &[u8],
+) -> Result<Vec<u8, A>, AllocError>
+    ensures { IfOk result (λ name. name.items ≡ front.now ++ middle.now ++ end.now) }
+{
     let mut name = Vec::new(alloc);
-    name.extend_from_slice(rule.before.as_bytes())?;
-    name.extend_from_slice(short)?;
-    name.extend_from_slice(rule.after.as_bytes())?;
+    name.extend_from_slice(front)?;
+    name.extend_from_slice(middle)?;
+    name.extend_from_slice(end)?;
     Ok(name)
+}
+
+/// Returns the full names of a short one by the six rules, the one that wins first.
+fn full_names<A: Allocator + Copy>(alloc: A, short: &[u8]) -> Result<Vec<Vec<u8, A>, A>, Fault>
+    ensures { IfOk result (λ names. map (λ n. n.items) names.items ≡ full_names short.now) }
+{
+    let mut names = Vec::new(alloc);
+    names.push(joined(alloc, b"", short, b"")?)?;
+    names.push(joined(alloc, b"refs/", short, b"")?)?;
+    names.push(joined(alloc, b"refs/tags/", short, b"")?)?;
+    names.push(joined(alloc, b"refs/heads/", short, b"")?)?;
+    names.push(joined(alloc, b"refs/remotes/", short, b"")?)?;
+    names.push(joined(alloc, b"refs/remotes/", short, b"/HEAD")?)?;
+    Ok(names)
 }
 
 impl<F: Folders + Drop, A: Allocator + Copy> References<F, A> {
@@ -85,58 +82,96 @@ impl<F: Folders + Drop, A: Allocator + Copy> References<F, A> {
         }
     }
 
-    /// Tells whether a rule reads a short name as a reference.
-    fn is_read(&mut self, rule: &Rule, short: &[u8]) -> Result<bool, Fault> {
-        let name = full_name(self.alloc, rule, short)?;
-        match self.sound(&name) {
-            Ok(found) => Ok(found.is_some()),
-            Err(error) => Err(error),
+    /// Returns why a full name is passed over; `None` if there is no such reference.
+    fn why_passed(&self, name: &[u8]) -> Option<Why> {
+        let content = self.content(name)?;
+        match loose::read(content) {
+            Said::Id(_) => None,
+            Said::LeadsTo(_) => Some(Why::LeadsNowhere),
+            Said::Garbage => Some(why_garbage(content)),
         }
     }
 
-    /// Tells whether one of the rules reads a short name as a reference, but for one of them.
-    fn is_read_by(&mut self, rules: &[Rule], but: usize, short: &[u8]) -> Result<bool, Fault> {
-        for (i, rule) in rules.iter().enumerate() {
-            if i != but && self.is_read(rule, short)? {
-                return Ok(true);
-            }
+    /// Notes why a full name is passed over, if it has a file.
+    fn note_passed(&mut self, name: &[u8]) -> Result<(), Fault>
+        ensures { known self.new ≡ known self.old }
+    {
+        if let Some(why) = self.why_passed(name) {
+            let name = name.to_vec(self.alloc)?;
+            self.passed.push(Skipped { name, why })?;
         }
-        Ok(false)
+        Ok(())
     }
 
-    /// Returns the reference that the first rule reads.
-    fn first_read(&mut self, short: &[u8]) -> Result<Option<Named<A>>, Fault> {
-        for (i, rule) in RULES.iter().enumerate() {
-            let name = full_name(self.alloc, rule, short)?;
-            if let Some(reference) = self.sound(&name)? {
-                let others = RULES.get(i.saturating_add(1)..).unwrap_or(&[]);
-                let is_ambiguous = self.is_read_by(others, usize::MAX, short)?;
-                return Ok(Some(Named {
-                    name,
-                    reference,
-                    is_ambiguous,
-                }));
+    /// Returns the reference to which a full name leads, or else what further names lead to.
+    fn found_before(
+        &mut self,
+        name: Vec<u8, A>,
+        others: Option<Named<A>>,
+    ) -> Result<Option<Named<A>>, Fault>
+        ensures grows { Grows (known self.old) (known self.new) }
+        ensures found { IfOk result (λ found. Settles (known self.new) (λ k. wins (name_leads k name.items) name.items (option_map meant others)) (option_map meant found)) }
+    {
+        match self.follow_name(&name)? {
+            Led::Ends(reference) => Ok(Some(Named {
+                name,
+                reference,
+                is_ambiguous: others.is_some(),
+            })),
+            _ => {
+                self.note_passed(&name)?;
+                Ok(others)
             }
         }
-        Ok(None)
+    }
+
+    /// Returns the reference to which the first of some full names leads that leads to one.
+    fn first_found(&mut self, mut names: Vec<Vec<u8, A>, A>) -> Result<Option<Named<A>>, Fault>
+        ensures { IfOk result (λ found. Settles (known self.new) (λ k. first_found (map (λ n. n.items) names.items) (λ name. name_leads k name) None) (option_map meant found)) }
+    {
+        let mut found = None;
+        for _ in 0..names.len() {
+            let Some(name) = names.pop() else {
+                return Ok(found);
+            };
+            found = self.found_before(name, found)?;
+        }
+        Ok(found)
+    }
+
+    /// Returns the reference that a short name stands for.
+    fn by_rules(&mut self, short: &[u8]) -> Result<Option<Named<A>>, Fault>
+        ensures { IfOk result (λ found. Settles (known self.new) (λ k. short_means k short.now) (option_map meant found)) }
+    {
+        let names = full_names(self.alloc, short)?;
+        self.first_found(names)
     }
 
     /// Returns the reference that a short name stands for; `None` if there is none.
     ///
     /// The six rules of gitrevisions, `<refname>`, are tried in their order, and the first that has
     /// a reference wins. One that is broken or leads nowhere counts as missing, as in git. Whether
-    /// a further rule has one is said too: git then warns `refname 'x' is ambiguous`.
+    /// a further rule has one is returned, too: git then warns `refname 'x' is ambiguous`.
     ///
     /// # Errors
     ///
     /// - `Failed` if a file cannot be read, and `NotUtf8` if the short name is not UTF-8.
+    /// - `Damaged` if `packed-refs` has a line that git does not write.
     /// - `OutOfMemory` if an allocation failed.
-    pub fn short(&mut self, short: &[u8]) -> Result<Option<Named<A>>, Error> {
+    pub fn short(&mut self, short: &[u8]) -> Result<Option<Named<A>>, Error>
+        ensures found { IfOk result (λ found. Settles (known self.new) (λ k. short_means k short.now) (option_map meant found)) }
+    {
         self.begin();
-        match self.first_read(short) {
+        match self.by_rules(short) {
             Ok(found) => Ok(found),
             Err(fault) => Err(fault.error()),
         }
+    }
+
+    /// Lists the references that the last call of [`References::short`] has passed over, since they
+    /// are broken or lead nowhere. git warns of them.
+    pub fn passed_over(&self) -> &[Skipped<A>] {
+        &self.passed
     }
 
     /// Returns the reflog of the reference with a full name, or else of the one to which it leads.
@@ -157,19 +192,21 @@ impl<F: Folders + Drop, A: Allocator + Copy> References<F, A> {
         }))
     }
 
-    /// Returns the reference with a reflog that a rule reads.
-    fn logged_by(&mut self, rule: &Rule, short: &[u8]) -> Result<Option<Logged<A>>, Fault> {
-        let name = full_name(self.alloc, rule, short)?;
-        match self.sound(&name)? {
-            Some(reference) => self.log_of(name, reference),
+    /// Returns the reference with a reflog that a full name leads to.
+    fn logged(&mut self, name: &[u8]) -> Result<Option<Logged<A>>, Fault> {
+        match self.sound(name)? {
+            Some(reference) => {
+                let name = name.to_vec(self.alloc)?;
+                self.log_of(name, reference)
+            }
             None => Ok(None),
         }
     }
 
-    /// Tells whether one of the rules reads a short name as a reference with a reflog.
-    fn is_logged_by(&mut self, rules: &[Rule], short: &[u8]) -> Result<bool, Fault> {
-        for rule in rules {
-            if self.logged_by(rule, short)?.is_some() {
+    /// Tests whether one of some full names leads to a reference with a reflog.
+    fn is_one_logged(&mut self, names: &[Vec<u8, A>]) -> Result<bool, Fault> {
+        for name in names {
+            if self.logged(name)?.is_some() {
                 return Ok(true);
             }
         }
@@ -178,10 +215,11 @@ impl<F: Folders + Drop, A: Allocator + Copy> References<F, A> {
 
     /// Returns the reference with a reflog that the first rule reads.
     fn first_logged(&mut self, short: &[u8]) -> Result<Option<Logged<A>>, Fault> {
-        for (i, rule) in RULES.iter().enumerate() {
-            if let Some(mut logged) = self.logged_by(rule, short)? {
-                let others = RULES.get(i.saturating_add(1)..).unwrap_or(&[]);
-                logged.is_ambiguous = self.is_logged_by(others, short)?;
+        let names = full_names(self.alloc, short)?;
+        for (i, name) in names.iter().enumerate() {
+            if let Some(mut logged) = self.logged(name)? {
+                let others = names.get(i.saturating_add(1)..).unwrap_or(&[]);
+                logged.is_ambiguous = self.is_one_logged(others)?;
                 return Ok(Some(logged));
             }
         }
@@ -205,6 +243,45 @@ impl<F: Folders + Drop, A: Allocator + Copy> References<F, A> {
         }
     }
 
+    /// Tells by the list of all references whether there is one with a full name; `None` if there is
+    /// no list, or it does not tell.
+    fn listed(&self, name: &[u8]) -> Option<bool> {
+        match &self.names {
+            Some(all) if name.starts_with(b"refs/") => all.tells(name),
+            _ => None,
+        }
+    }
+
+    /// Tests whether a full name leads to a reference.
+    fn is_there(&mut self, name: &[u8]) -> Result<bool, Fault> {
+        if let Some(is_there) = self.listed(name) {
+            return Ok(is_there);
+        }
+        if !name.starts_with(b"refs/") {
+            // `packed-refs` has no such name.
+            self.read_loose(name)?;
+            if self.content(name).is_none() {
+                return Ok(false);
+            }
+        }
+        match self.sound(name) {
+            Ok(found) => Ok(found.is_some()),
+            Err(error) => Err(error),
+        }
+    }
+
+    /// Tests whether one of the first `count` rules, except the one at `but`, reads a short name as
+    /// a reference.
+    fn is_read_by(&mut self, count: usize, but: usize, short: &[u8]) -> Result<bool, Fault> {
+        let names = full_names(self.alloc, short)?;
+        for (i, name) in names.iter().enumerate() {
+            if i < count && i != but && self.is_there(name)? {
+                return Ok(true);
+            }
+        }
+        Ok(false)
+    }
+
     /// Returns the shortest text by rule `i`, if no other rule reads it. If `strict` is unset,
     /// only the rules before it count.
     fn shortened<'a>(
@@ -213,16 +290,28 @@ impl<F: Folders + Drop, A: Allocator + Copy> References<F, A> {
         name: &'a [u8],
         strict: bool,
     ) -> Result<Option<&'a [u8]>, Fault> {
-        let Some(rule) = RULES.get(i) else {
+        let Some(front) = FRONTS.get(i) else {
             return Ok(None);
         };
-        let Some(text) = name.strip_prefix(rule.before.as_bytes()) else {
+        let Some(text) = name.strip_prefix(front.as_bytes()) else {
             return Ok(None);
         };
-        let count = if strict { RULES.len() } else { i };
-        let rules = RULES.get(..count).unwrap_or(&RULES);
-        let is_read = self.is_read_by(rules, i, text)?;
+        let count = if strict { usize::MAX } else { i };
+        let is_read = self.is_read_by(count, i, text)?;
         Ok((!text.is_empty() && !is_read).then_some(text))
+    }
+
+    /// Lists all references. From now on, until [`References::refresh`], names are shortened by this
+    /// list, so that files are not read for each name.
+    ///
+    /// # Errors
+    ///
+    /// Those of [`References::all`].
+    pub fn list_once(&mut self) -> Result<(), Error> {
+        if self.names.is_none() {
+            self.names = Some(self.all(b"")?);
+        }
+        Ok(())
     }
 
     /// Returns the shortest text that the rules read as the reference with this full name.

@@ -1,16 +1,18 @@
-//! Has the references of a repository, and what an answer has read of them.
+//! The references of a repository, and what an answer has read of them.
 
 ghost use Rattle.std.specs.Prelude.{◌≡◌, ◌++◌, ◌∷◌, [], OnOk, is_some, true};
 ghost use Rattle.std.specs.Option.{option_map, unwrap_or};
 ghost use Rattle.gix_ref.specs.Known.{Grows, known, read_of, first_read, content_of};
 
-use crate::error::{Error, Fault};
+use crate::all::{Listing, Skipped};
+use crate::error::{Error, ErrorName, Fault};
 use crate::files::read;
+use crate::packed::is_whole;
 use crate::place::located;
 use gix_odb::files::Folders;
 use std::alloc::{Allocator, Global};
 
-/// Is what an answer has read of a loose reference. The content is `None` if there is no file.
+/// What an answer has read of a loose reference. The content is `None` if there is no file.
 #[derive(Drop)]
 pub(crate) struct Reading<A: Allocator> {
     pub(crate) name: Vec<u8, A>,
@@ -28,6 +30,10 @@ pub struct References<F: Folders + Drop, A: Allocator + Copy = Global> {
     pub(crate) packed: Option<Vec<u8, A>>,
     // What the current answer has read. The first reading of a name counts.
     pub(crate) readings: Vec<Reading<A>, A>,
+    // The references that the current answer has passed over.
+    pub(crate) passed: Vec<Skipped<A>, A>,
+    // All references, if names are shortened by a list.
+    pub(crate) names: Option<Listing<A>>,
 }
 
 /// Returns copies of two paths.
@@ -62,14 +68,18 @@ impl<F: Folders + Drop, A: Allocator + Copy> References<F, A> {
                 common_dir,
                 packed: None,
                 readings: Vec::new(alloc),
+                passed: Vec::new(alloc),
+                names: None,
             }),
             Err(fault) => Err(fault.error()),
         }
     }
 
-    /// Forgets what was read of `packed-refs`, so that the next answer reads it anew.
+    /// Forgets what was read of `packed-refs` and the list of all references, so that the next answer
+    /// reads them anew.
     pub fn refresh(&mut self) {
         self.packed = None;
+        self.names = None;
     }
 
     /// Forgets what the last answer has read of loose references.
@@ -77,6 +87,7 @@ impl<F: Folders + Drop, A: Allocator + Copy> References<F, A> {
         ensures { (known self.new).loose ≡ [] }
     {
         self.readings.clear();
+        self.passed.clear();
     }
 
     /// Returns the path of a reference, or of its reflog if `logs` is `logs/`.
@@ -150,9 +161,14 @@ impl<F: Folders + Drop, A: Allocator + Copy> References<F, A> {
     fn packed_file(&self) -> Result<Vec<u8, A>, Fault> {
         let mut path = self.common_dir.to_vec(self.alloc)?;
         path.extend_from_slice(b"/packed-refs")?;
-        match read(self.alloc, &self.files, &path, b"packed-refs")? {
-            Some(bytes) => Ok(bytes),
-            None => Ok(Vec::new(self.alloc)),
+        let bytes = match read(self.alloc, &self.files, &path, b"packed-refs")? {
+            Some(bytes) => bytes,
+            None => Vec::new(self.alloc),
+        };
+        if is_whole(&bytes) {
+            Ok(bytes)
+        } else {
+            Err(Fault::Damaged(ErrorName::new(b"packed-refs")))
         }
     }
 

@@ -15,7 +15,7 @@ use gix_revision::hash::ObjectId;
 use std::alloc::{AllocError, Allocator};
 use std::collections::BTreeMap;
 
-/// Has the commits whose parents, or whose content, the repository changes.
+/// The commits whose parents, or whose content, the repository changes.
 #[derive(Drop)]
 pub(crate) struct Changes<A: Allocator> {
     /// The parents of grafted commits, and those of the commits at which a shallow history ends.
@@ -88,9 +88,9 @@ pub(crate) struct Commits<F: Folders + Drop, A: Allocator + Copy> {
     /// The commit-graph, if it is used. In authentic mode it is not, nor if anything is changed.
     pub(crate) rows: Option<GraphRows<F, A>>,
     pub(crate) changes: Changes<A>,
-    /// Says why the last commit was not read from objects.
+    /// Why the last commit was not read from objects.
     pub(crate) error: Option<gix_odb::Error>,
-    /// Says why the commit-graph cannot be used further.
+    /// Why the commit-graph cannot be used further.
     pub(crate) damage: Option<gix_graph_rows::Error>,
 }
 

@@ -1,11 +1,11 @@
-//! Has the reasons why a question has no answer.
+//! The reasons why a question has no answer.
 
 use gix_history::ReadError;
 use std::alloc::{AllocError, AllocFailed};
 use std::fmt;
 use thiserror::Error as StdError;
 
-/// Says why a repository is not read further, or why a text names nothing.
+/// Why a repository is not read further, or why a text names nothing.
 #[derive(Clone, Copy, Debug, PartialEq, Eq, Drop, StdError)]
 pub enum Refusal {
     /// The text names nothing.

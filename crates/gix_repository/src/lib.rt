@@ -1,9 +1,9 @@
-//! Answers questions about a git repository as it lies on disk.
+//! Answers questions about a git repository on disk.
 //!
 //! A [`Repository`] is opened on what `gix_discover` found. It looks up names in references and
-//! reflogs (`gix_ref`), and abbreviated object names in packs and loose objects (`gix_odb`). It reads commits as a
-//! question asks for them (`gix_history`): from the commit-graph row by row (`gix_graph_rows`), or
-//! from objects.
+//! reflogs (`gix_ref`), and abbreviated object names in packs and loose objects (`gix_odb`). It
+//! reads commits as a question asks for them (`gix_history`): from the commit-graph row by row
+//! (`gix_graph_rows`), or from objects.
 //!
 //! - [`Repository::ask`] answers any question of `gix_history`. The answer is proved: it is right
 //!   for every history that has the commits that were read.

@@ -2,6 +2,7 @@
 
 use crate::repository::Repository;
 use gix_odb::files::Folders;
+use gix_ref::Why;
 use std::alloc::{AllocError, Allocator};
 
 /// Adds a line of three parts.
@@ -18,6 +19,17 @@ fn add_line<A: Allocator>(
     Ok(())
 }
 
+/// Returns what git says before the name of a reference that it passes over, if it says something.
+fn warning_of(why: Why, name: &[u8]) -> Option<&'static [u8]> {
+    match why {
+        Why::LeadsNowhere if name != b"HEAD".as_slice() => {
+            Some(b"warning: ignoring dangling symref ".as_slice())
+        }
+        Why::Broken if name.contains(&b'/') => Some(b"warning: ignoring broken ref ".as_slice()),
+        _ => None,
+    }
+}
+
 impl<F: Folders + Drop, A: Allocator + Copy> Repository<F, A> {
     /// Adds a message of three parts, unless nothing is to be said.
     pub(crate) fn say(
@@ -30,6 +42,16 @@ impl<F: Folders + Drop, A: Allocator + Copy> Repository<F, A> {
             return Ok(());
         }
         add_line(&mut self.messages, before, name, behind)
+    }
+
+    /// Warns of each reference that was passed over, even if nothing is to be said, as git does.
+    pub(crate) fn warn_of_passed(&mut self) -> Result<(), AllocError> {
+        for passed in self.references.passed_over() {
+            if let Some(warning) = warning_of(passed.why, &passed.name) {
+                add_line(&mut self.messages, warning, &passed.name, b"")?;
+            }
+        }
+        Ok(())
     }
 
     /// Warns that a name is ambiguous, unless `core.warnAmbiguousRefs` is unset.

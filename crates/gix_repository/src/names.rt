@@ -10,7 +10,7 @@ use std::alloc::Allocator;
 /// How many objects are looked at if digits are ambiguous and a commit is wanted.
 const MOST_CANDIDATES: usize = 4096;
 
-/// Says which objects the digits of several objects may mean.
+/// Which object is meant if several objects begin with the same digits.
 #[derive(Clone, Copy, PartialEq, Eq)]
 pub(crate) enum Wanted {
     /// Any object.
@@ -23,7 +23,7 @@ pub(crate) enum Wanted {
     Treeish,
 }
 
-/// Is the reference that a revision names.
+/// The reference that a revision names.
 #[derive(Drop)]
 pub(crate) struct NamedReference<A: Allocator> {
     /// The full name at the end of symbolic references.
@@ -32,7 +32,7 @@ pub(crate) struct NamedReference<A: Allocator> {
     pub(crate) is_ambiguous: bool,
 }
 
-/// Holds the object that a name stands for, and the names of the reference if it is one.
+/// The object that a name stands for, and the names of the reference if it is one.
 #[derive(Drop)]
 pub(crate) struct Named<A: Allocator> {
     pub(crate) id: ObjectId,
@@ -129,7 +129,11 @@ impl<F: Folders + Drop, A: Allocator + Copy> Repository<F, A> {
 
     /// Returns the reference with a short name, and warns if the name is ambiguous.
     fn reference(&mut self, name: &[u8]) -> Result<Option<Named<A>>, Refusal> {
-        let Some(named) = self.references.short(unabbreviated(name))? else {
+        let found = self.references.short(unabbreviated(name))?;
+        if self.warns || found.is_none() {
+            self.warn_of_passed()?;
+        }
+        let Some(named) = found else {
             return Ok(None);
         };
         if named.is_ambiguous || self.is_one_id(name)? {
@@ -154,6 +158,7 @@ impl<F: Folders + Drop, A: Allocator + Copy> Repository<F, A> {
     ///
     /// - `Unknown` if none does, or these are not at least four digits.
     /// - `Ambiguous` if more than one does, and not exactly one of them is wanted.
+    /// - `NotSupported` if more than one does, and `core.disambiguate` says which one is wanted.
     /// - `Object` if it has to be known which one is wanted, and an object was not read.
     fn completed(&mut self, digits: &[u8], wanted: Wanted) -> Result<ObjectId, Refusal> {
         let Ok(prefix) = Prefix::from_hex(digits) else {
@@ -170,8 +175,17 @@ impl<F: Folders + Drop, A: Allocator + Copy> Repository<F, A> {
             [] => Err(Refusal::Unknown),
             [id] => Ok(*id),
             ids if wanted != Wanted::Any => self.only_wanted(ids, wanted),
+            _ if self.has_preference() => Err(Refusal::NotSupported),
             _ => Err(Refusal::Ambiguous),
         }
+    }
+
+    /// Returns whether a setting says which objects digits rather mean (git-config,
+    /// `core.disambiguate`).
+    fn has_preference(&self) -> bool {
+        self.settings
+            .value(b"core", None, b"disambiguate")
+            .is_some()
     }
 
     /// Returns the one object of several that is wanted.
@@ -199,7 +213,7 @@ impl<F: Folders + Drop, A: Allocator + Copy> Repository<F, A> {
     }
 }
 
-/// Is what git says if a reference has the name of an id.
+/// What git prints if a reference has the name of an id.
 const OBJECT_NAME_ADVICE: &[u8] =
     b"Git normally never creates a ref that ends with 40 hex characters
 because it will be ignored when you just specify 40-hex. These refs

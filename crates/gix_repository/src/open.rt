@@ -16,17 +16,17 @@ use gix_revision::date::Time;
 use gix_revision::hash::ObjectId;
 use std::alloc::{AllocError, AllocFailed, Allocator, Global};
 
-/// Says which files are believed.
+/// Which files are believed.
 #[derive(Clone, Copy, Debug, PartialEq, Eq)]
 pub enum Mode {
     /// The commit-graph is, and what changes commits: grafts, replace references, a shallow history.
     Usual,
-    /// Only objects are, each the content of its id. All that a question's commits reach is read,
-    /// and an answer has no premise.
+    /// Only objects are, and only if their SHA-1 is their id. All that a question's commits reach
+    /// is read, and an answer has no premise.
     Authentic,
 }
 
-/// Says why a repository is not opened.
+/// Why a repository is not opened.
 #[derive(Debug, Drop)]
 pub enum OpenError<A: Allocator = Global> {
     /// It is not found, or it or its settings are refused.
@@ -206,7 +206,7 @@ fn store_of<F: Folders + Drop, A: Allocator + Copy>(
     Ok(Store::open_with(alloc, files, &layout.objects, &more)?)
 }
 
-/// Says what a repository is opened with.
+/// What a repository is opened with.
 #[derive(Clone, Copy)]
 pub struct Opening {
     /// The memory of refusals, which take none.

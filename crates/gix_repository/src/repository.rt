@@ -1,4 +1,4 @@
-//! Has the repository, and the questions about its history.
+//! The repository, and the questions about its history.
 
 ghost use Rattle.std.specs.Prelude.{◌≡◌, IfOk};
 ghost use Rattle.gix_repository.specs.Answers.{answered_over};
@@ -67,7 +67,7 @@ impl<F: Folders + Drop, A: Allocator + Copy> Repository<F, A> {
         self.warns
     }
 
-    /// Says nothing about the names that are looked up from now on, or again something (git-rev-parse,
+    /// Turns off, or on again, the messages about names that are looked up (git-rev-parse,
     /// "--quiet").
     pub fn set_quiet(&mut self, is_quiet: bool) {
         self.is_quiet = is_quiet;
@@ -101,6 +101,17 @@ impl<F: Folders + Drop, A: Allocator + Copy> Repository<F, A> {
     /// - `OutOfMemory` if an allocation failed.
     pub fn shortest_name(&mut self, name: &[u8], strict: bool) -> Result<Vec<u8, A>, Refusal> {
         Ok(self.references.shortest(name, strict)?.to_vec(self.alloc)?)
+    }
+
+    /// Lists all references once, so that files are not read for each name that is shortened.
+    ///
+    /// # Errors
+    ///
+    /// - `Reference` if a file or a folder was not read.
+    /// - `OutOfMemory` if an allocation failed.
+    pub fn list_names_once(&mut self) -> Result<(), Refusal> {
+        self.references.list_once()?;
+        Ok(())
     }
 
     /// Returns what the HEAD of the work tree stands for, and the HEAD of each other one.

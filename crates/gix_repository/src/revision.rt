@@ -253,7 +253,7 @@ fn has_braces(text: &[u8]) -> bool {
     text.windows(2).any(|two| two == b"@{".as_slice())
 }
 
-/// Holds what came of a look-up.
+/// What came of a look-up.
 #[derive(Drop)]
 struct Outcome<A: Allocator> {
     parsed: bool,
@@ -332,7 +332,7 @@ impl<F: Folders + Drop, A: Allocator + Copy> Repository<F, A> {
     ///
     /// - `Unknown` if it names nothing, and `Ambiguous` if its digits are those of several objects.
     /// - `Fatal` for what a branch or a reflog lacks. The message is among the messages.
-    /// - `NotSupported` for a path, a search, and a range.
+    /// - `NotSupported` for a path, a range, and a search by a regular expression.
     /// - `Commit`, `Object` or `Reference` if something was not read that the answer needs.
     /// - `OutOfMemory` if an allocation failed.
     pub fn object(&mut self, text: &[u8]) -> Result<ObjectId, Refusal> {

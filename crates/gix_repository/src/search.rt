@@ -9,7 +9,7 @@ use gix_revision::hash::ObjectId;
 use std::alloc::Allocator;
 use std::collections::{BinaryHeap, HashMap};
 
-/// Is a commit that was met and not searched: the newest is the greatest, and of those with one
+/// A commit that was met and not searched. The newest is the greatest, and of those with the same
 /// date the one that was met first.
 #[derive(Clone, Copy, PartialEq, Eq, PartialOrd, Ord)]
 struct Waiting {
@@ -66,7 +66,7 @@ impl<F: Folders + Drop, A: Allocator + Copy> Repository<F, A> {
         Ok(contains(message_of(&object.content), text))
     }
 
-    /// Lets the commits wait that were not met before.
+    /// Adds those of some commits that were not met before to the ones that wait.
     fn wait_for(
         &mut self,
         ids: &[ObjectId],

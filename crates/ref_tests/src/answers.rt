@@ -98,6 +98,26 @@ fn push_short<F: Folders + Drop, A: Allocator + Copy>(
             to.extend_from_slice(b" ambiguous")?;
         }
     }
+    for passed in references.passed_over() {
+        let why = passed.why;
+        if write!(to, " {why:?}").is_err() {
+            return Err(NoAnswer::OutOfMemory);
+        }
+    }
+    Ok(())
+}
+
+/// Answers with the shortest name that no other rule reads, if files and a list say the same.
+fn push_strict<F: Folders + Drop, A: Allocator + Copy>(
+    references: &mut References<F, A>,
+    name: &[u8],
+    to: &mut Vec<u8, A>,
+) -> Result<(), NoAnswer> {
+    let by_files = references.shortest(name, true)?;
+    references.list_once()?;
+    if references.shortest(name, true)? == by_files {
+        to.extend_from_slice(by_files)?;
+    }
     Ok(())
 }
 
@@ -228,7 +248,7 @@ pub(crate) fn push_answer<F: Folders + Drop, A: Allocator + Copy>(
         Ask::Short => push_short(references, name, to),
         Ask::Find => push_said(references, name, to),
         Ask::Follow => push_followed(references, name, to),
-        Ask::Strict => Ok(to.extend_from_slice(references.shortest(name, true)?)?),
+        Ask::Strict => push_strict(references, name, to),
         Ask::Loose => Ok(to.extend_from_slice(references.shortest(name, false)?)?),
         Ask::Nth(number) => push_nth(references, name, number, to),
         Ask::At(seconds) => push_at(references, name, seconds, to),

@@ -6,6 +6,8 @@ mod answers;
 #[cfg(test)]
 mod fake;
 #[cfg(test)]
+mod packed;
+#[cfg(test)]
 mod rows;
 #[cfg(test)]
 mod tables;

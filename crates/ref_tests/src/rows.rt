@@ -26,6 +26,7 @@ fn error_text(error: Error) -> &'static [u8] {
         Error::Broken(_) => b"broken",
         Error::TooDeep(_) => b"too deep",
         Error::NotUtf8(_) => b"not UTF-8",
+        Error::Damaged(_) => b"damaged",
         Error::Failed(..) | Error::OutOfMemory => b"failed",
     }
 }

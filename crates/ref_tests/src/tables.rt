@@ -210,28 +210,28 @@ pub(crate) static ROWS: [Row; 110] = [
         ask: Ask::Short,
         linked: false,
         name: b"chain0",
-        answer: b"",
+        answer: b" LeadsNowhere",
         fails: false,
     },
     Row {
         ask: Ask::Short,
         linked: false,
         name: b"dang",
-        answer: b"",
+        answer: b" LeadsNowhere",
         fails: false,
     },
     Row {
         ask: Ask::Short,
         linked: false,
         name: b"broken",
-        answer: b"",
+        answer: b" Broken",
         fails: false,
     },
     Row {
         ask: Ask::Short,
         linked: false,
         name: b"empty",
-        answer: b"",
+        answer: b" Broken",
         fails: false,
     },
     Row {
@@ -259,14 +259,14 @@ pub(crate) static ROWS: [Row; 110] = [
         ask: Ask::Short,
         linked: false,
         name: b"badname",
-        answer: b"",
+        answer: b" LeadsNowhere",
         fails: false,
     },
     Row {
         ask: Ask::Short,
         linked: false,
         name: b"loop",
-        answer: b"",
+        answer: b" LeadsNowhere",
         fails: false,
     },
     Row {
@@ -589,14 +589,14 @@ pub(crate) static ROWS: [Row; 110] = [
         linked: false,
         name: b"refs/tags/both",
         answer: b"tags/both",
-        fails: true,
+        fails: false,
     },
     Row {
         ask: Ask::Loose,
         linked: false,
         name: b"refs/tags/both",
         answer: b"both",
-        fails: false,
+        fails: true,
     },
     Row {
         ask: Ask::Strict,
@@ -889,21 +889,21 @@ pub(crate) static ROWS: [Row; 110] = [
         ask: Ask::All,
         linked: false,
         name: b"",
-        answer: b"refs/bisect/bad f11c82a4cb6cc2e8f3bdf52b5cdeaad4d5bb214e\nrefs/heads/blanks 56a6051ca2b02b04ef92d5150c9ef600403cb1de ref\nrefs/heads/both d8263ee9860594d2806b0dfd1bfd17528b0ba2a4\nrefs/heads/caf\xc3\xa9 2e65efe2a145dda7ee51d1741299f848e5bf752e\nrefs/heads/chain1 56a6051ca2b02b04ef92d5150c9ef600403cb1de ref\nrefs/heads/chain2 56a6051ca2b02b04ef92d5150c9ef600403cb1de ref\nrefs/heads/chain3 56a6051ca2b02b04ef92d5150c9ef600403cb1de ref\nrefs/heads/chain4 56a6051ca2b02b04ef92d5150c9ef600403cb1de ref\nrefs/heads/junk 56a6051ca2b02b04ef92d5150c9ef600403cb1de\nrefs/heads/main 56a6051ca2b02b04ef92d5150c9ef600403cb1de\nrefs/heads/packed bf0d87ab1b2b0ec1a11a3973d2845b42413d9767\nrefs/heads/sym bf0d87ab1b2b0ec1a11a3973d2845b42413d9767 ref\nrefs/heads/upper 7813681f5b41c028345ca62a2be376bae70b7f61\nrefs/remotes/origin/HEAD 301160a93062df23030a69f4b5e4d9bf71866ee9 ref\nrefs/remotes/origin/main 301160a93062df23030a69f4b5e4d9bf71866ee9\nrefs/tags/ann 896519d262bef0cf300a6a9f862c48b40772a539 62f9457511f879886bb7728c986fe10b0ece6bcb\nrefs/tags/both c7930257dfef505fd996e1d6f22f2f35149990d0\nrefs/heads/badname Broken\nrefs/heads/broken Broken\nrefs/heads/chain0 Broken\nrefs/heads/dang LeadsNowhere\nrefs/heads/empty Broken\nrefs/heads/loop Broken\nrefs/heads/lost.lock Broken\nrefs/heads/zeros Broken\nrefs/odd/caf\xe9 NotUtf8\n",
+        answer: b"refs/bisect/bad f11c82a4cb6cc2e8f3bdf52b5cdeaad4d5bb214e\nrefs/heads/blanks 56a6051ca2b02b04ef92d5150c9ef600403cb1de ref\nrefs/heads/both d8263ee9860594d2806b0dfd1bfd17528b0ba2a4\nrefs/heads/caf\xc3\xa9 2e65efe2a145dda7ee51d1741299f848e5bf752e\nrefs/heads/chain1 56a6051ca2b02b04ef92d5150c9ef600403cb1de ref\nrefs/heads/chain2 56a6051ca2b02b04ef92d5150c9ef600403cb1de ref\nrefs/heads/chain3 56a6051ca2b02b04ef92d5150c9ef600403cb1de ref\nrefs/heads/chain4 56a6051ca2b02b04ef92d5150c9ef600403cb1de ref\nrefs/heads/junk 56a6051ca2b02b04ef92d5150c9ef600403cb1de\nrefs/heads/main 56a6051ca2b02b04ef92d5150c9ef600403cb1de\nrefs/heads/packed bf0d87ab1b2b0ec1a11a3973d2845b42413d9767\nrefs/heads/sym bf0d87ab1b2b0ec1a11a3973d2845b42413d9767 ref\nrefs/heads/upper 7813681f5b41c028345ca62a2be376bae70b7f61\nrefs/remotes/origin/HEAD 301160a93062df23030a69f4b5e4d9bf71866ee9 ref\nrefs/remotes/origin/main 301160a93062df23030a69f4b5e4d9bf71866ee9\nrefs/tags/ann 896519d262bef0cf300a6a9f862c48b40772a539 62f9457511f879886bb7728c986fe10b0ece6bcb\nrefs/tags/both c7930257dfef505fd996e1d6f22f2f35149990d0\nrefs/heads/badname LeadsNowhere\nrefs/heads/broken Broken\nrefs/heads/chain0 LeadsNowhere\nrefs/heads/dang LeadsNowhere\nrefs/heads/empty Broken\nrefs/heads/loop LeadsNowhere\nrefs/heads/lost.lock Broken\nrefs/heads/zeros Broken\nrefs/odd/caf\xe9 NotUtf8\n",
         fails: false,
     },
     Row {
         ask: Ask::All,
         linked: true,
         name: b"",
-        answer: b"refs/bisect/bad bf0d87ab1b2b0ec1a11a3973d2845b42413d9767\nrefs/heads/blanks 56a6051ca2b02b04ef92d5150c9ef600403cb1de ref\nrefs/heads/both d8263ee9860594d2806b0dfd1bfd17528b0ba2a4\nrefs/heads/caf\xc3\xa9 2e65efe2a145dda7ee51d1741299f848e5bf752e\nrefs/heads/chain1 56a6051ca2b02b04ef92d5150c9ef600403cb1de ref\nrefs/heads/chain2 56a6051ca2b02b04ef92d5150c9ef600403cb1de ref\nrefs/heads/chain3 56a6051ca2b02b04ef92d5150c9ef600403cb1de ref\nrefs/heads/chain4 56a6051ca2b02b04ef92d5150c9ef600403cb1de ref\nrefs/heads/junk 56a6051ca2b02b04ef92d5150c9ef600403cb1de\nrefs/heads/main 56a6051ca2b02b04ef92d5150c9ef600403cb1de\nrefs/heads/packed bf0d87ab1b2b0ec1a11a3973d2845b42413d9767\nrefs/heads/sym bf0d87ab1b2b0ec1a11a3973d2845b42413d9767 ref\nrefs/heads/upper 7813681f5b41c028345ca62a2be376bae70b7f61\nrefs/remotes/origin/HEAD 301160a93062df23030a69f4b5e4d9bf71866ee9 ref\nrefs/remotes/origin/main 301160a93062df23030a69f4b5e4d9bf71866ee9\nrefs/tags/ann 896519d262bef0cf300a6a9f862c48b40772a539 62f9457511f879886bb7728c986fe10b0ece6bcb\nrefs/tags/both c7930257dfef505fd996e1d6f22f2f35149990d0\nrefs/heads/badname Broken\nrefs/heads/broken Broken\nrefs/heads/chain0 Broken\nrefs/heads/dang LeadsNowhere\nrefs/heads/empty Broken\nrefs/heads/loop Broken\nrefs/heads/lost.lock Broken\nrefs/heads/zeros Broken\nrefs/odd/caf\xe9 NotUtf8\n",
+        answer: b"refs/bisect/bad bf0d87ab1b2b0ec1a11a3973d2845b42413d9767\nrefs/heads/blanks 56a6051ca2b02b04ef92d5150c9ef600403cb1de ref\nrefs/heads/both d8263ee9860594d2806b0dfd1bfd17528b0ba2a4\nrefs/heads/caf\xc3\xa9 2e65efe2a145dda7ee51d1741299f848e5bf752e\nrefs/heads/chain1 56a6051ca2b02b04ef92d5150c9ef600403cb1de ref\nrefs/heads/chain2 56a6051ca2b02b04ef92d5150c9ef600403cb1de ref\nrefs/heads/chain3 56a6051ca2b02b04ef92d5150c9ef600403cb1de ref\nrefs/heads/chain4 56a6051ca2b02b04ef92d5150c9ef600403cb1de ref\nrefs/heads/junk 56a6051ca2b02b04ef92d5150c9ef600403cb1de\nrefs/heads/main 56a6051ca2b02b04ef92d5150c9ef600403cb1de\nrefs/heads/packed bf0d87ab1b2b0ec1a11a3973d2845b42413d9767\nrefs/heads/sym bf0d87ab1b2b0ec1a11a3973d2845b42413d9767 ref\nrefs/heads/upper 7813681f5b41c028345ca62a2be376bae70b7f61\nrefs/remotes/origin/HEAD 301160a93062df23030a69f4b5e4d9bf71866ee9 ref\nrefs/remotes/origin/main 301160a93062df23030a69f4b5e4d9bf71866ee9\nrefs/tags/ann 896519d262bef0cf300a6a9f862c48b40772a539 62f9457511f879886bb7728c986fe10b0ece6bcb\nrefs/tags/both c7930257dfef505fd996e1d6f22f2f35149990d0\nrefs/heads/badname LeadsNowhere\nrefs/heads/broken Broken\nrefs/heads/chain0 LeadsNowhere\nrefs/heads/dang LeadsNowhere\nrefs/heads/empty Broken\nrefs/heads/loop LeadsNowhere\nrefs/heads/lost.lock Broken\nrefs/heads/zeros Broken\nrefs/odd/caf\xe9 NotUtf8\n",
         fails: false,
     },
     Row {
         ask: Ask::All,
         linked: false,
         name: b"refs/heads/ch",
-        answer: b"refs/heads/chain1 56a6051ca2b02b04ef92d5150c9ef600403cb1de ref\nrefs/heads/chain2 56a6051ca2b02b04ef92d5150c9ef600403cb1de ref\nrefs/heads/chain3 56a6051ca2b02b04ef92d5150c9ef600403cb1de ref\nrefs/heads/chain4 56a6051ca2b02b04ef92d5150c9ef600403cb1de ref\nrefs/heads/chain0 Broken\n",
+        answer: b"refs/heads/chain1 56a6051ca2b02b04ef92d5150c9ef600403cb1de ref\nrefs/heads/chain2 56a6051ca2b02b04ef92d5150c9ef600403cb1de ref\nrefs/heads/chain3 56a6051ca2b02b04ef92d5150c9ef600403cb1de ref\nrefs/heads/chain4 56a6051ca2b02b04ef92d5150c9ef600403cb1de ref\nrefs/heads/chain0 LeadsNowhere\n",
         fails: true,
     },
     Row {
@@ -927,4 +927,48 @@ pub(crate) static ROWS: [Row; 110] = [
         answer: b"63d8dbd40c23542e740659a7168a0ce3138ea748",
         fails: true,
     },
+];
+
+/// Has files `packed-refs` that git refuses, or in which it finds no name or not the first.
+pub(crate) static DAMAGED: [&[u8]; 15] = [
+    // A comment behind the header.
+    b"# pack-refs with: peeled fully-peeled sorted \n# x\n56a6051ca2b02b04ef92d5150c9ef600403cb1de refs/heads/a\n",
+    // Another comment.
+    b"# x\n56a6051ca2b02b04ef92d5150c9ef600403cb1de refs/heads/a\n",
+    // Junk behind a reference.
+    b"56a6051ca2b02b04ef92d5150c9ef600403cb1de refs/heads/a\njunk\n56a6051ca2b02b04ef92d5150c9ef600403cb1de refs/heads/b\n",
+    // Junk in front.
+    b"junk\n56a6051ca2b02b04ef92d5150c9ef600403cb1de refs/heads/a\n",
+    // No line feed at the end.
+    b"56a6051ca2b02b04ef92d5150c9ef600403cb1de refs/heads/a",
+    // An id of 39 digits.
+    b"56a6051ca2b02b04ef92d5150c9ef600403cb1de refs/heads/a\n56a6051ca2b02b04ef92d5150c9ef600403cb1d refs/heads/b\n",
+    // An id of 41 digits.
+    b"56a6051ca2b02b04ef92d5150c9ef600403cb1de refs/heads/a\n56a6051ca2b02b04ef92d5150c9ef600403cb1de0 refs/heads/b\n",
+    // A letter that is no digit.
+    b"56a6051ca2b02b04ef92d5150c9ef600403cb1de refs/heads/a\ng6a6051ca2b02b04ef92d5150c9ef600403cb1de refs/heads/b\n",
+    // No name.
+    b"56a6051ca2b02b04ef92d5150c9ef600403cb1de refs/heads/a\n56a6051ca2b02b04ef92d5150c9ef600403cb1de \n56a6051ca2b02b04ef92d5150c9ef600403cb1de refs/heads/b\n",
+    // `^` in front.
+    b"^56a6051ca2b02b04ef92d5150c9ef600403cb1de\n56a6051ca2b02b04ef92d5150c9ef600403cb1de refs/heads/a\n",
+    // Two lines of `^`.
+    b"56a6051ca2b02b04ef92d5150c9ef600403cb1de refs/heads/a\n^56a6051ca2b02b04ef92d5150c9ef600403cb1de\n^56a6051ca2b02b04ef92d5150c9ef600403cb1de\n",
+    // 39 digits behind `^`.
+    b"56a6051ca2b02b04ef92d5150c9ef600403cb1de refs/heads/a\n^56a6051ca2b02b04ef92d5150c9ef600403cb1d\n",
+    // An empty line.
+    b"56a6051ca2b02b04ef92d5150c9ef600403cb1de refs/heads/a\n\n",
+    // Not sorted.
+    b"# pack-refs with: peeled fully-peeled sorted \n56a6051ca2b02b04ef92d5150c9ef600403cb1de refs/heads/b\n56a6051ca2b02b04ef92d5150c9ef600403cb1de refs/heads/a\n",
+    // Twice.
+    b"# pack-refs with: peeled fully-peeled sorted \n56a6051ca2b02b04ef92d5150c9ef600403cb1de refs/heads/a\n56a6051ca2b02b04ef92d5150c9ef600403cb1de refs/heads/a\n",
+];
+
+/// Has files `packed-refs` in which git finds `refs/heads/a`.
+pub(crate) static WHOLE: [&[u8]; 3] = [
+    // No header.
+    b"56a6051ca2b02b04ef92d5150c9ef600403cb1de refs/heads/b\n56a6051ca2b02b04ef92d5150c9ef600403cb1de refs/heads/a\n",
+    // Capital letters.
+    b"56A6051CA2B02B04EF92D5150C9EF600403CB1DE refs/heads/a\n",
+    // An object behind `^`.
+    b"# pack-refs with: peeled fully-peeled sorted \n56a6051ca2b02b04ef92d5150c9ef600403cb1de refs/heads/a\n^56a6051ca2b02b04ef92d5150c9ef600403cb1de\n56a6051ca2b02b04ef92d5150c9ef600403cb1de refs/heads/b\n",
 ];

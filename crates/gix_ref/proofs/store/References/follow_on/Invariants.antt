@@ -5,4 +5,5 @@ use Rattle.gix_ref.proofs.store.References.follow_on.Given as goal
 
 abbrev pub invariant-loop : goal.invariant-loop
 invariant-loop g l =
-    (later : Known) → Grows (known l.self) later → leads l.most later l.name ≡ leads (l.most - l.counter) later l.last.items
+    Grows (known l.fn.self) (known l.self)
+    × ((later : Known) → Grows (known l.self) later → leads l.most later l.name ≡ leads (l.most - l.counter) later l.last.items)
