@@ -3,6 +3,7 @@ PREFIX = /usr/local
 
 all: ## prove and build the programs and the C library
 	bin/revtool </dev/null
+	bin/git-proved --version
 	tools/library >/dev/null
 
 try: ## answer an example at once, without any proof

@@ -1,19 +1,52 @@
 # Completes the commands and options of `git proved`. git's completion for bash
 # calls this function.
 _git_proved() {
-    local word=${words[__git_cmd_idx + 1]-}
-    if ((cword == __git_cmd_idx + 1)); then
-        __gitcomp "merge-base describe rev-list rev-parse -h"
-        return
-    fi
+    local word='' at
+    # The command comes after the options, and after the value of -C.
+    for ((at = __git_cmd_idx + 1; at < cword; at++)); do
+        case ${words[at]} in
+            -C) ((at++)) ;;
+            -*) ;;
+            *)
+                word=${words[at]}
+                break
+                ;;
+        esac
+    done
     case $word,$cur in
-        merge-base,-*) __gitcomp "--all --octopus --independent --is-ancestor" ;;
-        describe,-*)
-            __gitcomp "--all --tags --long --abbrev= --exact-match --candidates= --first-parent \
-                --always --match= --exclude= --dirty --dirty="
+        ,-*)
+            __gitcomp "-C --git-dir= --work-tree= --authentic --version -h \
+                --help"
             ;;
-        rev-list,-*) __gitcomp "--count --left-right --max-count=" ;;
-        rev-parse,-*) __gitcomp "--verify --quiet --short --short=" ;;
+        ,*)
+            __gitcomp "merge-base describe rev-parse rev-list for-each-ref \
+                batch"
+            ;;
+        merge-base,-*)
+            __gitcomp "--all --octopus --independent --is-ancestor \
+                --fork-point"
+            ;;
+        describe,-*)
+            __gitcomp "--all --tags --long --abbrev= --exact-match \
+                --candidates= --first-parent --always --match= --exclude="
+            ;;
+        rev-parse,-*)
+            __gitcomp "--verify --quiet --short --short= \
+                --symbolic-full-name --abbrev-ref --abbrev-ref= --symbolic \
+                --default --revs-only --no-revs --flags --no-flags --not --sq"
+            ;;
+        rev-list,-*)
+            __gitcomp "--not --all --branches --branches= --tags --tags= \
+                --remotes --remotes= --stdin --count --max-count= --skip= \
+                --left-right --first-parent --parents --boundary --reverse \
+                --topo-order --date-order --merges --no-merges"
+            ;;
+        for-each-ref,-*)
+            __gitcomp "--contains --contains= --no-contains --no-contains= \
+                --merged --merged= --no-merged --no-merged= --count= --sort= \
+                --format="
+            ;;
+        batch,*) ;;
         *) __git_complete_refs ;;
     esac
 }

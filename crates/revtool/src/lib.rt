@@ -1,30 +1,23 @@
 //! Answers lines about commits: reads them from an input, and writes one line for each question.
 //!
 //! [`run`] reads its whole input (`input`). It reads the lines (`lines`, `fields`, `manner`) into
-//! commits and commands (`session`), and answers the commands in order (`answers`). [`run_over`]
-//! also takes the commits of a commit-graph file (`commits`), which [`read_graph`] reads.
+//! commits and commands (`session`), and answers the commands in order (`answers`).
 #![tactic(auto)]
 
 ghost use Rattle.std.specs.Prelude.{◌≡◌, ◌≢◌, ◌≤◌, ◌⊎◌, OnOk, IfErr};
 ghost use Rattle.std.specs.Io.KnownBytes.{IsAtEnd, Keeps};
 
 mod answers;
-mod commits;
 mod fields;
-mod graph_file;
 mod input;
 mod lines;
 mod manner;
 pub mod recorder;
-mod request;
 mod session;
 mod stop;
 
 use answers::Outcome;
 pub use gix_revision::Seed;
-use gix_revision::commit_graph::LevelledGraph;
-pub use graph_file::{FileFault, open_graph, read_graph};
-pub use request::{HELP, Request, VERSION};
 use std::alloc::{Allocator, Global};
 use std::io::{Read, Write};
 use stop::Stop;
@@ -59,26 +52,14 @@ pub fn run<R: Read, W: Write, E: Write, A: Allocator + Copy>(
     ensures untouched { Keeps (E.contents faults.old) (E.contents faults.new)
         ⊎ Keeps (W.contents output.old) (W.contents output.new) }
 {
-    run_over(
-        alloc,
-        refusals,
-        Seed::default(),
-        None,
-        input,
-        output,
-        faults,
-    )
+    run_with_seed(alloc, refusals, Seed::default(), input, output, faults)
 }
 
-/// Answers like [`run`]; the history also has the commits of `file`, if there is one.
-///
-/// A `commit` line for a commit that the file has is unreadable. All hash maps over ids are seeded
-/// with `seed`; no answer depends on it.
-pub fn run_over<R: Read, W: Write, E: Write, A: Allocator + Copy>(
+/// Answers like [`run`], with all hash maps over ids seeded with `seed`. No answer depends on it.
+pub fn run_with_seed<R: Read, W: Write, E: Write, A: Allocator + Copy>(
     alloc: A,
     refusals: Global,
     seed: Seed,
-    file: Option<LevelledGraph>,
     input: &mut R,
     output: &mut W,
     faults: &mut E,
@@ -90,7 +71,7 @@ pub fn run_over<R: Read, W: Write, E: Write, A: Allocator + Copy>(
     ensures untouched { Keeps (E.contents faults.old) (E.contents faults.new)
         ⊎ Keeps (W.contents output.old) (W.contents output.new) }
 {
-    match answer_input(alloc, refusals, seed, file, input, output) {
+    match answer_input(alloc, refusals, seed, input, output) {
         Ok(Outcome::Answered) => 0,
         Ok(Outcome::Refused) => 1,
         Err(stop) => {
@@ -105,7 +86,6 @@ fn answer_input<R: Read, W: Write, A: Allocator + Copy>(
     alloc: A,
     refusals: Global,
     seed: Seed,
-    file: Option<LevelledGraph>,
     input: &mut R,
     output: &mut W,
 ) -> Result<Outcome, Stop>
@@ -114,6 +94,6 @@ fn answer_input<R: Read, W: Write, A: Allocator + Copy>(
         → Keeps (W.contents output.old) (W.contents output.new)) }
 {
     let text = input::read_all(alloc, input)?;
-    let session = session::read_lines(alloc, seed, file, &text)?;
+    let session = session::read_lines(alloc, seed, &text)?;
     answers::answer_all(alloc, refusals, session, output)
 }

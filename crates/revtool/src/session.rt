@@ -1,13 +1,11 @@
 //! Reads all lines of a text: commits, names, refs, and commands in order.
 
-use crate::commits::Commits;
 use crate::fields::LineFault;
 use crate::lines::{Command, Line, commit_id, read_line};
 use crate::stop::Stop;
 use gix_revision::Seed;
-use gix_revision::commit_graph::LevelledGraph;
 use gix_revision::describe::Options;
-use gix_revision::graph::Insert;
+use gix_revision::graph::MemorySource;
 use gix_revision::hash::ObjectId;
 use std::alloc::{AllocError, Allocator};
 use std::borrow::CowSlice;
@@ -19,7 +17,7 @@ pub(crate) type Names<A> = BTreeMap<Vec<u8, A>, ObjectId, A>;
 /// All that the lines of a text say.
 #[derive(Drop)]
 pub(crate) struct Session<'t, A: Allocator> {
-    pub(crate) source: Commits<A>,
+    pub(crate) source: MemorySource<A>,
     /// The options of `describe` lines, with all names of the text.
     pub(crate) options: Options<'t, A>,
     /// The refs, for lines with a revision to resolve.
@@ -33,9 +31,9 @@ pub(crate) struct Session<'t, A: Allocator> {
 
 impl<'t, A: Allocator + Copy> Session<'t, A> {
     // Makes the session of a text without lines.
-    fn new(alloc: A, seed: Seed, file: Option<LevelledGraph>) -> Session<'t, A> {
+    fn new(alloc: A, seed: Seed) -> Session<'t, A> {
         Session {
-            source: Commits::with_seed(alloc, file, seed),
+            source: MemorySource::with_seed(alloc, seed),
             options: Options::with_seed(alloc, seed),
             names: BTreeMap::new(alloc),
             ids: BTreeSet::new(alloc),
@@ -52,10 +50,9 @@ impl<'t, A: Allocator + Copy> Session<'t, A> {
 pub(crate) fn read_lines<'t, A: Allocator + Copy>(
     alloc: A,
     seed: Seed,
-    file: Option<LevelledGraph>,
     text: &'t [u8],
 ) -> Result<Session<'t, A>, Stop> {
-    let mut session = Session::new(alloc, seed, file);
+    let mut session = Session::new(alloc, seed);
     add_lines(alloc, text, &mut session)?;
     // Other commands do not need the set of ids, which is large.
     if session.commands.iter().any(|command| command.is_resolved()) {

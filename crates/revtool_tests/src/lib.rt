@@ -13,8 +13,6 @@ mod delegate;
 #[cfg(test)]
 mod failing;
 #[cfg(test)]
-mod graph_lines;
-#[cfg(test)]
 mod lines;
 #[cfg(test)]
 mod memory;

@@ -50,7 +50,7 @@ commit [a] 0 -|name [A] v|describe [a]|describe [A]| => 0 describe v|describe v|
 name [a] v|name [A] w| => 2 line 2 is unreadable|
 commit [1] 1 -|name [1]  a b|describe [1]| => 0 describe  a b|
 commit [a] 0 -|name [a] v#|commit [b] 1 - [a]|describe [a]|describe [b]| => 0 \
-describe v#|describe v#-1-gbbbbbbb|
+describe v\u{fffd}|describe v\u{fffd}-1-gbbbbbbb|
 parse|parse |parse ^[A]| => 0 parse done|parse done|parse kind(ExcludeReachable); prefix([a]); done|";
 
 /// All commands after the criss-cross, and a revision that needs memory of its own, in the form of

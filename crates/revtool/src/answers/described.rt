@@ -1,12 +1,12 @@
 //! Answers `describe` and `describe-as` lines, on a graph of their own.
 
 use crate::answers::Outcome;
-use crate::commits::Commits;
 use crate::manner::Manner;
+use bstr::BStr;
 use gix_revision::Seed;
 use gix_revision::describe::{self, Format, Names, Options, describe};
 use gix_revision::error::Message;
-use gix_revision::graph::Graph;
+use gix_revision::graph::{Graph, MemorySource};
 use gix_revision::hash::ObjectId;
 use std::alloc::{AllocError, Allocator};
 use std::io::{self, Write};
@@ -15,7 +15,7 @@ use std::mem;
 /// The graph of these lines, and the names of the text.
 #[derive(Drop)]
 pub(super) struct Descriptions<'s, 't, A: Allocator> {
-    graph: Graph<&'s Commits<A>, describe::Flags, A>,
+    graph: Graph<&'s MemorySource<A>, describe::Flags, A>,
     // The copy of the names that the last answer returned; `None` before the first line and after
     // an error.
     names: Option<Names<'t, A>>,
@@ -23,7 +23,7 @@ pub(super) struct Descriptions<'s, 't, A: Allocator> {
 
 impl<'s, 't, A: Allocator + Copy> Descriptions<'s, 't, A> {
     /// Makes an empty graph over a source, seeded with `seed`. Nothing is allocated yet.
-    pub(super) fn new(alloc: A, source: &'s Commits<A>, seed: Seed) -> Self {
+    pub(super) fn new(alloc: A, source: &'s MemorySource<A>, seed: Seed) -> Self {
         Descriptions {
             graph: Graph::with_seed(alloc, source, seed),
             names: None,
@@ -128,18 +128,16 @@ fn print_none<W: Write>(word: &str, output: &mut W) -> io::Result<Outcome> {
     Ok(Outcome::Answered)
 }
 
-// Writes the name alone, as its bytes, if no digits are to be printed.
+// Writes the name, with U+FFFD for what is not UTF-8; alone, if no digits are to be printed.
 fn print_named<W: Write, A: Allocator>(
     word: &str,
     format: &Format<'_, A>,
     output: &mut W,
 ) -> io::Result<Outcome> {
-    write!(output, "{word} ")?;
     match &format.name {
-        Some(name) if format.hex_len == 0 => output.write_all(name)?,
-        _ => format.write_to(output)?,
+        Some(name) if format.hex_len == 0 => writeln!(output, "{word} {}", BStr::new(name))?,
+        _ => writeln!(output, "{word} {format}")?,
     }
-    output.write_all(b"\n")?;
     Ok(Outcome::Answered)
 }
 

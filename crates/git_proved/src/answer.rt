@@ -1,0 +1,110 @@
+//! Answers one question.
+
+use crate::describe::describe;
+use crate::for_each_ref::for_each_ref;
+use crate::merge_base::merge_base;
+use crate::rev_list::rev_list;
+use crate::rev_parse::rev_parse;
+use crate::session::Session;
+use crate::stop::{FATAL, NOT_READ, Stop, not_read};
+use std::alloc::{AllocError, Global};
+use std::io::Write;
+
+/// Is what an answer prints, and its status.
+#[derive(Drop)]
+pub(crate) struct Finished {
+    pub(crate) status: u8,
+    /// Has what goes to standard output.
+    pub(crate) output: Vec<u8>,
+    /// Has what goes to standard error.
+    pub(crate) errors: Vec<u8>,
+}
+
+/// Returns the status of an answer to the words behind `git proved`, whose output is printed.
+fn ask(session: &mut Session<'_>, word: &[u8], words: &[&[u8]]) -> Result<u8, Stop> {
+    if word == b"merge-base".as_slice() {
+        merge_base(session, words)
+    } else if word == b"describe".as_slice() {
+        describe(session, words)
+    } else if word == b"rev-parse".as_slice() {
+        rev_parse(session, words)
+    } else if word == b"rev-list".as_slice() {
+        rev_list(session, words)
+    } else if word == b"for-each-ref".as_slice() {
+        for_each_ref(session, words)
+    } else {
+        Err(not_read(session.alloc, &[b"the word '", word, b"' is not read"]))
+    }
+}
+
+/// Adds a line about an end to what goes to standard error. Returns the status.
+fn add_end(stop: &Stop, errors: &mut Vec<u8>) -> Result<u8, AllocError> {
+    match stop {
+        Stop::Fatal(text) => {
+            errors.extend_from_slice(b"fatal: ")?;
+            errors.extend_from_slice(text)?;
+            errors.push(b'\n')?;
+            Ok(FATAL)
+        }
+        Stop::Said(status) => Ok(*status),
+        Stop::NotRead(text) => {
+            errors.extend_from_slice(b"git-proved: ")?;
+            errors.extend_from_slice(text)?;
+            errors.push(b'\n')?;
+            Ok(NOT_READ)
+        }
+        Stop::Refused(refusal) => match write!(errors, "git-proved: {refusal}\n") {
+            Ok(()) => Ok(NOT_READ),
+            Err(_) => Err(AllocError),
+        },
+        Stop::OutOfMemory => {
+            errors.extend_from_slice(b"git-proved: out of memory\n")?;
+            Ok(NOT_READ)
+        }
+    }
+}
+
+/// Returns what an end prints, and its status.
+///
+/// # Errors
+///
+/// Fails if an allocation failed.
+pub(crate) fn ended(alloc: Global, stop: &Stop) -> Result<Finished, AllocError> {
+    let mut errors = Vec::new(alloc);
+    let status = add_end(stop, &mut errors)?;
+    Ok(Finished {
+        status,
+        output: Vec::new(alloc),
+        errors,
+    })
+}
+
+/// Answers the words behind `git proved`. An end prints nothing on standard output.
+///
+/// # Errors
+///
+/// Fails if an allocation failed.
+pub(crate) fn answer(
+    session: &mut Session<'_>,
+    word: &[u8],
+    words: &[&[u8]],
+) -> Result<Finished, AllocError> {
+    let asked = ask(session, word, words);
+    let alloc = session.alloc;
+    let mut errors = session.said()?.to_vec(alloc)?;
+    match asked {
+        Ok(status) => Ok(Finished {
+            status,
+            output: session.output.as_slice().to_vec(session.alloc)?,
+            errors,
+        }),
+        Err(stop) => {
+            let status = add_end(&stop, &mut errors)?;
+            Ok(Finished {
+                status,
+                output: Vec::new(session.alloc),
+                errors,
+            })
+        }
+    }
+}

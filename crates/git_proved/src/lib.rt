@@ -1,0 +1,38 @@
+//! Answers git's words `merge-base`, `describe`, `rev-parse`, `rev-list` and `for-each-ref`, as they
+//! stand on a command line, and the word `batch`, which answers lines of such words.
+//!
+//! Each answer is that of a question of `gix_history` about the repository (`gix_repository`), whose
+//! answers are proved. What git prints, and with which status, is made here and tested against git.
+//!
+//! - [`front`] reads the options before the word, which say where the repository is.
+//! - [`run`] opens the repository, answers, and returns the status.
+//!
+//! The status is git's: 0, 1 or 128. What is not read here, and what fails here, ends with the status
+//! 129 and prints nothing on standard output, so that a script can ask git then.
+#![tactic(auto)]
+
+mod answer;
+mod bases;
+mod batch;
+mod describe;
+mod for_each_ref;
+mod forms;
+pub mod front;
+mod help;
+mod integer;
+mod merge_base;
+mod names;
+mod options;
+mod paths;
+mod program;
+mod quoted;
+mod ranges;
+mod rev_list;
+mod rev_parse;
+mod session;
+mod stop;
+mod unpeeled;
+mod words;
+
+pub use help::{HELP, VERSION};
+pub use program::{Streams, print_text, run};

@@ -1,0 +1,304 @@
+//! Reads the options of `rev-parse`, which git reads word by word.
+
+use crate::ranges::Tip;
+use crate::stop::{Stop, fatal, not_read};
+use crate::words::Words;
+use std::alloc::Global;
+
+/// Says what the next word may be.
+#[derive(Clone, Copy, PartialEq, Eq)]
+pub(super) enum Place {
+    /// An option or a revision.
+    Revisions,
+    /// The name of a file.
+    Files,
+    /// Any word: it stands behind `--`.
+    BehindDashes,
+}
+
+/// Says which words are printed (git-rev-parse, "Options for Filtering").
+#[derive(Clone, Copy)]
+pub(super) struct Filter {
+    pub(super) revisions: bool,
+    others: bool,
+    flags: bool,
+    arguments: bool,
+}
+
+impl Filter {
+    /// Returns whether words are printed that are no revisions.
+    pub(super) fn shows_files(self) -> bool {
+        self.arguments && self.others
+    }
+
+    /// Returns whether `--` and `--end-of-options` are printed as files are.
+    pub(super) fn shows_separators(self) -> bool {
+        self.flags || self.revisions
+    }
+
+    /// Leaves only revisions.
+    fn verify(&mut self) {
+        self.flags = false;
+        self.others = false;
+    }
+}
+
+/// Says whether names are printed in the place of ids.
+#[derive(Clone, Copy, PartialEq, Eq)]
+pub(super) enum Symbolic {
+    /// Ids are printed.
+    No,
+    /// Names are printed as they were written.
+    AsWritten,
+    /// The full names of references are printed.
+    Full,
+}
+
+/// Says how many digits of an id are printed.
+#[derive(Clone, Copy)]
+pub(super) enum Digits {
+    /// All are printed.
+    All,
+    /// As many as are unique, and as many as the setting says at least.
+    Usual,
+    /// As many as are unique, and this many at least.
+    AtLeast(usize),
+}
+
+/// Names an option without a joined value.
+#[derive(Clone, Copy)]
+enum Key {
+    Default,
+    RevsOnly,
+    NoRevs,
+    Flags,
+    NoFlags,
+    Verify,
+    Quiet,
+    Sq,
+    Not,
+    Symbolic,
+    SymbolicFullName,
+    EndOfOptions,
+}
+
+/// The options without a joined value.
+static KEYS: [(&'static str, Key); 13] = [
+    ("--default", Key::Default),
+    ("--revs-only", Key::RevsOnly),
+    ("--no-revs", Key::NoRevs),
+    ("--flags", Key::Flags),
+    ("--no-flags", Key::NoFlags),
+    ("--verify", Key::Verify),
+    ("--quiet", Key::Quiet),
+    ("-q", Key::Quiet),
+    ("--sq", Key::Sq),
+    ("--not", Key::Not),
+    ("--symbolic", Key::Symbolic),
+    ("--symbolic-full-name", Key::SymbolicFullName),
+    ("--end-of-options", Key::EndOfOptions),
+];
+
+/// Returns the option with a name.
+fn key_of(word: &[u8]) -> Option<Key> {
+    for (name, key) in KEYS.iter() {
+        if name.as_bytes() == word {
+            return Some(*key);
+        }
+    }
+    None
+}
+
+/// Is the value of an option that may have one.
+#[derive(Clone, Copy)]
+enum Value<'w> {
+    None,
+    Text(&'w [u8]),
+}
+
+/// Returns the value of a word if it is an option of this name, alone or with `=` and a value.
+fn value_of<'w>(word: &'w [u8], name: &[u8]) -> Option<Value<'w>> {
+    let rest = word.strip_prefix(name)?;
+    if rest.is_empty() {
+        return Some(Value::None);
+    }
+    match rest.strip_prefix(b"=") {
+        Some(text) => Some(Value::Text(text)),
+        None => None,
+    }
+}
+
+/// Returns the number with which a text begins, as C reads it; 0 if it begins otherwise, or with a
+/// minus sign.
+///
+/// # Errors
+///
+/// `NotRead` for a number of more than nine digits.
+fn leading_number(alloc: Global, text: &[u8]) -> Result<usize, Stop> {
+    let text = text.trim_ascii_start();
+    let digits = text.strip_prefix(b"+").unwrap_or(text);
+    let count = digits.iter().take_while(|b| b.is_ascii_digit()).count();
+    if count > 9 || text.starts_with(b"-") && text.len() > 9 {
+        return Err(not_read(alloc, &[b"the number '", text, b"' is not read"]));
+    }
+    match str::from_utf8(digits.get(..count).unwrap_or(&[])) {
+        Ok(digits) => Ok(digits.parse::<usize>().unwrap_or(0)),
+        Err(_) => Ok(0),
+    }
+}
+
+/// Has what the words ask for so far.
+#[derive(Clone, Copy)]
+pub(super) struct Asked<'w> {
+    /// Has the words that are not read yet.
+    words: Words<'w>,
+    /// Tells whether `--` is among the words.
+    pub(super) has_dashes: bool,
+    pub(super) place: Place,
+    /// Tells whether `--end-of-options` was read.
+    pub(super) has_ended_options: bool,
+    pub(super) filter: Filter,
+    /// Tells whether exactly one revision is wanted.
+    pub(super) is_verify: bool,
+    pub(super) is_quiet: bool,
+    /// Tells whether `^` is put before what is not excluded.
+    pub(super) is_turned: bool,
+    /// Tells whether words are quoted for a shell.
+    pub(super) is_quoted: bool,
+    pub(super) symbolic: Symbolic,
+    /// Tells whether the short names of references are printed, and whether they are to be
+    /// unambiguous; `None` in the latter if the setting decides.
+    pub(super) short_names: Option<Option<bool>>,
+    pub(super) digits: Digits,
+    /// Has the revision that is printed if there is no other.
+    pub(super) default: Option<&'w [u8]>,
+    /// Counts the revisions of which one is wanted.
+    count: usize,
+    /// Has the last of them.
+    last: Option<Tip<'w>>,
+}
+
+impl<'w> Asked<'w> {
+    /// Has read none of the words.
+    pub(super) fn new(words: &'w [&'w [u8]]) -> Asked<'w> {
+        Asked {
+            words: Words::new(words),
+            has_dashes: words.iter().any(|word| *word == b"--".as_slice()),
+            place: Place::Revisions,
+            has_ended_options: false,
+            filter: Filter {
+                revisions: true,
+                others: true,
+                flags: true,
+                arguments: true,
+            },
+            is_verify: false,
+            is_quiet: false,
+            is_turned: false,
+            is_quoted: false,
+            symbolic: Symbolic::No,
+            short_names: None,
+            digits: Digits::All,
+            default: None,
+            count: 0,
+            last: None,
+        }
+    }
+
+    /// Takes the next word.
+    pub(super) fn take(&mut self) -> Option<&'w [u8]> {
+        self.words.take()
+    }
+
+    /// Notes a revision of which one is wanted.
+    pub(super) fn note_verified(&mut self, tip: Tip<'w>) {
+        self.count = self.count.saturating_add(1);
+        self.last = Some(tip);
+    }
+
+    /// Returns the only revision of which one is wanted; `None` if there is not exactly one.
+    pub(super) fn verified(&self) -> Option<Tip<'w>> {
+        if self.count == 1 { self.last } else { None }
+    }
+
+    /// Returns whether there is no revision yet of which one is wanted.
+    pub(super) fn has_none_verified(&self) -> bool {
+        self.count == 0
+    }
+
+    /// Notes that exactly one revision is wanted.
+    fn want_one(&mut self) {
+        self.filter.verify();
+        self.is_verify = true;
+    }
+
+    /// Reads an option.
+    ///
+    /// # Errors
+    ///
+    /// `NotRead` for an option that is not read, and `Fatal` with git's message for a wrong value.
+    pub(super) fn read_option(&mut self, alloc: Global, word: &'w [u8]) -> Result<(), Stop> {
+        if let Some(key) = key_of(word) {
+            return self.note(alloc, key);
+        }
+        if let Some(value) = value_of(word, b"--short") {
+            return self.note_short(alloc, value);
+        }
+        if let Some(value) = value_of(word, b"--abbrev-ref") {
+            return self.note_short_names(alloc, value);
+        }
+        Err(not_read(alloc, &[b"option `", word, b"' is not read"]))
+    }
+
+    /// Notes an option without a joined value.
+    fn note(&mut self, alloc: Global, key: Key) -> Result<(), Stop> {
+        match key {
+            Key::Default => return self.note_default(alloc),
+            Key::RevsOnly => self.filter.others = false,
+            Key::NoRevs => self.filter.revisions = false,
+            Key::Flags => self.filter.arguments = false,
+            Key::NoFlags => self.filter.flags = false,
+            Key::Verify => self.want_one(),
+            Key::Quiet => self.is_quiet = true,
+            Key::Sq => self.is_quoted = true,
+            Key::Not => self.is_turned = !self.is_turned,
+            Key::Symbolic => self.symbolic = Symbolic::AsWritten,
+            Key::SymbolicFullName => self.symbolic = Symbolic::Full,
+            Key::EndOfOptions => self.has_ended_options = true,
+        }
+        Ok(())
+    }
+
+    /// Notes the value of `--default`, the next word.
+    fn note_default(&mut self, alloc: Global) -> Result<(), Stop> {
+        self.default = self.take();
+        match self.default {
+            Some(_) => Ok(()),
+            None => Err(fatal(alloc, &[b"--default requires an argument"])),
+        }
+    }
+
+    /// Notes `--short`. As in git, 4 digits are the least and 40 the most.
+    fn note_short(&mut self, alloc: Global, value: Value<'w>) -> Result<(), Stop> {
+        self.want_one();
+        self.digits = match value {
+            Value::None => Digits::Usual,
+            Value::Text(text) => Digits::AtLeast(leading_number(alloc, text)?.clamp(4, 40)),
+        };
+        Ok(())
+    }
+
+    /// Notes `--abbrev-ref`.
+    fn note_short_names(&mut self, alloc: Global, value: Value<'w>) -> Result<(), Stop> {
+        self.short_names = Some(match value {
+            Value::None => None,
+            Value::Text(text) if text == b"strict".as_slice() => Some(true),
+            Value::Text(text) if text == b"loose".as_slice() => Some(false),
+            Value::Text(text) => return Err(fatal(
+                alloc,
+                &[b"unknown mode for --abbrev-ref: ", text],
+            )),
+        });
+        Ok(())
+    }
+}

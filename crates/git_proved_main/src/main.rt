@@ -1,0 +1,237 @@
+//! Is the program `git-proved`: passes the command line, the environment and the standard streams to
+//! `git_proved`.
+#![tactic(auto)]
+
+use git_proved::front::{Asked, Front};
+use git_proved::{HELP, Streams, VERSION, print_text, run};
+use gix_discover::{Environment, Variable};
+use gix_odb::System;
+use gix_repository::{Mode, Opening};
+use gix_revision::Seed;
+use gix_revision::date::Time;
+use std::alloc::AllocError;
+use std::env::{Env, FillError};
+use std::io::{self, BufReader, ErrorKind, Write};
+use std::process::ExitCode;
+use std::random::RandomSource;
+use std::time::SystemTime;
+
+/// Is the status for what is not read here, and for each failure of the program.
+const NOT_READ: u8 = 129;
+
+/// Says why the program ends before a question is asked.
+#[derive(Drop)]
+enum Fault {
+    /// git ends so, too, with this message.
+    Fatal(Vec<u8>),
+    NotRead(&'static [u8]),
+    OutOfMemory,
+}
+
+impl From<AllocError> for Fault {
+    fn from(_e: AllocError) -> Fault {
+        Fault::OutOfMemory
+    }
+}
+
+/// Reads a word of the command line into a buffer of this size.
+fn read_short(
+    rt: &HostRuntime,
+    place: usize,
+    most: usize,
+) -> Result<Result<Vec<u8>, FillError>, AllocError> {
+    let mut bytes = Vec::new(rt.alloc());
+    bytes.resize(most, 0u8)?;
+    match rt.arg(place, bytes.as_mut_slice()) {
+        Ok(n) => {
+            bytes.truncate(n);
+            Ok(Ok(bytes))
+        }
+        Err(error) => Ok(Err(error)),
+    }
+}
+
+/// Reads the word of the command line at a place; `None` after the last.
+fn read_word(rt: &HostRuntime, place: usize) -> Result<Option<Vec<u8>>, AllocError> {
+    let mut most = 256usize;
+    for _ in 0..usize::BITS {
+        match read_short(rt, place, most)? {
+            Ok(bytes) => return Ok(Some(bytes)),
+            Err(FillError::NotPresent) => return Ok(None),
+            Err(FillError::TooLong) => most = most.saturating_add(most),
+        }
+    }
+    Err(AllocError)
+}
+
+/// Reads the words behind the name of the program.
+fn read_words(rt: &HostRuntime) -> Result<Vec<Vec<u8>>, AllocError> {
+    let mut words = Vec::new(rt.alloc());
+    for place in 1..usize::MAX {
+        match read_word(rt, place)? {
+            Some(word) => words.push(word)?,
+            None => break,
+        }
+    }
+    Ok(words)
+}
+
+/// Returns what the system says of an error; `None` of one that folders seldom have.
+fn reason(error: io::Error) -> Option<&'static [u8]> {
+    match error.kind() {
+        ErrorKind::NotFound => Some(b"No such file or directory"),
+        ErrorKind::NotADirectory => Some(b"Not a directory"),
+        ErrorKind::PermissionDenied => Some(b"Permission denied"),
+        _ => None,
+    }
+}
+
+/// Returns git's end for a folder of `-C` that is not entered.
+fn not_entered(rt: &HostRuntime, folder: &[u8], error: io::Error) -> Result<Fault, AllocError> {
+    let Some(reason) = reason(error) else {
+        return Ok(Fault::NotRead(b"the folder of -C is not entered"));
+    };
+    let mut text = Vec::new(rt.alloc());
+    text.extend_from_slice(b"cannot change to '")?;
+    text.extend_from_slice(folder)?;
+    text.extend_from_slice(b"': ")?;
+    text.extend_from_slice(reason)?;
+    Ok(Fault::Fatal(text))
+}
+
+/// Goes to a folder of `-C`.
+fn enter(rt: &HostRuntime, folder: &[u8]) -> Result<(), Fault> {
+    let Ok(path) = str::from_utf8(folder) else {
+        return Err(Fault::NotRead(b"a path that is not UTF-8 is not read"));
+    };
+    match rt.set_current_dir(path) {
+        Ok(()) => Ok(()),
+        Err(error) => Err(not_entered(rt, folder, error)?),
+    }
+}
+
+/// Goes to the folders of `-C`, one after another.
+fn enter_all(rt: &HostRuntime, folders: &[&[u8]]) -> Result<(), Fault> {
+    for folder in folders {
+        enter(rt, folder)?;
+    }
+    Ok(())
+}
+
+/// Reads the environment, with what the options before the word say.
+fn environment(rt: &HostRuntime, front: &Front<'_>) -> Result<Environment, Fault> {
+    let Ok(mut environment) = Environment::read(rt.alloc(), rt) else {
+        return Err(Fault::NotRead(b"the current folder or the environment is not read"));
+    };
+    if let Some(folder) = front.git_dir {
+        environment.set(rt.alloc(), Variable::GitDir, folder)?;
+    }
+    if let Some(folder) = front.work_tree {
+        environment.set(rt.alloc(), Variable::WorkTree, folder)?;
+    }
+    if environment.get(Variable::WorkTree) == Some(b"".as_slice()) {
+        return Err(Fault::NotRead(b"a work tree without a name is not read"));
+    }
+    Ok(environment)
+}
+
+/// Returns a random seed; the default one if the system has no random bytes.
+fn seed(rt: &HostRuntime) -> Seed {
+    let mut bytes = [0; 8];
+    match rt.fill_bytes(&mut bytes) {
+        Ok(()) => Seed::new(u64::from_le_bytes(bytes)),
+        Err(_) => Seed::default(),
+    }
+}
+
+/// Returns the current time. Of a clock that is set to a time before 1970 it is 1970.
+fn now(rt: &HostRuntime) -> Result<Time, Fault> {
+    let Ok(time) = SystemTime::now(rt) else {
+        return Err(Fault::NotRead(b"the clock is not read"));
+    };
+    let seconds = match time.duration_since(SystemTime::UNIX_EPOCH) {
+        Ok(since) => since.as_secs().cast_signed(),
+        Err(_) => 0,
+    };
+    Ok(Time { seconds, offset: 0 })
+}
+
+/// Answers a word, and returns the status.
+fn serve(rt: &HostRuntime, front: &Front<'_>, word: &[u8], words: &[&[u8]]) -> Result<u8, Fault> {
+    let environment = environment(rt, front)?;
+    let opening = Opening {
+        refusals: rt.alloc(),
+        seed: seed(rt),
+        now: now(rt)?,
+        mode: if front.is_authentic {
+            Mode::Authentic
+        } else {
+            Mode::Usual
+        },
+    };
+    let Ok(mut input) = BufReader::new(rt.alloc(), rt.stdin()) else {
+        return Err(Fault::OutOfMemory);
+    };
+    let mut streams = Streams {
+        input: &mut input,
+        output: &mut rt.stdout(),
+        errors: &mut rt.stderr(),
+    };
+    Ok(run(
+        rt.alloc(),
+        System(rt),
+        &environment,
+        opening,
+        word,
+        words,
+        &mut streams,
+    ))
+}
+
+/// Answers the command line, and returns the status.
+fn answer(rt: &HostRuntime, words: &[Vec<u8>]) -> Result<u8, Fault> {
+    let mut slices = Vec::new(rt.alloc());
+    for word in words {
+        if slices.push(word.as_slice()).is_err() {
+            return Err(Fault::OutOfMemory);
+        }
+    }
+    let front = Front::read(rt.alloc(), &slices)?;
+    enter_all(rt, &front.folders)?;
+    match front.asked {
+        Asked::Word(word, rest) => serve(rt, &front, word, rest),
+        Asked::Help => Ok(print_text(&mut rt.stdout(), HELP)),
+        Asked::Version => Ok(print_text(&mut rt.stdout(), VERSION)),
+        Asked::Nothing => Err(Fault::NotRead(b"a word is wanted; -h prints the help")),
+        Asked::Unread(_) => Err(Fault::NotRead(b"an option before the word is not read")),
+    }
+}
+
+/// Writes why there is no answer, and returns the status.
+fn end(rt: &HostRuntime, fault: &Fault) -> u8 {
+    let (status, front, text) = match fault {
+        Fault::Fatal(text) => (128, b"fatal: ".as_slice(), text.as_slice()),
+        Fault::NotRead(text) => (NOT_READ, b"git-proved: ".as_slice(), *text),
+        Fault::OutOfMemory => (
+            NOT_READ,
+            b"git-proved: ".as_slice(),
+            b"out of memory".as_slice(),
+        ),
+    };
+    let mut errors = rt.stderr();
+    for part in [front, text, b"\n".as_slice()] {
+        let _ = errors.write_all(part);
+    }
+    status
+}
+
+fn main(rt: HostRuntime) -> ExitCode {
+    let status = match read_words(&rt) {
+        Ok(words) => match answer(&rt, &words) {
+            Ok(status) => status,
+            Err(fault) => end(&rt, &fault),
+        },
+        Err(AllocError) => end(&rt, &Fault::OutOfMemory),
+    };
+    ExitCode::from(status)
+}

@@ -1,0 +1,711 @@
+"""Makes repositories for known cases, and the commands that are asked there.
+
+Each function makes its repositories in a room, and returns the commands.
+"""
+
+from __future__ import annotations
+
+import os
+import shutil
+
+from questions import Command, each, row, rows
+from repositories import (
+    Repository, Room, chained, digit_names, filed, many_references, odd_names, one_line, siblings,
+    trees,
+)
+
+WORDS = ("merge-base", "describe", "rev-parse", "rev-list", "for-each-ref")
+
+# Common questions, for repositories that are unusual as a whole.
+COMMON = (
+    "merge-base HEAD HEAD~1",
+    "merge-base --all HEAD HEAD~2",
+    "merge-base --is-ancestor HEAD HEAD~1",
+    "merge-base --is-ancestor HEAD~1 HEAD",
+    "merge-base --octopus HEAD HEAD~1",
+    "merge-base --independent HEAD HEAD~1",
+    "describe --tags --always",
+    "describe --all --long",
+    "describe --tags --exact-match HEAD",
+    "rev-parse HEAD",
+    "rev-parse HEAD~1",
+    "rev-parse HEAD~1^0 HEAD^@",
+    "rev-parse --verify -q HEAD~2",
+    "rev-parse --short HEAD",
+    "rev-parse --abbrev-ref HEAD",
+    "rev-parse HEAD~1..HEAD",
+    "rev-parse HEAD~1...HEAD",
+    "rev-list -n 1 HEAD",
+    "rev-list --count HEAD~1..HEAD",
+    "rev-list HEAD~2..HEAD",
+    "rev-list --max-count=2 --parents HEAD",
+    "for-each-ref --format=%(objectname)%09%(refname)",
+    "for-each-ref --format=%(refname:short) --contains HEAD",
+    "for-each-ref --format=%(refname) --merged HEAD",
+)
+
+# Further questions that read the whole history.
+WHOLE = ("rev-list HEAD", "rev-list --count --all", "rev-list --reverse --topo-order HEAD",
+         "describe --tags --candidates=3 HEAD~2")
+
+
+def settings(key: str, value: str) -> dict[bytes, bytes]:
+    """Returns the environment that gives git a setting."""
+    return {
+        b"GIT_CONFIG_COUNT": b"1",
+        b"GIT_CONFIG_KEY_0": key.encode(),
+        b"GIT_CONFIG_VALUE_0": value.encode(),
+    }
+
+
+def common(place: Repository, *also: str, **more) -> list[Command]:
+    return rows(place, *COMMON, *also, **more)
+
+
+def names(room: Room) -> list[Command]:
+    """Names of every kind, and tags of every kind."""
+    odd = odd_names(room)
+    ids = odd.ids
+    commands = common(odd, *WHOLE)
+    every = ("", " --tags", " --all", " --long", " --tags --long", " --all --long", " --abbrev=0",
+             " --all --abbrev=0", " --tags --exact-match --abbrev=9", " --tags --no-tags",
+             " --first-parent --tags")
+    commands += [row(odd, *f"describe{options} --always".split(" "), *ids) for options in every]
+    commands += each(odd, "describe", "light", "both-0", "outer", "other", "tree", "twice",
+                     "heads/twice",
+                     "v1-2-gabcdef0", "", ".", "-", "nosuch", "@~3", "HEAD@{0}", "HEAD^{/file}",
+                     ":/file")
+    commands += each(odd, "describe --tags --long", "light", "both-1", "outer", "other", b"caf\xe9",
+                     b"\xff/x", "no-tagger")
+    commands += each(odd, "describe --tags --match=both* --long", "both-0", "both-1")
+    commands += each(odd, "describe --all --match=*", "far/HEAD", "other", "twice")
+    commands += each(odd, "describe --tags", "--match=v1*", b"--match=*\xe9", "--exclude=*t*",
+                     "--match=[l-o]*",
+                     "--exclude=[!a-e]*", "--match=\\light", "--match=", "--match=twice",
+                     "--match=twic",
+                     "--match=tw?ce", "--match=**", "--match=[", "--match=[[:alpha:]]*",
+                     "--match=*/x",
+                     "--match=\\", "--match=?[^a]*", "--exclude=[]-a]*")
+    commands += rows(
+        odd,
+        "describe --tags --match v* --match s* --exclude v1* --exclude *-1 HEAD~2",
+        "describe --match v* --no-match --tags HEAD~2",
+        "describe --candidates 10 --abbrev=-3 -- HEAD",
+        "describe --exact-match --candidates=10 --abbrev=+08 HEAD",
+        "describe --candidates=-1 --tags HEAD~3",
+        "describe --candidates=0 --tags HEAD~1",
+        "describe --long --abbrev=0",
+        "describe --tags light nosuch HEAD",
+        "describe light HEAD^{tree}",
+        "describe HEAD --tags",
+        "describe HEAD~1 --tags --al",
+        "describe --ex HEAD", "describe --exa HEAD", "describe --a HEAD", "describe --first HEAD~2",
+        "describe --no-always --no-long --no-all --no-first-parent HEAD",
+        "describe --abbrev", "describe --abbrev 7", "describe --no-abbrev", "describe --debug HEAD",
+        "describe --contains HEAD~1", "describe --broken", "describe -x", "describe --nosuch",
+        "describe --tags=x", "describe --always=1",
+    )
+    for front in ("rev-parse", "rev-parse -q --verify", "rev-list", "rev-list ^HEAD",
+                  "merge-base HEAD", "describe", "for-each-ref --format=%(refname) --contains"):
+        commands += each(odd, front, "nosuch:file", "HEAD~99:file", "^nosuch:file",
+                         "HEAD^{blob}:file", is_strict=True)
+    commands += each(odd, "rev-parse *", ":/folder/file", ":/file", ":!folder", ":^nosuch",
+                     ":(top)x", ":/", ":!", ":nosuch", "://", is_strict=True)
+    commands += each(odd, "merge-base HEAD", "twice", "tree", "light", "outer", "HEAD^{tree}",
+                     "nosuch", "", "--", "-", "@")
+    commands += rows(
+        odd,
+        "merge-base", "merge-base HEAD", "merge-base --octopus", "merge-base --octopus outer",
+        "merge-base --octopus light late HEAD outer", "merge-base -a -- HEAD no-tagger",
+        "merge-base --independent", "merge-base --independent HEAD nosuch HEAD^{tree}",
+        "merge-base --independent outer HEAD light outer late HEAD~9",
+        "merge-base --independent --all HEAD", "merge-base --is-ancestor HEAD HEAD HEAD",
+        "merge-base --is-ancestor HEAD", "merge-base --is-ancestor --all HEAD HEAD",
+        "merge-base --independent --octopus HEAD", "merge-base --octopus --is-ancestor HEAD HEAD",
+        "merge-base --fork-point nosuch", "merge-base --fork-point main HEAD~1",
+        "merge-base --fork-point main HEAD HEAD",
+        "merge-base HEAD HEAD -a", "merge-base --no-all HEAD light",
+        "merge-base -a --no-all HEAD light",
+        "merge-base --ind HEAD light", "merge-base --is HEAD light", "merge-base --i HEAD light",
+        "merge-base -x", "merge-base --nosuch HEAD HEAD", "merge-base -aa HEAD light",
+        "merge-base -- HEAD light",
+        f"merge-base {'1' * 40} HEAD", f"merge-base --is-ancestor {'1' * 40} HEAD",
+    )
+    commands += each(odd, "merge-base --is-ancestor light", "HEAD", "outer", "both-1", "nosuch",
+                     "HEAD^{tree}", "early")
+    commands += lists(odd)
+    commands += texts(odd)
+    # A file of a reference whose name is not UTF-8.
+    loose = one_line(room, "loose bytes", 4)
+    loose.may_be_refused = True
+    loose.git("tag", b"caf\xe9", loose.ids[1])
+    commands += common(loose, *WHOLE)
+    commands += each(loose, "rev-parse", b"caf\xe9", b"caf\xe8", b"heads/\xff")
+    return commands
+
+
+def lists(odd: Repository) -> list[Command]:
+    """Options and revisions of rev-list."""
+    commands = each(odd, "rev-list", "HEAD", "light", "outer", "other", "twice", "heads/twice",
+                    "@~3", "nosuch", "",
+                    "HEAD^@", "HEAD^!", "early^!", "late^@", "^late", "light..outer",
+                    "both-1...HEAD", "nosuch..late",
+                    "late..nosuch", "late..", "...late", "HEAD^-", "HEAD^-2", "HEAD~99", "^nosuch",
+                    b"caf\xe9",
+                    "--all", "--branches", "--tags", "--remotes", "--branches=commit-*",
+                    "--tags=b*", "--remotes=far",
+                    "--branches=[", "--tags=", "tree", "HEAD^{tree}", "light..tree", "..", "...",
+                    "HEAD^-4294967297",
+                    "--branches=feature", "--branches=feature/*", "--branches=*/er")
+    commands += each(odd, "rev-list --count", "HEAD", "light..HEAD", "outer...light", "^HEAD",
+                     "late^@", "light..", "--all")
+    commands += each(odd, "rev-list --left-right --count", "HEAD", "light..HEAD", "outer...light",
+                     "...light", "same-1...early")
+    commands += rows(
+        odd,
+        "rev-list", "rev-list HEAD ^light --", "rev-list nosuch --",
+        "rev-list -n 2 HEAD ^both-0 outer",
+        "rev-list --max-count 2 --count HEAD", "rev-list -n -1 HEAD", "rev-list HEAD light nosuch",
+        "rev-list HEAD...light late..called outer", f"rev-list {odd.ids[0]}^@",
+        f"rev-list --count {odd.ids[0]}^@",
+        "rev-list -n3 -n4 HEAD", "rev-list -3 HEAD", "rev-list HEAD -n 2", "rev-list HEAD -n",
+        "rev-list -n", "rev-list -nx HEAD",
+        "rev-list -n 2x HEAD", "rev-list --max-count= HEAD", "rev-list --max-count=x HEAD",
+        "rev-list --max-count=x=2 HEAD",
+        "rev-list --skip=2 --max-count=3 HEAD", "rev-list --skip=-1 HEAD",
+        "rev-list --skip 2 -n 1 HEAD",
+        "rev-list --reverse -n 3 HEAD", "rev-list --reverse HEAD~3..HEAD",
+        "rev-list --parents -n 3 HEAD",
+        "rev-list --parents --first-parent HEAD", "rev-list --merges HEAD",
+        "rev-list --no-merges -n 2 HEAD",
+        "rev-list --left-right outer...light", "rev-list --left-right --parents outer...light",
+        "rev-list --boundary late..HEAD", "rev-list --boundary -n 2 HEAD",
+        "rev-list --topo-order HEAD light",
+        "rev-list --date-order HEAD light", "rev-list --not HEAD~3 --not HEAD",
+        "rev-list HEAD --not light both-1",
+        "rev-list --not --all", "rev-list --all --not HEAD~2", "rev-list --branches --not --tags",
+        "rev-list --tags --not --remotes",
+        "rev-list --count --all --not --tags=v*", "rev-list --all -n 4", "rev-list --no-walk HEAD",
+        "rev-list --objects HEAD",
+        "rev-list HEAD -- folder/file", "rev-list --max-parents=1 HEAD",
+        "rev-list --min-parents=2 HEAD", "rev-list --nosuch HEAD",
+        "rev-list --since=2001-09-09 HEAD", "rev-list --first-parent --count HEAD",
+        "rev-list --quiet HEAD",
+        f"rev-list tt2...HEAD", f"rev-list {'1' * 40}", f"rev-list {'1' * 40}..HEAD",
+        f"rev-list HEAD ^{'1' * 40}", "rev-list folder/file",
+        "rev-list --count=3 HEAD", "rev-list --all=x", "rev-list --not",
+        "rev-list --exclude=*1 --all", "rev-list --glob=heads",
+    )
+    for data in ("HEAD\n", "HEAD\n^light\n", "light..HEAD\n", "", "\n", "nosuch\n", "HEAD",
+                 "^HEAD\nHEAD\n", "HEAD~1\nHEAD~2\n\nHEAD\n",
+                 "--all\n", "--not\nHEAD\n", "HEAD\n--\nfolder/file\n", "light...late\n"):
+        commands += rows(odd, "rev-list --stdin", "rev-list --count --stdin HEAD~9",
+                         "rev-list --stdin -n 1 --not early", data=data.encode())
+    return commands
+
+
+def texts(odd: Repository) -> list[Command]:
+    """Options and revisions of rev-parse."""
+    ids = odd.ids
+    commands = rows(odd, "rev-parse")
+    some = ("HEAD", "light", "both-1", "outer", "other", b"caf\xe9", b"\xff/x", "v1-2-gabcdef0",
+            "twice", "heads/twice", "far", "far/tagged",
+            "other/name", "refs/other/name", "@", "@~3", "outer^{}", "outer^0", "outer~0",
+            "outer^{commit}", "outer^{tag}", "outer^{object}",
+            "both-1~1", f"any-4-g{ids[4][:6]}", f"{ids[4][:6]}-any", "nosuch", "", "far^@",
+            "HEAD^!", "early^!", "late^@", "^late",
+            "light..outer", "both-1...HEAD", "same-1...early", "HEAD^-", "HEAD^-2", "late..",
+            "...late", "nosuch..late", "HEAD~99", "link",
+            "main", "heads/main", "refs/heads/link")
+    for options in ("", " --verify", " --verify --quiet", " --short", " --short=9", " -q",
+                    " --symbolic-full-name", " --abbrev-ref",
+                    " --abbrev-ref=loose", " --abbrev-ref=strict"):
+        commands += each(odd, f"rev-parse{options}", *some)
+        commands += rows(odd, f"rev-parse{options} light outer",
+                         f"rev-parse{options} HEAD nosuch light", f"rev-parse{options}")
+    commands += each(odd, "rev-parse", "HEAD^{tree}", "HEAD^{blob}", "tree", "tree^{tree}",
+                     "tree^{commit}", "file", "file^{blob}", "file^{}",
+                     "HEAD^{nosuch}", "HEAD^{", "HEAD^{commit", "HEAD~", "HEAD^", "HEAD^^^",
+                     "HEAD~1~1^0", "HEAD^00", "HEAD~00001", "HEAD^1x",
+                     "HEAD~-1", "HEAD~9999999999", "HEAD^9999999999", "HEAD^-0", "HEAD^-1",
+                     "HEAD^-4294967297", "HEAD@", "@@", "@^", "HEAD^!^!",
+                     "..", "...", "HEAD..", "^^HEAD", "^HEAD^@", "^HEAD..light", "HEAD..^light",
+                     "a..b..c", "HEAD:folder/file", ":folder/file",
+                     "HEAD:", "HEAD:nosuch", ":/file", ":/nosuch", "HEAD^{/file}", "HEAD^{/nosuch}",
+                     "folder/file", "folder", "-x", "--nosuch",
+                     "--all", "--branches", "--git-dir", "HEAD~1^-", "late~1..early",
+                     "refs/heads/main", "FETCH_HEAD", "ORIG_HEAD", "MERGE_HEAD",
+                     "%(refname)", "heads/%(refname)", "a$b`c`;d", "@x", "@{0}", "HEAD@{0}",
+                     "main@{0}", "HEAD@{99}", "@{99}", "light@{0}", "@{-1}",
+                     "main@{u}", "@{u}", "@{push}", "main@{upstream}", "nosuch@{u}", "HEAD@{u}",
+                     "@{yesterday}", "HEAD@{2001-01-01}", "HEAD@{", "@{",
+                     "HEAD@{-1}", "main@{u}..HEAD", "1" * 40, "1" * 39, "f" * 40 + "^0",
+                     ids[3].upper(), ids[3] + "0", ids[3][:3], ids[3][:4].upper())
+    commands += rows(odd, "rev-parse --short=x HEAD", "rev-parse --short=x=9 HEAD",
+                     "rev-parse --short=1 HEAD", "rev-parse --short=99 HEAD",
+                     "rev-parse --short= HEAD", "rev-parse --short=0 HEAD", "rev-parse --verify",
+                     "rev-parse --verify HEAD light",
+                     "rev-parse HEAD --verify", "rev-parse HEAD -q nosuch",
+                     "rev-parse --short HEAD..light", "rev-parse --short ^HEAD",
+                     "rev-parse --verify HEAD..light", "rev-parse --verify HEAD^!",
+                     "rev-parse -q --verify nosuch", "rev-parse --verify --short HEAD",
+                     "rev-parse -- HEAD", "rev-parse HEAD --",
+                     "rev-parse --symbolic-full-name HEAD..light",
+                     "rev-parse --abbrev-ref HEAD ^light",
+                     "rev-parse --symbolic-full-name HEAD^0", "rev-parse --abbrev-ref link",
+                     "rev-parse --abbrev-ref=x HEAD")
+    return commands
+
+
+def digits(room: Room) -> list[Command]:
+    """Names that look like digits of ids, and digits that are ambiguous."""
+    named = digit_names(room)
+    ids = named.ids
+    commands: list[Command] = []
+    for text in (f"{ids[0][:4]}-login", ids[2][:8], ids[2][:9], f"v1-2-g{ids[4][:7]}",
+                 f"v1-3-g{ids[4][:7]}", ids[1][:3], ids[3][:6]):
+        commands += each(named, "rev-parse", text, f"{text}^0", f"heads/{text}", f"tags/{text}",
+                         f"{text}^!", f"^{text}", f"commit-1..{text}", text.upper())
+    commands += each(named, "rev-parse", "feed", "feed~1", "feed...decade-2024",
+                     "decade-2024..feed", f"feed..{ids[4][:9]}", f"{ids[0]}...feed", "^feed",
+                     "feed^!", "ee...feed", "..feed", "feed...", "feed~1...ee", "feed..nosuch",
+                     "nosuch...feed", "dead", "dead...feed", "feed~99",
+                     "feed...feed~99", "feed^{commit}...ee", "feed^{/2}", ":/2", ":/2...feed",
+                     "feed:", "feed@{0}", "feed a", "decade-2024^@",
+                     f"decade-2024...{ids[1][:6]}~1", "deadbeef-nosuch")
+    commands += [row(named, "rev-parse", "feed...ee", "decade-2024...feed", ids[3],
+                     "commit-1...commit-4", "nosuch...feed")]
+    commands += [row(named, "rev-parse", *["feed", "decade-2024~1"] * 60, "feed...decade-2024",
+                     "decade-2024..ee")]
+    quiet = room.copy(named, "quiet digits")
+    quiet.git("config", "core.warnAmbiguousRefs", "false")
+    for place in (named, quiet):
+        commands += each(place, "rev-parse", ids[5], f"{ids[5]}~1", f"{ids[5]}...feed",
+                         f"{ids[5]}..ee", f"heads/{ids[5]}", f"heads/{ids[5]}...{ids[5]}")
+        commands += each(place, "rev-list -n 1", ids[5], f"heads/{ids[5]}", ids[1][:3])
+    return commands + ambiguous(room)
+
+
+def ambiguous(room: Room) -> list[Command]:
+    """Digits with which several objects begin: commits, blobs, or one of each."""
+    made = one_line(room, "ambiguous", 3)
+    by_digits: dict[str, list[str]] = {}
+    parent = made.ids[-1]
+    tree = made.git("rev-parse", "HEAD^{tree}")
+    texts = "".join(
+        f"commit refs/heads/many\nmark :{n}\n"
+        f"committer a <a@example.org> {1_000_001_000 + n} +0000\ndata 0\n"
+        f"from {parent if n == 1 else f':{n - 1}'}\n\n" for n in range(1, 700)
+    )
+    texts += "".join(f"blob\nmark :{n}\ndata {len(str(n))}\n{n}\n" for n in range(1000, 1700))
+    made.git("fast-import", "--quiet", data=texts.encode())
+    kinds = {}
+    for line in made.git("cat-file", "--batch-all-objects",
+                         "--batch-check=%(objectname) %(objecttype)").split("\n"):
+        id, kind = line.split(" ")
+        kinds[id] = kind
+        by_digits.setdefault(id[:4], []).append(id)
+    chosen: dict[str, str] = {}
+    for begin, ids in by_digits.items():
+        if len(ids) > 1:
+            chosen.setdefault(" ".join(sorted(kinds[id] for id in ids)), begin)
+    made.git("tag", "v1", parent)
+    preferring = room.copy(made, "preferring")
+    preferring.git("config", "core.disambiguate", "committish")
+    preferring.may_be_refused = True
+    commands = []
+    for begin in chosen.values():
+        commands += each(preferring, "rev-parse", begin, f"{begin}^0", f"{begin}..HEAD")
+        commands += each(made, "rev-parse", begin, f"{begin}^0", f"{begin}~1",
+                         f"{begin}^{{commit}}", f"{begin}^{{tree}}", f"{begin}..HEAD",
+                         f"HEAD...{begin}")
+        commands += each(made, "rev-parse --verify -q", begin)
+        commands += each(made, "merge-base HEAD", begin)
+        commands += each(made, "rev-list --count", begin, f"^{begin}", f"{begin}..HEAD")
+        commands += each(made, "describe --tags", begin, f"x-1-g{begin}")
+        commands += each(made, "rev-parse --short=4", by_digits[begin][0])
+    commands += each(made, "rev-parse --short=4", *made.ids, tree)
+    commands += [row(made, *f"describe --tags --abbrev=4 {it}".split(" ")) for it
+                 in made.git("rev-list", "-n", "12", "many").split("\n")]
+    return commands
+
+
+def branches(room: Room) -> list[Command]:
+    """Upstreams, where branches are pushed to, and reflogs."""
+    made = siblings(room)
+    some = ("@{u}", "@{push}", "main@{u}", "main@{upstream}", "main@{UPSTREAM}", "dev@{u}",
+            "tracked@{u}", "local@{u}", "local@{push}", "tracked@{push}",
+            "HEAD@{u}", "nosuch@{u}", "HEAD@{0}", "HEAD@{1}", "HEAD@{2}", "HEAD@{99}", "@{0}",
+            "@{1}", "@{99}", "main@{1}", "main@{99}", "dev@{0}", "dev@{1}",
+            "@{-1}", "@{-2}", "@{-3}", "@{-4}", "@{-99}", "@{-1}~1", "@{-1}@{u}", "@{-1}@{0}",
+            "HEAD@{1}~1", "@{u}~1", "@{u}^0", "main@{u}^{tree}",
+            "HEAD..@{u}", "HEAD...@{u}", "HEAD..main@{upstream}", "dev..main@{push}", "@{u}..HEAD",
+            "@{u}...", "..@{u}", "@{1}..@{0}", "dev@{u}..HEAD",
+            "^@{u}", "@{u}^!", "@{u}^@", "origin", "origin/main", "origin/HEAD", "heads/main@{u}",
+            "refs/heads/main@{u}", "@{u}@{0}", "origin@{u}")
+    commands = common(made, *WHOLE)
+    for options in ("rev-parse", "rev-parse --verify -q", "rev-parse --symbolic-full-name",
+                    "rev-parse --abbrev-ref", "rev-parse --short"):
+        commands += each(made, options, *some)
+    commands += rows(made, "rev-parse HEAD dev@{u}", "rev-parse -q --verify HEAD..@{u}",
+                     "rev-list --count --left-right @{u}...HEAD",
+                     "rev-list @{u}..", "rev-list --count ..@{u}", "rev-list @{1}..@{0}",
+                     "merge-base HEAD @{u}", "merge-base --fork-point origin/main",
+                     "merge-base --fork-point main", "merge-base --fork-point main dev",
+                     "merge-base --fork-point @{u}", "describe --all @{u}",
+                     "describe --all @{-1}", "for-each-ref --format=%(refname) --contains @{u}",
+                     "for-each-ref --format=%(refname) --no-merged @{-1}")
+    for default in ("nothing", "current", "upstream", "simple", "matching", "bad"):
+        commands += rows(made, "rev-parse --abbrev-ref @{push}", "rev-parse tracked@{push}",
+                         environment=settings("push.default", default))
+    bare = room.clone(made, "bare clone", "--bare")
+    commands += each(bare, "rev-parse", "@{u}", "main@{u}", "HEAD@{0}", "@{0}", "@{1}", "@{-1}",
+                     "main@{0}")
+    return commands
+
+
+def working_trees(room: Room) -> list[Command]:
+    """Working trees that are clean or dirty, and linked ones."""
+    commands = []
+    for place in trees(room):
+        name = os.path.basename(place.path)
+        sure = name in ("tree", "longer", "lacking")
+        commands += rows(place, "describe --tags --dirty", "describe --tags --dirty=.x",
+                         "describe --always --dirty=", is_strict=sure)
+        commands += rows(place, "describe --tags --dirty --all --long",
+                         "describe --always --match=none --dirty", "describe --dirty HEAD",
+                         "describe --tags --no-dirty")
+        commands += common(place, folder=place.path + b"/folder")
+        commands += common(place)[:10]
+        commands += each(place, "rev-parse", "main-worktree/HEAD", "worktrees/touched/HEAD",
+                         "refs/worktree/own", "worktree/own", "worktrees/touched/refs/worktree/own")
+        commands += rows(place, "describe --all HEAD~2", "rev-list --all -n 3", "describe --broken",
+                         folder=place.path + b"/folder")
+    inside = commands[0].place
+    commands += common(inside, folder=inside.path + b"/.git")[:6]
+    commands += common(inside, folder=inside.path + b"/.git/objects")[:3]
+    return commands
+
+
+def unusual(room: Room) -> list[Command]:
+    """No tags, no commits, no repository, other ids; bare, shallow and changed histories."""
+    base = room.random("base", 77, "rising", 30)
+    untagged = room.clone(base, "untagged", "--no-tags")
+    empty = room.init("empty")
+    unborn = room.copy(base, "unborn")
+    unborn.git("symbolic-ref", "HEAD", "refs/heads/unborn")
+    detached = room.copy(base, "detached")
+    detached.git("update-ref", "--no-deref", "HEAD", base.ids[20])
+    packed = room.copy(base, "packed")
+    packed.git("gc", "-q")
+    blob = room.init("tagged blob")
+    blob.git("tag", "file", blob.git("hash-object", "-w", "--stdin", data=b"file\n"))
+    nowhere = Repository(room.path("nowhere"))
+    os.makedirs(nowhere.path)
+    foreign = room.init("sha256", "--object-format=sha256")
+    foreign.may_be_refused = True
+    bare = room.clone(base, "bare", "--bare")
+    shallow = room.clone(base, "shallow", "--no-single-branch", "--depth=3")
+    shallow_file = filed(room, shallow, "shallow with a file") if shallow.ids else shallow
+    commands = []
+    for place in (untagged, empty, unborn, detached, packed, blob, nowhere, foreign, bare, shallow,
+                  shallow_file):
+        commands += common(place, "rev-list HEAD", "describe --tags --exact-match",
+                           "merge-base --octopus", "rev-list --all", "rev-list --branches -n 2")
+    commands += rows(unborn, "describe --all --dirty", "rev-parse @", "rev-parse --abbrev-ref @",
+                     "rev-list --count HEAD --")
+    return commands + changed(room, base) + separate(room, base)
+
+
+def changed(room: Room, base: Repository) -> list[Command]:
+    """Histories that grafts and replace references change."""
+    grafted = room.copy(base, "grafted")
+    head = base.git("rev-parse", "HEAD")
+    grafted.write(".git/info/grafts",
+                  f"{head} {base.ids[2]} {base.ids[5]}\n{base.ids[4]}\n# nothing\n")
+    replaced = room.copy(base, "replaced")
+    replaced.git("replace", "--graft", head, base.ids[3])
+    replaced.git("replace", "--graft", base.ids[12])
+    commands = common(grafted, *WHOLE) + common(replaced, *WHOLE)
+    commands += common(replaced, environment={b"GIT_NO_REPLACE_OBJECTS": b"1"})
+    commands += common(replaced, before=(b"--no-replace-objects",))[:4]
+    other = room.copy(replaced, "replaced otherwise")
+    other.git("config", "core.useReplaceRefs", "false")
+    return commands + common(other)
+
+
+def separate(room: Room, base: Repository) -> list[Command]:
+    """Repositories that are found in other ways."""
+    commands = []
+    git_folder = base.path + b"/.git"
+    away = {"folder": room.path("nowhere")}
+    for before, more in (
+        ((b"-C", base.path), away),
+        ((b"-C", room.folder, b"-C", b"base"), away),
+        ((b"--git-dir=" + git_folder,), away),
+        ((b"--git-dir", git_folder), away),
+        ((b"--git-dir", git_folder, b"--work-tree", base.path), away),
+        ((b"--git-dir=" + git_folder, b"--work-tree=" + base.path), away),
+        ((b"--git-dir=/nosuch",), away),
+        ((b"-C", b"/nosuch"), away),
+        ((), {**away, "environment": {b"GIT_DIR": git_folder}}),
+        ((), {**away, "environment": {b"GIT_DIR": git_folder, b"GIT_WORK_TREE": base.path}}),
+        ((), {**away, "environment": {b"GIT_DIR": b"/nosuch"}}),
+        ((), {"environment": {b"GIT_CEILING_DIRECTORIES": room.folder}}),
+        ((), {**away, "environment": {b"GIT_CEILING_DIRECTORIES": room.folder}}),
+        ((), {"environment": {b"GIT_CONFIG_COUNT": b"1", b"GIT_CONFIG_KEY_0": b"core.abbrev",
+                              b"GIT_CONFIG_VALUE_0": b"12"}}),
+        ((), {"environment": {b"GIT_OBJECT_DIRECTORY": b"/nosuch"}}),
+        ((b"--no-pager",), {}), ((b"--bare",), {}), ((b"--nosuch",), {}), ((b"-p",), {}),
+    ):
+        commands += common(base, before=before, **more)[:12:2]
+    # Objects of another repository, and a repository whose folder is elsewhere.
+    borrowed = room.clone(base, "borrowed", "--shared")
+    moved = room.clone(base, "moved", b"--separate-git-dir=" + room.path("moved git"))
+    linked = Repository(room.path("linked"), base.ids, base.names)
+    os.symlink(base.path, linked.path)
+    for place in (borrowed, moved, linked):
+        commands += common(place, "describe --tags --dirty")
+    for config in ("core.abbrev=5", "core.abbrev=40", "core.abbrev=no", "core.abbrev=auto",
+                   "core.abbrev=2", "core.abbrev=x", "core.commitGraph=false",
+                   "tag.sort=nonsense", "branch.sort=nonsense", "core.bare=true",
+                   "core.repositoryformatversion=7", "extensions.nosuch=1", "color.ui=always"):
+        settled = room.copy(base, "with " + config.replace("=", " is "))
+        settled.write(".git/config", settled_config(settled, config))
+        # git refuses these repositories.
+        settled.may_be_refused = config.endswith(("=2", "=x", "=7", "nosuch=1"))
+        commands += rows(settled, "rev-parse --short HEAD", "describe --tags --long",
+                         "describe --match v* --always", "merge-base HEAD HEAD~1",
+                         "rev-list -n 2 HEAD", "rev-parse --abbrev-ref HEAD")
+    return commands
+
+
+def settled_config(place: Repository, config: str) -> bytes:
+    """Returns the config file of a repository with one more setting."""
+    with open(place.path + b"/.git/config", "rb") as file:
+        text = file.read()
+    section, _, rest = config.partition(".")
+    name, _, value = rest.partition("=")
+    return text + f"[{section}]\n\t{name} = {value}\n".encode()
+
+
+def graphs(room: Room) -> list[Command]:
+    """Repositories with commit-graph files."""
+    base = room.random("for graphs", 78, "rising", 40)
+    skewed = room.random("skewed for graphs", 79, "skewed", 40)
+    commands = []
+    for of in (base, skewed):
+        name = os.path.basename(of.path).decode()
+        places = [filed(room, of, f"{name}, whole"), filed(room, of, f"{name}, part", 20),
+                  chained(room, of, f"{name}, chain")]
+        for place in places:
+            commands += common(place, *WHOLE)
+    broken = filed(room, base, "with a broken file")
+    broken.write(".git/objects/info/commit-graph", b"CGPH nothing")
+    cut = filed(room, base, "with a cut file")
+    path = cut.path + b"/.git/objects/info/commit-graph"
+    os.chmod(path, 0o644)
+    os.truncate(path, os.path.getsize(path) // 2)
+    for place in (broken, cut):
+        commands += common(place, *WHOLE)
+    # A folder whose name is not UTF-8, and its subfolder.
+    latin = filed(room, base, b"caf\xe9")
+    latin.may_be_refused = True
+    os.makedirs(latin.path + b"/b\xfe/c")
+    commands += common(latin, *WHOLE) + common(latin, folder=latin.path + b"/b\xfe/c")
+    return commands + late(room)
+
+
+def late(room: Room) -> list[Command]:
+    """Dates past 34 bits with a commit-graph file, by which git's order of dates is another one."""
+    commands = []
+    for power in (31, 32, 33, 34, 35):
+        made = room.init(f"late {power}")
+        first = 2**power - 6
+        root = made.commit(date=first)
+        other = made.commit(root, date=first + 1)
+        past = made.commit(root, date=2**power)
+        head = made.commit(past, date=2**power + 4)
+        for name, id in (("a", head), ("b", other), ("main", head)):
+            made.git("update-ref", f"refs/heads/{name}", id)
+        made.git("tag", "v", root)
+        for place in (made, filed(room, made, f"late {power} with a file")):
+            commands += rows(place, "rev-list a..b", "rev-list --count a..b", "rev-list b..a",
+                             "rev-list a", "merge-base a b", "describe --tags a",
+                             "merge-base --is-ancestor b a", "rev-list --left-right --count a...b")
+    return commands
+
+
+def lost(room: Room) -> list[Command]:
+    """Commits that are missing, damaged or empty, deep in a history. What git answers on the way to
+    a commit without its history has to be answered."""
+    whole = one_line(room, "whole", 16)
+    whole.git("tag", "t", "HEAD~1")
+    head = whole.ids[-1]
+    near = ("rev-parse HEAD", "rev-parse HEAD~1", "rev-parse HEAD^@", "rev-parse --short HEAD",
+            f"rev-parse {head}", f"rev-parse {head[:8]}", "rev-parse HEAD~1..HEAD",
+            "rev-list -n 1 HEAD", "rev-list -n 2 HEAD", "merge-base HEAD HEAD~1",
+            "merge-base --is-ancestor HEAD~1 HEAD", "describe --tags --exact-match HEAD~1",
+            "describe --tags HEAD", "for-each-ref --format=%(refname)")
+    commands = []
+    for kind in ("missing", "damaged", "empty"):
+        for depth in (3, 12):
+            made = room.copy(whole, f"{kind} at {depth}")
+            made.twin = whole.path
+            path = made.loose(made.ids[-1 - depth])
+            os.chmod(path, 0o644)
+            if kind == "missing":
+                os.remove(path)
+            else:
+                os.truncate(path, 0 if kind == "empty" else os.path.getsize(path) // 2)
+            commands += rows(made, *near, is_strict=True)
+            commands += common(made, f"rev-parse HEAD~{depth}", "describe HEAD", "rev-list HEAD",
+                               "rev-list HEAD~1..HEAD", f"rev-list --count HEAD~{depth}..HEAD",
+                               f"merge-base HEAD HEAD~{depth + 1}",
+                               f"rev-parse {made.ids[-1 - depth]}")
+    return commands
+
+
+def nowhere(room: Room) -> list[Command]:
+    """References that lead nowhere, and files of references that are no references."""
+    base = one_line(room, "tags", 4)
+    gone = room.copy(base, "gone tag")
+    gone.write(".git/refs/tags/gone", "1234" * 10 + "\n")
+    lacking = room.copy(base, "lost commit")
+    alone = lacking.commit(base.ids[0], date=1_000_005_000)
+    lacking.tag("lost", alone, 1_000_006_000)
+    lacking.remove(alone)
+    garbage = room.copy(base, "garbage")
+    garbage.write(".git/refs/heads/empty", "")
+    garbage.write(".git/refs/heads/garbage", "nothing that is a reference\n")
+    garbage.write(".git/refs/tags/short", "1234\n")
+    tagged_head = room.copy(base, "head at a tag")
+    tagged_head.git("tag", "v1", base.ids[-1])
+    tagged_head.write(".git/HEAD", "ref: refs/tags/v1\n")
+    circle = room.copy(base, "circle")
+    circle.write(".git/refs/heads/round", "ref: refs/heads/about\n")
+    circle.write(".git/refs/heads/about", "ref: refs/heads/round\n")
+    dangling = room.copy(base, "dangling link")
+    dangling.git("branch", "dang", base.ids[1])
+    os.symlink("nowhere", dangling.path + b"/dang")
+    damaged = room.copy(base, "junk in packed-refs")
+    damaged.git("pack-refs", "--all")
+    with open(damaged.path + b"/.git/packed-refs", "ab") as file:
+        file.write(b"nothing that is a reference\n")
+    # git ends with status 128, and the program with 129.
+    damaged.may_be_refused = True
+    commands = rows(damaged, "rev-parse HEAD", "rev-parse v1", "rev-list --all", "describe --all",
+                    "for-each-ref", "merge-base HEAD HEAD~1")
+    head = base.ids[-1]
+    for place in (gone, lacking, garbage, tagged_head, circle, dangling):
+        place.git("tag", "-f", "t", base.ids[1])
+        commands += common(place, "describe --tags --exact-match", "describe --all --match *",
+                           "describe --all", f"rev-parse {head}", f"rev-parse {head[:8]}",
+                           f"rev-parse {head}~1", f"rev-parse {head}~1..HEAD")
+    commands += each(gone, "rev-parse", "gone", "gone^0", "gone~1") + each(garbage, "rev-parse",
+        "empty", "garbage", "short", "heads/empty")
+    commands += each(circle, "rev-parse", "round", "heads/round") + each(lacking, "rev-parse",
+        "lost", "lost^0", "lost^{}")
+    commands += rows(dangling, "rev-list --count dang", "rev-parse dang", "rev-list dang --",
+                     "merge-base dang HEAD", "rev-list HEAD..dang")
+    commands += rows(tagged_head, "rev-parse --abbrev-ref HEAD",
+                     "rev-parse --symbolic-full-name HEAD")
+    return commands
+
+
+def ties(room: Room) -> list[Command]:
+    """Commits with the same date, and dates before 1970, by which a depth may be one too great."""
+    commands = []
+    for start, step in ((1_000_000_000, 0), (-800, 1), (-800, 0)):
+        for text in range(4):
+            made = room.init(f"tie {start} {step} {text}")
+            base = made.commit(date=start, text=f"{text} base")
+            topic = made.commit(base, date=start + step, text=f"{text} topic")
+            tagged = made.commit(base, date=start + 2 * step, text=f"{text} r")
+            merge = made.commit(tagged, topic, date=start + 3 * step, text=f"{text} merge")
+            made.git("update-ref", "refs/heads/main", merge)
+            made.git("update-ref", "refs/tags/r", tagged)
+            three = made.commit(tagged, base, date=start + 3 * step, text=f"{text} three")
+            made.git("update-ref", "refs/heads/three", three)
+            made.is_untidy = step == 0 or start < 0
+            # Commits with dates before 1970 are not read.
+            made.may_be_refused = start < 0
+            commands += rows(made, "describe --tags", "describe --tags three",
+                             "rev-list --count r..HEAD", "rev-list main three",
+                             "merge-base main three")
+    return commands
+
+
+def crossed(room: Room) -> list[Command]:
+    """Merge bases with the same date. Their order is git's, unless there is a commit-graph file."""
+    made = room.init("crossed")
+    made.is_untidy = True
+    bases = [made.commit(date=1_000_000_000 + number % 2, text=f"base {number}")
+             for number in range(5)]
+    heads = []
+    for order in ((0, 1, 2, 3, 4), (4, 3, 2, 1, 0), (2, 4, 0, 3), (1, 3, 0, 4)):
+        heads.append(made.commit(*(bases[at] for at in order), date=1_000_000_009,
+                                 text=f"head {order}"))
+        made.git("update-ref", f"refs/heads/h{len(heads) - 1}", heads[-1])
+    made.git("update-ref", "refs/heads/main", made.commit(heads[2], heads[0], date=1_000_000_009))
+    pairs = ("h0 h1", "h1 h0", "h0 h2", "h2 h3", "h3 h2", "h1 main", "h3 main", "h0 h1 h2",
+             "h2 h1 h0", "h1 h2 h3 main", "main h3 h2 h1")
+    lines = [f"{front} {pair}" for pair in pairs for front in (
+        "merge-base", "merge-base --all", "merge-base --octopus", "merge-base --octopus --all")]
+    lines += [f"{front}{pair.replace(' ', '...')}" for pair in pairs[:7] for front in (
+        "rev-parse ", "rev-list --not ", "rev-list --left-right ")]
+    filed_too = filed(room, made, "crossed with a file")
+    return rows(made, *lines, is_strict=True) + rows(filed_too, *lines[::7])
+
+
+def hostile(room: Room) -> list[Command]:
+    """A repository that would have a command run: a promised object is missing."""
+    made = one_line(room, "hostile", 3)
+    made.git("tag", "promised", made.git("hash-object", "-w", "--stdin", data=b"promised\n"))
+    made.remove(made.git("rev-parse", "promised"))
+    upload = room.path("upload")
+    with open(upload, "wb") as file:
+        file.write(b"#!/bin/sh\ntouch '" + room.path("ran") + b"'\n")
+    os.chmod(upload, 0o755)
+    for key, value in (("core.repositoryformatversion", "1"), ("extensions.partialClone", "o"),
+                       ("remote.o.url", b"/nosuch"), ("remote.o.uploadpack", upload),
+                       ("core.fsmonitor", upload), ("core.sshCommand", upload),
+                       ("core.pager", upload), ("core.editor", upload), ("filter.x.clean", upload),
+                       ("alias.rev-parse", b"!" + upload)):
+        made.git("config", key, value)
+    words = ("rev-parse HEAD", "rev-parse --short HEAD", "rev-parse HEAD~1", "rev-list HEAD",
+             "merge-base HEAD HEAD~1", "rev-list --branches",
+             "for-each-ref --format=%(refname)", "describe --always --match=nosuch")
+    return rows(made, *words)
+
+
+def many(room: Room) -> list[Command]:
+    """Many references, many arguments and many options."""
+    made = many_references(room, 8000)
+    names = made.names
+    commands = common(made)
+    commands += [
+        row(made, "rev-parse", *names[:150]),
+        row(made, "rev-parse", *(f"{it}~1" for it in names[:101])),
+        row(made, "rev-list", "--count", *names[:3000]),
+        row(made, "rev-list", "--count", "HEAD", "--not", *names[:2000:3]),
+        row(made, "merge-base", "--independent", *names[:400]),
+        row(made, "merge-base", "--octopus", *names[3:500:70]),
+        row(made, "describe", "--tags", *names[1:900:30]),
+        row(made, "rev-list", "--stdin", "--count", data="".join(f"{it}\n" for it
+            in names).encode()),
+        row(made, "for-each-ref", "--format=%(refname) %(objectname)", "--no-contains",
+            made.ids[300]),
+        row(made, "for-each-ref", "--format=%(refname:short)", "--merged", made.ids[30],
+            "refs/tags"),
+        row(made, "rev-list", "--count", "--all", "--not", "--tags"),
+    ]
+    return commands
+
+
+MAKERS = (names, digits, branches, working_trees, unusual, graphs, lost, nowhere, ties, crossed,
+          hostile, many)
+
+
+def remove_made(room: Room) -> None:
+    shutil.rmtree(room.folder, ignore_errors=True)

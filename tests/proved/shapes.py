@@ -1,0 +1,180 @@
+"""Says which commands `git proved` may refuse with status 129, and why.
+
+Every other command has to be answered as git answers it.
+"""
+
+from __future__ import annotations
+
+import os
+import re
+
+# The options of each word that are read, without the values behind `=`.
+OPTIONS = {
+    b"merge-base": {b"-a", b"--all", b"--octopus", b"--independent", b"--is-ancestor",
+                    b"--fork-point"},
+    b"describe": {
+        b"--all", b"--tags", b"--long", b"--abbrev", b"--exact-match", b"--candidates",
+        b"--first-parent", b"--always", b"--match", b"--exclude", b"--dirty",
+    },
+    b"rev-parse": {
+        b"--verify", b"-q", b"--quiet", b"--short", b"--symbolic-full-name", b"--abbrev-ref",
+        b"--symbolic", b"--default", b"--revs-only", b"--no-revs", b"--flags", b"--no-flags",
+        b"--not", b"--sq",
+    },
+    b"rev-list": {
+        b"--not", b"--all", b"--branches", b"--tags", b"--remotes", b"--stdin", b"--count", b"-n",
+        b"--max-count", b"--skip", b"--left-right", b"--first-parent", b"--parents", b"--reverse",
+        b"--boundary", b"--topo-order", b"--date-order", b"--merges", b"--no-merges",
+    },
+    b"for-each-ref": {
+        b"--contains", b"--no-contains", b"--merged", b"--no-merged", b"--format", b"--count",
+        b"--sort",
+    },
+}
+
+# The words whose options git reads by unique prefixes, and with `no-` in front.
+PARSED = (b"merge-base", b"describe", b"for-each-ref")
+
+# The options before the word that are read.
+BEFORE = {b"-C", b"--git-dir", b"--work-tree", b"--authentic", b"--version", b"-h", b"--help"}
+
+# The options of rev-list from which a list begins, without patterns.
+BEGINS = (b"--all", b"--branches", b"--tags", b"--remotes", b"--stdin")
+
+# The options of rev-list whose value is the next word.
+NUMBERS = (b"-n", b"--max-count", b"--skip")
+
+# The atoms of a format that are read.
+ATOMS = (b"refname", b"refname:short", b"objectname", b"objectname:short", b"objecttype")
+
+
+def is_read(word: bytes, option: bytes) -> bool:
+    """Returns whether an option of a word is read."""
+    name = option.partition(b"=")[0]
+    known = OPTIONS[word]
+    if name in known:
+        return True
+    if word == b"rev-list":
+        return re.fullmatch(rb"-n?-?\d+", option) is not None
+    if word not in PARSED or not name.startswith(b"--"):
+        return False
+    bare = name[2:].removeprefix(b"no-")
+    return any(it[2:].removeprefix(b"no-").startswith(bare) for it in known if it.startswith(b"--"))
+
+
+def refused_text(text: bytes, folder: bytes) -> str | None:
+    """Returns why a revision may be refused."""
+    if re.search(rb"\^\{/|^:/|\.\.:/", text):
+        return "a search"
+    if re.search(rb"^:|\.\.:|[^^{]:(?!/)", re.sub(rb"\{[^}]*\}", b"", text)):
+        return "a path"
+    braces = re.findall(rb"@\{([^}]*)\}", text)
+    if any(not re.fullmatch(rb"-?\d{1,8}|u(pstream)?|push", it, re.I) for it in braces):
+        return "a date"
+    if len(braces) > 1 and b"}@{" in text:
+        return "two marks"
+    if b"\n" in text:
+        return "a line feed"
+    if re.search(rb"\^-?\d{10}|~\d{10}", text):
+        return "a number that is none"
+    if b".." in text and re.search(rb"-g[0-9a-f]{1,3}(?![0-9a-f])", text):
+        return "a description without digits"
+    if b"..." in text and b"^{tree}" in text:
+        return "a tree at an end"
+    if text and b"\0" not in text and os.path.lexists(os.path.join(folder, text)):
+        return "the name of a file"
+    return None
+
+
+def refused_option(word: bytes, option: bytes) -> str | None:
+    """Returns why an option may be refused."""
+    if not is_read(word, option):
+        return "an option"
+    name, mark, value = option.partition(b"=")
+    if name in (b"--dirty", b"--broken"):
+        return "--dirty"
+    if name == b"--sort" and value not in (b"refname", b"-refname"):
+        return "an order"
+    if word == b"for-each-ref" and name == b"--format":
+        atoms = re.findall(rb"%\(([^)]*)\)", value)
+        if any(it not in ATOMS and not it.startswith(b"ahead-behind:") for it in atoms):
+            return "a format"
+    numbers = (b"--abbrev", b"--candidates", b"--max-count", b"--skip", b"--short")
+    if mark and name in numbers and not re.fullmatch(rb"[-+]?\d{1,9}", value):
+        return "a number that is none"
+    return None
+
+
+def starts_of(rest: tuple[bytes, ...]) -> list[bytes]:
+    """Returns the words of rev-list from which a list begins, or by which it ends."""
+    pairs = zip((b"", *rest), rest)
+    return [it for before, it in pairs if before not in NUMBERS
+            and (not it.startswith(b"-") or it.partition(b"=")[0] in BEGINS)]
+
+
+def means_several(start: bytes) -> bool:
+    """Returns whether a list may begin from several commits by one word."""
+    return start.startswith(b"-") or b"..." in start or b"^@" in start
+
+
+def refused_list(rest: tuple[bytes, ...]) -> str | None:
+    """Returns why a list may be refused, by all its words."""
+    starts = starts_of(rest)
+    if b"--boundary" in rest and (b"--first-parent" in rest
+                                  or {b"--left-right", b"--count"} <= {*rest}):
+        return "a boundary"
+    if b"--left-right" in rest and len(starts) > 1 and any(b"..." in it for it in starts):
+        return "both sides"
+    is_one = len(starts) == 1 and not means_several(starts[0])
+    if b"--first-parent" in rest and {b"--topo-order", b"--date-order"} & {*rest} and not is_one:
+        return "lines in another order"
+    return None
+
+
+def is_text(word: bytes) -> bool:
+    """Returns whether a word is UTF-8."""
+    try:
+        word.decode()
+    except UnicodeDecodeError:
+        return False
+    return True
+
+
+def refusal(before: tuple[bytes, ...], words: tuple[bytes, ...], data: bytes,
+            folder: bytes) -> str | None:
+    """Returns why a command may be refused; None if it has to be answered."""
+    for option in before:
+        if option.startswith(b"-") and option.partition(b"=")[0] not in BEFORE:
+            return "an option before the word"
+    if not words or words[0] not in OPTIONS:
+        return "a word"
+    word, rest = words[0], words[1:]
+    if word == b"for-each-ref" and not any(it.startswith(b"--format") for it in rest):
+        return "no format"
+    ended = False
+    for at, one in enumerate(rest):
+        if one == b"--" and not ended:
+            ended = True
+            if word in (b"rev-list", b"rev-parse") and at + 1 < len(rest):
+                return "a path"
+            if word == b"rev-parse":
+                return "an option"
+            continue
+        if one.startswith(b"-") and one != b"-" and not ended:
+            why = refused_option(word, one)
+        else:
+            why = refused_text(one, folder)
+            if word in (b"rev-parse", b"rev-list"):
+                why = why or (None if is_text(one) else "a name that is not UTF-8")
+            elif why == "the name of a file":
+                why = None
+        if why:
+            return why
+    if word == b"rev-list" and refused_list(rest):
+        return refused_list(rest)
+    if b"--stdin" in rest:
+        for line in data.split(b"\n"):
+            why = refused_text(line, folder) if not line.startswith(b"-") else "an option"
+            if why:
+                return why
+    return None
