@@ -18,6 +18,13 @@ from typing import NamedTuple
 
 EPOCH = int(os.environ["SOURCE_DATE_EPOCH"])
 
+# Where a program is looked for in the installed files. Links in `bin` lead there.
+PROGRAMS = "libexec/gix_revision/bin"
+# What loads a program, and the shared libraries that it may need, each with Debian's package.
+LOADER = b"/lib64/ld-linux-x86-64.so.2\0"
+LIBRARIES = dict.fromkeys(("libc.so.6", "libm.so.6", "libpthread.so.0", "libdl.so.2", "librt.so.1", "ld-linux-x86-64.so.2"), "libc6")
+LIBRARIES["libgcc_s.so.1"] = "libgcc-s1"
+
 
 class File(NamedTuple):
     """A file of a package: its path, its bytes, and whether it can be run. A link has its target as bytes."""
@@ -118,14 +125,36 @@ def zip_of(files: list[File]) -> bytes:
     return out.getvalue()
 
 
-def glibc_of(path: str) -> tuple[int, int]:
-    """Returns the oldest version of glibc that has all symbols that a program or a shared library needs.
+class Needs(NamedTuple):
+    """What native files need: the oldest glibc that has it all, and Debian's packages of their shared libraries."""
 
-    It is at least 2.5, the oldest that a wheel may name.
+    glibc: tuple[int, int]
+    packages: list[str]
+
+
+def needs_of(*paths: str) -> Needs:
+    """Returns what programs and shared libraries need together. Ends with a message if one would not run elsewhere.
+
+    The version of glibc is at least 2.5, the oldest that a wheel may name.
     """
-    said = subprocess.run(["objdump", "-T", path], check=True, stdout=subprocess.PIPE, text=True).stdout
-    versions = [(int(major), int(minor)) for major, minor in re.findall(r"\*UND\*.*GLIBC_(\d+)\.(\d+)", said)]
-    return max([(2, 5), *versions])
+    versions, packages = [(2, 5)], set()
+    for path in paths:
+        data = bytes_of(path)
+        if not data.startswith(b"\x7fELF"):
+            raise SystemExit(f"tools/package: '{path}' is not a native program or library")
+        said = subprocess.run(["objdump", "-p", path], check=True, stdout=subprocess.PIPE, text=True).stdout
+        if " INTERP " in said and LOADER not in data:
+            raise SystemExit(f"tools/package: '{path}' is not loaded by {LOADER[:-1].decode()}")
+        if re.search(r"^ *(RPATH|RUNPATH) ", said, re.M):
+            raise SystemExit(f"tools/package: '{path}' looks for libraries in a folder of this machine")
+        for name in re.findall(r"^ *NEEDED +(\S+)", said, re.M):
+            if name not in LIBRARIES:
+                raise SystemExit(f"tools/package: '{path}' needs {name}, which no package depends on")
+            packages.add(LIBRARIES[name])
+        versions += [(int(major), int(minor)) for major, minor in re.findall(r" GLIBC_(\d+)\.(\d+)", said)]
+        # Compact relocations, which glibc 2.36 was the first to read.
+        versions += [(2, 36)] * (" GLIBC_ABI_DT_RELR" in said)
+    return Needs(max(versions), sorted(packages))
 
 
 def write(path: str, data: bytes) -> None:

@@ -17,7 +17,7 @@ import textwrap
 from email.utils import formatdate
 from typing import NamedTuple
 
-from archives import EPOCH, File, ar_of, bytes_of, files_below, folders_of, glibc_of, gzip_of, tar_of, write, xz_of
+from archives import EPOCH, PROGRAMS, File, ar_of, bytes_of, files_below, folders_of, gzip_of, needs_of, tar_of, write, xz_of
 from documents import documents, origin
 
 VERSION = os.environ["VERSION"]
@@ -38,9 +38,11 @@ WHAT = """\
 # What lintian reports and is wanted so, by package, with the reason.
 OVERRIDES = {
     "gix-revision-proved": """\
-# The program is byte for byte the one that was proved and built.
+# The programs are byte for byte those that were proved and built.
+gix-revision-proved: unstripped-binary-or-object [usr/libexec/gix_revision/bin/git-proved]
 gix-revision-proved: unstripped-binary-or-object [usr/libexec/gix_revision/bin/revtool]
-# It is not compiled from C.
+# They are not compiled from C.
+gix-revision-proved: hardening-no-fortify-functions [usr/libexec/gix_revision/bin/git-proved]
 gix-revision-proved: hardening-no-fortify-functions [usr/libexec/gix_revision/bin/revtool]
 """,
 }
@@ -57,6 +59,7 @@ class Package(NamedTuple):
     files: list[File]
     control: list[File] = []
     multi_arch: str = ""
+    recommends: str = ""
 
 
 def programs(prefix: str) -> Package:
@@ -67,8 +70,9 @@ def programs(prefix: str) -> Package:
         elif it.path.startswith(("bin/", "libexec/", "share/bash-completion/")):
             files.append(it.at(f"usr/{it.path}"))
     text = " The package has the programs: git-proved, which git runs as `git proved`,\n revtool and from-git.\n"
-    depends = f"{libc(f'{prefix}/libexec/gix_revision/bin/revtool')}, git, python3:any"
-    return Package("gix-revision-proved", "vcs", depends, "merge bases, descriptions and revisions of git, proved", text, files)
+    depends = depends_of(*(f"{prefix}/{PROGRAMS}/{it}" for it in ("git-proved", "revtool")))
+    # git runs git-proved as `git proved`, and from-git runs git.
+    return Package("gix-revision-proved", "vcs", depends, "merge bases, descriptions and revisions of git, proved", text, files, recommends="git")
 
 
 def exported() -> list[tuple[str, str]]:
@@ -90,7 +94,7 @@ def library(prefix: str) -> Package:
     ]
     files = [File(f"{FOLDER}/{SONAME}", bytes_of(path))]
     text = " The package has the shared library.\n"
-    return Package(LIBRARY, "libs", libc(path), "proved answers about git histories: library", text, files, control, "same")
+    return Package(LIBRARY, "libs", depends_of(path), "proved answers about git histories: library", text, files, control, "same")
 
 
 def development(prefix: str) -> Package:
@@ -108,10 +112,11 @@ def development(prefix: str) -> Package:
     return Package("libgix-revision-dev", "libdevel", depends, summary, text, files, [], "same")
 
 
-def libc(path: str) -> str:
-    """Returns what a package with this program or shared library depends on."""
-    major, minor = glibc_of(path)
-    return f"libc6 (>= {major}.{minor})"
+def depends_of(*paths: str) -> str:
+    """Returns what a package with these programs and shared libraries depends on."""
+    needs = needs_of(*paths)
+    libc = "libc6 (>= {}.{})".format(*needs.glibc)
+    return ", ".join([libc, *(it for it in needs.packages if it != "libc6")])
 
 
 def copyright_of(prefix: str) -> bytes:
@@ -152,7 +157,10 @@ def control_of(package: Package, files: list[File]) -> bytes:
     if package.name != "gix-revision-proved":
         lines.append("Source: gix-revision-proved")
     lines += [f"Version: {VERSION}", "Architecture: amd64", f"Maintainer: {MAINTAINER}", f"Installed-Size: {size}"]
-    lines += [f"Depends: {package.depends}", f"Section: {package.section}", "Priority: optional"]
+    lines += [f"Depends: {package.depends}"]
+    if package.recommends:
+        lines += [f"Recommends: {package.recommends}"]
+    lines += [f"Section: {package.section}", "Priority: optional"]
     if package.multi_arch:
         lines.append(f"Multi-Arch: {package.multi_arch}")
     return ("\n".join(lines) + f"\nDescription: {package.summary}\n{WHAT}{package.text}").encode()

@@ -10,9 +10,10 @@ PAGES = ("C", "LINES", "PROVED", "PROVED-PARTS", "DEFINITIONS", "DIFFERENCES")
 
 
 def documents(folder: str) -> list[File]:
-    """Returns the pages for users of the library, and the example in C."""
+    """Returns the pages for users of the library, and the examples in C."""
     pages = [File(f"{folder}/{it}.md", bytes_of(f"docs/{it}.md")) for it in PAGES]
-    return [*pages, File(f"{folder}/examples/bases.c", bytes_of("examples/c/bases.c"))]
+    examples = [File(f"{folder}/examples/{it}.c", bytes_of(f"examples/c/{it}.c")) for it in ("bases", "libgit2")]
+    return [*pages, *examples]
 
 
 def origin() -> str:

@@ -1,6 +1,6 @@
-"""Writes the wheel, the Python package with the shared library inside: wheel.py PREFIX FOLDER
+"""Writes the wheel, the Python package with the shared library and git-proved inside: wheel.py PREFIX FOLDER
 
-It is tagged for the oldest glibc that the library runs on. It has no programs, since these need a later one.
+It is tagged for the oldest glibc that both run on.
 """
 
 from __future__ import annotations
@@ -10,7 +10,7 @@ import hashlib
 import os
 import sys
 
-from archives import File, bytes_of, glibc_of, python_package, write, zip_of
+from archives import PROGRAMS, File, bytes_of, needs_of, python_package, write, zip_of
 from documents import origin
 
 VERSION = os.environ["VERSION"]
@@ -40,14 +40,17 @@ def row_of(it: File) -> str:
 def contents(prefix: str, tag: str) -> list[File]:
     info = f"{NAME}.dist-info"
     described = f"Wheel-Version: 1.0\nGenerator: gix_revision ({VERSION})\nRoot-Is-Purelib: false\nTag: {tag}\n"
-    files = [*python_package(), File(f"gix_revision_proved/{SONAME}", bytes_of(f"{prefix}/lib/{SONAME}"))]
+    files = python_package()
+    files.append(File(f"gix_revision_proved/{SONAME}", bytes_of(f"{prefix}/lib/{SONAME}")))
+    # Repository finds the program beside the library.
+    files.append(File("gix_revision_proved/git-proved", bytes_of(f"{prefix}/{PROGRAMS}/git-proved"), runs=True))
     for it in ("LICENSE-APACHE", "LICENSE-MIT", "THIRD-PARTY"):
         files.append(File(f"{info}/licenses/{it}", bytes_of(f"{prefix}/share/licenses/gix_revision/{it}")))
     return [*files, File(f"{info}/METADATA", METADATA.encode()), File(f"{info}/WHEEL", described.encode())]
 
 
 def main(prefix: str, folder: str) -> None:
-    major, minor = glibc_of(f"{prefix}/lib/{SONAME}")
+    major, minor = needs_of(f"{prefix}/lib/{SONAME}", f"{prefix}/{PROGRAMS}/git-proved").glibc
     tag = f"py3-none-manylinux_{major}_{minor}_x86_64"
     files = contents(prefix, tag)
     record = f"{NAME}.dist-info/RECORD"

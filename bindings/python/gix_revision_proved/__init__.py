@@ -26,6 +26,11 @@ Traceback (most recent call last):
 ...
 gix_revision_proved.Fault: the revision has fault 24, in 1 bytes from byte 5
 
+A Repository is one on disk. It asks the program `git-proved`, which reads it:
+
+    with Repository("/path") as repository:
+        repository.merge_bases("main", "topic")
+
 An id is passed as its 20 bytes or its 40 hex digits, and returned as hex digits. A name or a
 revision is passed as bytes, or as a str that is encoded as UTF-8. A list of ids may be any
 sequence. Integers that the library cannot take raise OverflowError, and every call can raise
@@ -49,9 +54,11 @@ stays acyclic if the commits that are added later form no cycle. Its generations
 these commits have no generation number.
 """
 
-from ._errors import AlreadyThere, Altered, Fault, Misshapen, NoCommit, NoGraph, NoKind, NoLevels, Refused, TooMany, UnknownCode
+from ._errors import AlreadyThere, Altered, Fault, Misshapen, NoCommit, NoGraph, NoKind, NoLevels, NotRead, NotThere
+from ._errors import Refused, TooMany, UnknownCode
 from ._history import Commit, Description, History, Kind, Names, Span
 from ._library import Id, Text, library_version
+from ._repository import Reference, Repository
 
 __version__ = "1.0.0"
 
@@ -70,7 +77,11 @@ __all__ = [
     "NoGraph",
     "NoKind",
     "NoLevels",
+    "NotRead",
+    "NotThere",
+    "Reference",
     "Refused",
+    "Repository",
     "Span",
     "Text",
     "TooMany",

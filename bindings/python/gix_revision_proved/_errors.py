@@ -56,6 +56,14 @@ class Fault(Refused):
         return f"the revision has fault {self.number}, in {self.length} bytes from byte {self.start}"
 
 
+class NotThere(Refused):
+    """git would end with status 128, for example because a revision names nothing."""
+
+
+class NotRead(Refused):
+    """The program git-proved does not read the question, or fails."""
+
+
 class UnknownCode(Refused):
     """The library returned a code that this package does not know, as a later library may."""
 

@@ -91,8 +91,11 @@ def _path() -> str:
     return os.environ.get("GIX_REVISION_LIBRARY") or (beside[0] if beside else _NAME)
 
 
+PATH = _path()
+
+
 def _load() -> ctypes.CDLL:
-    library = ctypes.CDLL(_path())
+    library = ctypes.CDLL(PATH)
     for name, types in _PARAMETERS.items():
         function = getattr(library, f"gix_history_{name}")
         function.restype, function.argtypes = ctypes.c_int32, types

@@ -6,6 +6,8 @@
 //! contract is proved; `docs/PROVED.md` says what it promises. Every method that returns a `Result`
 //! can fail with [`Error::OutOfMemory`]; "Errors" lists the other errors.
 //!
+//! A [`Repository`] is one on disk. It asks the program `git-proved`, which reads it.
+//!
 //! # Premises
 //!
 //! Some answers are promised only for a history with these properties. They concern only the
@@ -35,6 +37,10 @@
 //! assert!(history.is_ancestor(id(1), id(3))?);
 //! # Ok::<(), gix_revision_proved::Error>(())
 //! ```
+
+mod repository;
+
+pub use repository::{AskError, DescribeOptions, ListOptions, Repository};
 
 use gix_revision_proved_sys as sys;
 use std::collections::hash_map::RandomState;
