@@ -1,8 +1,9 @@
 //! Answers git's words `merge-base`, `describe`, `rev-parse`, `rev-list` and `for-each-ref`, as they
 //! stand on a command line, and the word `batch`, which answers lines of such words.
 //!
-//! Each answer is that of a question of `gix_history` about the repository (`gix_repository`), whose
-//! answers are proved. What git prints, and with which status, is made here and tested against git.
+//! Merge bases, ancestry, depths, and which commits a whole list has are answers of proved questions
+//! of `gix_history` about the repository (`gix_repository`). All else is made here and tested against
+//! git: options, the order of lists, first parents, filters, what is printed, and the status.
 //!
 //! - [`front`] reads the options before the word, which say where the repository is.
 //! - [`run`] opens the repository, answers, and returns the status.

@@ -1,6 +1,5 @@
 -- What a short name stands for: gitrevisions, `<refname>`.
 use Rattle.std.specs.Prelude.{ℕ, List, [], ◌∷◌, ◌++◌, Bool, Option, None, Some, is_some, codes}
-use Rattle.std.specs.Option.{option_map}
 use Rattle.gix_ref.specs.Known.{Known}
 use Rattle.gix_ref.specs.Leads.{Leads, EndsAt, Nowhere, ToGarbage, TooFar, name_leads}
 use Rattle.gix_ref.specs.Found.{ends_at}

@@ -11,6 +11,7 @@ use crate::error::{Error, Fault};
 use crate::find::{Led, Reference};
 use crate::log::Reflog;
 use crate::loose::{self, Said};
+use crate::name::is_full_name;
 use crate::store::References;
 use gix_base::hash::ObjectId;
 use gix_odb::files::Folders;
@@ -257,7 +258,8 @@ impl<F: Folders + Drop, A: Allocator + Copy> References<F, A> {
         if let Some(is_there) = self.listed(name) {
             return Ok(is_there);
         }
-        if !name.starts_with(b"refs/") {
+        // A name that git refuses may lead out of the folder, and is not read.
+        if !name.starts_with(b"refs/") && is_full_name(name) {
             // `packed-refs` has no such name.
             self.read_loose(name)?;
             if self.content(name).is_none() {
