@@ -5,17 +5,31 @@ use crate::source::Source;
 use gix_base::hash::ObjectId;
 use gix_ids::Span;
 use gix_odb::files::Opened;
-use gix_pack::part;
+use gix_pack::part::{Told, guess, near, position};
 use std::alloc::Allocator;
 
 /// How many bytes of ids are kept of a file. If there are more, all are dropped.
 const MOST_KEPT: usize = 1 << 26;
 
+/// How many ids are read around the position where one should be.
+const NEAR: usize = 256;
+
+/// What was read of the ids with the same first byte.
+#[derive(Drop)]
+struct Part<A: Allocator> {
+    /// All of them, once they were read.
+    ids: Vec<u8, A>,
+    /// How often a few of them were read alone.
+    tries: usize,
+}
+
 /// Keeps the ids of a file, those with the same first byte together.
 #[derive(Drop)]
 pub(crate) struct Parts<A: Allocator + Copy> {
-    parts: Vec<Vec<u8, A>, A>,
+    parts: Vec<Part<A>, A>,
     kept: usize,
+    /// The ids that were last read alone.
+    few: Vec<u8, A>,
 }
 
 impl<A: Allocator + Copy> Parts<A> {
@@ -23,9 +37,16 @@ impl<A: Allocator + Copy> Parts<A> {
     pub(crate) fn new(alloc: A) -> Result<Parts<A>, Error> {
         let mut parts = Vec::with_capacity(alloc, 256)?;
         for _ in 0..256u32 {
-            parts.push(Vec::new(alloc))?;
+            parts.push(Part {
+                ids: Vec::new(alloc),
+                tries: 0,
+            })?;
         }
-        Ok(Parts { parts, kept: 0 })
+        Ok(Parts {
+            parts,
+            kept: 0,
+            few: Vec::new(alloc),
+        })
     }
 
     /// Drops all ids if there are too many.
@@ -51,14 +72,51 @@ impl<A: Allocator + Copy> Parts<A> {
         let Some(part) = self.parts.get_mut(first as usize) else {
             return Ok(&[]);
         };
-        if part.len() < len {
-            source.read_into(at, len, part)?;
+        if part.ids.len() < len {
+            source.read_into(at, len, &mut part.ids)?;
             self.kept = self.kept.saturating_add(len);
         }
-        if part.len() < len {
+        if part.ids.len() < len {
             return Err(source.damaged(at, Damage::CutOff));
         }
-        Ok(part.as_slice())
+        Ok(part.ids.as_slice())
+    }
+
+    /// Returns whether a few of the ids with a first byte are to be read alone: until as many were
+    /// read as there are.
+    fn is_seldom(&mut self, first: u8, count: usize) -> bool {
+        let Some(part) = self.parts.get_mut(first as usize) else {
+            return false;
+        };
+        if !part.ids.is_empty() || part.tries >= count / NEAR {
+            return false;
+        }
+        part.tries = part.tries.saturating_add(1);
+        true
+    }
+
+    /// Returns what the ids around the position where an id should be tell of it. Its position is one
+    /// in its span.
+    fn told<O: Opened>(
+        &mut self,
+        source: &Source<O>,
+        ids: u64,
+        id: ObjectId,
+        span: Span,
+    ) -> Result<Told, Error> {
+        let count = span.high.saturating_sub(span.low);
+        let from = guess(id, count).saturating_sub(NEAR / 2);
+        let place = (span.low.saturating_add(from) as u64).saturating_mul(20);
+        let len = count.saturating_sub(from).min(NEAR);
+        source.read_into(
+            ids.saturating_add(place),
+            len.saturating_mul(20),
+            &mut self.few,
+        )?;
+        match near(&self.few, id) {
+            Told::At(k) => Ok(Told::At(from.saturating_add(k))),
+            told => Ok(told),
+        }
     }
 
     /// Returns the number of an id among those of its span.
@@ -71,6 +129,13 @@ impl<A: Allocator + Copy> Parts<A> {
         span: Span,
     ) -> Result<Option<usize>, Error> {
         self.make_room(alloc)?;
-        Ok(part::position(self.show(source, ids, id.0[0], span)?, id))
+        if self.is_seldom(id.0[0], span.high.saturating_sub(span.low)) {
+            match self.told(source, ids, id, span)? {
+                Told::At(place) => return Ok(Some(place)),
+                Told::Absent => return Ok(None),
+                Told::Elsewhere => {}
+            }
+        }
+        Ok(position(self.show(source, ids, id.0[0], span)?, id))
     }
 }

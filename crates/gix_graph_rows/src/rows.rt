@@ -106,6 +106,24 @@ impl<F: Folders + Drop, A: Allocator + Copy> GraphRows<F, A> {
         self.total
     }
 
+    /// Returns whether a file has the commit `id`. Its row is not read.
+    ///
+    /// # Errors
+    ///
+    /// - `Damaged` if a file ends too early.
+    /// - `Failed` if a file cannot be read.
+    /// - `OutOfMemory` if an allocation failed.
+    pub fn has(&mut self, alloc: A, id: ObjectId) -> Result<bool, Error> {
+        let known = self.hints.place(id, self.layers.len());
+        match find(alloc, &mut self.layers, known, id)? {
+            Some(place) => {
+                self.hints.note(id, place);
+                Ok(true)
+            }
+            None => Ok(false),
+        }
+    }
+
     /// Looks up the commit `id`. Returns `None` if no file has it.
     ///
     /// The row of the commit is read, and what it names: the ids and levels of its parents. The

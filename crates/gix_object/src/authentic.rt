@@ -7,7 +7,7 @@ ghost use Rattle.gix_object.specs.AuthenticErrors.{IsRefused};
 ghost use Rattle.gix_object.specs.ErrorTexts.{read_error_text};
 
 use crate::commit::{ParseError, parse};
-use crate::object::is_authentic;
+use crate::object::verify;
 use gix_base::hash::ObjectId;
 use gix_base::object::Kind;
 use gix_revwalk::graph::SourceCommit;
@@ -51,7 +51,7 @@ pub fn read<A: Allocator>(
     ensures read { IfOk result (λ c. IsAuthentic content.now id (entry_of c)) }
     ensures refused { IfErr result (IsRefused content.now id) }
 {
-    if !is_authentic(id, Kind::Commit, content) {
+    if verify(id, Kind::Commit, content).is_err() {
         return Err(ReadError::WrongId);
     }
     match parse(alloc, content) {

@@ -15,4 +15,4 @@ mod object;
 pub mod tag;
 
 pub use kinds::kind_name;
-pub use object::{is_authentic, object_id};
+pub use object::{object_id, verify};

@@ -1,6 +1,6 @@
 //! Computes the ids of objects (git-hash-object).
 
-ghost use Rattle.std.specs.Prelude.{◌≡◌, ◌↔◌, IsTrue};
+ghost use Rattle.std.specs.Prelude.{◌≡◌, ◌≢◌, IfErr, OnOk};
 ghost use Rattle.gix_object.specs.ObjectForm.{id_of_object};
 
 use crate::kinds::name;
@@ -26,9 +26,16 @@ pub fn object_id(kind: Kind, content: &[u8]) -> ObjectId
     ObjectId(hasher.finalize())
 }
 
-/// Returns whether `id` is the id of the object.
-pub fn is_authentic(id: ObjectId, kind: Kind, content: &[u8]) -> bool
-    ensures { IsTrue result ↔ (id ≡ id_of_object kind content.now) }
+/// Compares the id of an object with the id that it was read by.
+///
+/// # Errors
+///
+/// The object's own id, if it is another one.
+pub fn verify(id: ObjectId, kind: Kind, content: &[u8]) -> Result<(), ObjectId>
+    ensures same { OnOk result (id_of_object kind content.now ≡ id) }
+    ensures other { IfErr result
+        (λ own. (own ≡ id_of_object kind content.now) × (own ≢ id)) }
 {
-    id == object_id(kind, content)
+    let own = object_id(kind, content);
+    if own == id { Ok(()) } else { Err(own) }
 }

@@ -8,17 +8,24 @@ use crate::source::Source;
 use gix_base::hash::ObjectId;
 use gix_ids::Span;
 use gix_pack::index::OpenFault;
-use gix_pack::part::{HEAD_LEN, Head, Offset, position, read_large_offset, read_offset, search};
+use gix_pack::part::{
+    HEAD_LEN, Head, Offset, Told, guess, near, position, read_large_offset, read_offset, search,
+};
 use std::alloc::Allocator;
 
 /// How many bytes of ids and offsets are kept of an index. If there are more, all are dropped.
 const MOST_KEPT: usize = 1 << 26;
+
+/// How many ids are read around the position where one should be.
+const NEAR: usize = 256;
 
 /// Keeps the ids that begin with one byte, and the words of their offsets.
 #[derive(Drop)]
 struct Bucket<A: Allocator> {
     ids: Vec<u8, A>,
     offsets: Vec<u8, A>,
+    /// How often a few of the ids were read alone.
+    tries: usize,
 }
 
 /// An open index. A bucket is read when it is first needed.
@@ -29,6 +36,8 @@ pub(crate) struct Index<O: Opened, A: Allocator + Copy> {
     head: Head<Vec<u8, A>>,
     buckets: Vec<Bucket<A>, A>,
     kept: usize,
+    /// The ids that were last read alone.
+    few: Vec<u8, A>,
 }
 
 /// Makes room for the buckets of all first bytes.
@@ -38,6 +47,7 @@ fn empty_buckets<A: Allocator + Copy>(alloc: A) -> Result<Vec<Bucket<A>, A>, Fau
         buckets.push(Bucket {
             ids: Vec::new(alloc),
             offsets: Vec::new(alloc),
+            tries: 0,
         })?;
     }
     Ok(buckets)
@@ -64,6 +74,7 @@ impl<O: Opened, A: Allocator + Copy> Index<O, A> {
                 head,
                 buckets: empty_buckets(alloc)?,
                 kept: 0,
+                few: Vec::new(alloc),
             }),
             Err(error) => Err(refused(&source, error.fault)),
         }
@@ -77,6 +88,13 @@ impl<O: Opened, A: Allocator + Copy> Index<O, A> {
     /// Returns where in the pack the object with this id begins; `None` if it is not there.
     pub(crate) fn find(&mut self, alloc: A, id: ObjectId) -> Result<Option<u64>, Fault> {
         let first = id.0[0];
+        if self.is_seldom(first) {
+            match self.told(id)? {
+                Told::At(k) => return self.offset_at(k),
+                Told::Absent => return Ok(None),
+                Told::Elsewhere => {}
+            }
+        }
         self.load(alloc, first)?;
         let Some(bucket) = self.buckets.get(first as usize) else {
             return Ok(None);
@@ -88,6 +106,47 @@ impl<O: Opened, A: Allocator + Copy> Index<O, A> {
             Some([a, b, c, d, ..]) => Ok(Some(self.offset([*a, *b, *c, *d])?)),
             _ => Ok(None),
         }
+    }
+
+    /// Returns whether a few of the ids that begin with a byte are to be read alone: until as many
+    /// were read as there are.
+    fn is_seldom(&mut self, first: u8) -> bool {
+        let Span { low, high } = self.head.span(first);
+        let Some(bucket) = self.buckets.get_mut(first as usize) else {
+            return false;
+        };
+        if !bucket.offsets.is_empty() || bucket.tries >= high.saturating_sub(low) / NEAR {
+            return false;
+        }
+        bucket.tries = bucket.tries.saturating_add(1);
+        true
+    }
+
+    /// Returns what the ids around the position where an id should be tell of it.
+    fn told(&mut self, id: ObjectId) -> Result<Told, Fault> {
+        let Span { low, high } = self.head.span(id.0[0]);
+        let count = high.saturating_sub(low);
+        let from = low.saturating_add(guess(id, count).saturating_sub(NEAR / 2));
+        let len = high.saturating_sub(from).min(NEAR);
+        let at = self.head.id_place(u32::try_from(from).unwrap_or(u32::MAX));
+        self.source
+            .read_into(at, len.saturating_mul(20), &mut self.few)?;
+        match near(&self.few, id) {
+            Told::At(k) => Ok(Told::At(from.saturating_add(k))),
+            told => Ok(told),
+        }
+    }
+
+    /// Returns where the object at a position of the index begins in the pack.
+    fn offset_at(&self, position: usize) -> Result<Option<u64>, Fault> {
+        let at = self
+            .head
+            .offset_place(u32::try_from(position).unwrap_or(u32::MAX));
+        let mut bytes = [0u8; 4];
+        if self.source.fill(at, bytes.as_mut_slice())? < 4 {
+            return Err(self.source.damaged(at, Damage::CutOff));
+        }
+        Ok(Some(self.offset(bytes)?))
     }
 
     /// Adds the ids that begin with the prefix to those that were found.

@@ -7,7 +7,7 @@ ghost use Rattle.gix_odb.specs.Refusals.{IsFailure};
 use crate::failure::Failure;
 use gix_base::hash::ObjectId;
 use gix_base::object::Kind;
-use gix_object::object_id;
+use gix_object::verify;
 use std::alloc::{Allocator, Global};
 
 /// An object: its kind and its content.
@@ -26,10 +26,8 @@ pub(crate) fn accepted<A: Allocator>(
     ensures found { IfOk result (λ o. IsObject id o.kind o.content.items) }
     ensures failed { IfErr result (IsFailure id) }
 {
-    let other = object_id(kind, &content);
-    if other == id {
-        Ok(Object { kind, content })
-    } else {
-        Err(Failure::Altered(other))
+    match verify(id, kind, &content) {
+        Ok(()) => Ok(Object { kind, content }),
+        Err(own) => Err(Failure::Altered(own)),
     }
 }

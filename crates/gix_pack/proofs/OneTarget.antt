@@ -1,5 +1,5 @@
 -- A delta makes one target, and none if it is refused.
-use Rattle.std.proofs.Common.{◌≡◌, ◌≢◌, ℕ, ◌<◌, ◌≤◌, List, length, refl, sym, ap, ◌∙◌, subst, arith}
+use Rattle.std.proofs.Common.{◌≡◌, ◌≢◌, ℕ, ◌≤◌, List, length, refl, sym, ◌∙◌, subst, arith}
 use Rattle.gix_pack.specs.PackNumbers.{HasNumber, behind_number}
 use Rattle.gix_pack.specs.DeltaForm.{Makes, IsFor, IsDelta, IsWrong, IsRefused, instructions, target_size}
 use Rattle.gix_pack.specs.DeltaSteps.{IsUnmade, IsStopped}

@@ -9,7 +9,7 @@ ghost use Rattle.gix_ids.specs.TableBytes.{word, long};
 ghost use Rattle.gix_ids.specs.TableForm.{fan, fan_below};
 ghost use Rattle.gix_ids.specs.TableLookup.{IsAt, IsAbsent, IsGap};
 ghost use Rattle.gix_pack.specs.IndexForm.{count_of, table_of, offsets_from, large_from, offset_said, IsFaulty};
-ghost use Rattle.gix_pack.specs.PartForm.{IsHead, part_of, AreRising};
+ghost use Rattle.gix_pack.specs.PartForm.{IsHead, part_of, AreRising, IsTold};
 
 use crate::index::{OpenError, OpenFault, check_header};
 use gix_base::hash::ObjectId;
@@ -175,6 +175,37 @@ pub fn position(ids: &[u8], id: ObjectId) -> Option<usize>
         Ok(place) => Some(place),
         Err(_) => None,
     }
+}
+
+/// What some ids in a row tell of an id.
+#[derive(Clone, Copy, Debug, PartialEq, Eq)]
+pub enum Told {
+    /// It is at this position among them.
+    At(usize),
+    /// It would be between two of them, so no longer list has it.
+    Absent,
+    /// It may be before or after them.
+    Elsewhere,
+}
+
+/// Returns what `ids` in a row, which have 20 bytes each, tell of `id`.
+pub fn near(ids: &[u8], id: ObjectId) -> Told
+    ensures { IsTold ids.now id result }
+{
+    match search(ids, id) {
+        Ok(place) => Told::At(place),
+        Err(place) if 0 < place && place < ids.len() / 20 => Told::Absent,
+        Err(_) => Told::Elsewhere,
+    }
+}
+
+/// Returns a guess of how many of `count` ids with the same first byte are less than `id`.
+///
+/// It takes the next four bytes of `id` as a share of `count`, since ids are hashes. Nothing is
+/// promised of a guess.
+pub fn guess(id: ObjectId, count: usize) -> usize {
+    let next = u32::from_be_bytes([id.0[1], id.0[2], id.0[3], id.0[4]]);
+    ((count as u64).saturating_mul(u64::from(next)) >> 32) as usize
 }
 
 /// Returns the id at a position of `ids`, which have 20 bytes each; `None` past the last one.

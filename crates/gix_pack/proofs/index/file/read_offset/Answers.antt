@@ -1,4 +1,4 @@
-use Rattle.std.proofs.Common.{◌≡◌, ℕ, ◌+◌, ◌-◌, ◌*◌, ◌^◌, ◌≤◌, ◌<◌, sym, ap, ◌∙◌, arith}
+use Rattle.std.proofs.Common.{◌≡◌, ◌+◌, ◌-◌, ◌*◌, ◌^◌, ◌<◌, sym, ap, ◌∙◌, arith}
 use Rattle.gix_ids.specs.TableBytes.{word}
 use Rattle.gix_pack.specs.IndexForm.{large_count, short_offset}
 use Rattle.gix_pack.proofs.Objects.{large-said}
