@@ -1,6 +1,7 @@
 //! Reads commits ahead of a question, the newest first.
 
-ghost use Rattle.std.specs.Prelude.{◌≡◌};
+ghost use Rattle.std.specs.Prelude.{◌≡◌, None};
+ghost use Rattle.gix_revwalk.specs.History.{entry_at};
 ghost use Rattle.gix_history.specs.Grown.{Grows};
 
 use crate::error::ReadError;
@@ -10,24 +11,34 @@ use crate::question::Question;
 use crate::reader::Reader;
 use gix_base::hash::ObjectId;
 use gix_revwalk::Seed;
+use gix_revwalk::graph::SourceCommit;
 use std::alloc::Allocator;
 use std::collections::{BinaryHeap, HashSet};
 
 /// Is a commit that is known, and whose parents are to be read: the newest is the greatest.
 #[derive(Clone, Copy, PartialEq, Eq, PartialOrd, Ord)]
-pub(crate) struct Waiting {
+struct Waiting {
     time: i64,
     id: ObjectId,
     /// Whether it was known before the call.
     was_known: bool,
+    /// Where its parents begin among those that the call has noted.
+    start: usize,
+    /// Where they end.
+    end: usize,
 }
 
 /// Notes what one call has met of the history, and where to read on.
 #[derive(Drop)]
 pub(crate) struct Ahead<A: Allocator> {
     waiting: BinaryHeap<Waiting, A>,
-    /// What waits or waited, and what failed.
+    /// The parents of what waits or waited.
+    parents: Vec<ObjectId, A>,
+    /// What waits or waited, and what failed. If nothing was known before the call, what failed
+    /// alone: all that waits or waited is known then, and nothing else is.
     met: HashSet<ObjectId, Seed, A>,
+    /// Whether all is to be read.
+    needs_all: bool,
     /// How many commits were known before the call.
     before: usize,
     /// How many commits that were known before the call count as read.
@@ -36,9 +47,11 @@ pub(crate) struct Ahead<A: Allocator> {
 
 impl<A: Allocator + Copy> Ahead<A> {
     /// Makes the notes of a call that has met nothing.
-    pub(crate) fn new(alloc: A, known: &Known<A>) -> Self {
+    pub(crate) fn new(alloc: A, known: &Known<A>, needs_all: bool) -> Self {
         Ahead {
             waiting: BinaryHeap::new(alloc),
+            parents: Vec::new(alloc),
+            needs_all,
             met: HashSet::with_hasher(alloc, known.seed()),
             before: known.len(),
             passed: 0,
@@ -53,6 +66,35 @@ impl<A: Allocator + Copy> Ahead<A> {
             .saturating_add(self.passed)
     }
 
+    /// Returns how many commits are to be read next, if so many are enough for what was read.
+    fn step(&self, enough: usize) -> usize {
+        if self.needs_all { usize::MAX } else { enough }
+    }
+
+    /// Lets a commit wait, and returns its time.
+    fn wait(
+        &mut self,
+        id: ObjectId,
+        commit: &SourceCommit<A>,
+        was_known: bool,
+    ) -> Result<i64, ReadError> {
+        let start = self.parents.len();
+        self.parents.extend_from_slice(&commit.parents)?;
+        self.waiting.push(Waiting {
+            time: commit.time,
+            id,
+            was_known,
+            start,
+            end: self.parents.len(),
+        })?;
+        Ok(commit.time)
+    }
+
+    /// Returns whether a commit failed, in a call before which nothing was known.
+    fn has_failed(&self, id: ObjectId) -> bool {
+        !self.met.is_empty() && self.met.contains(&id)
+    }
+
     /// Removes and returns the newest commit. If it was known before the call, it counts as read
     /// unless it is newer than `wanted`.
     fn pop(&mut self, wanted: i64) -> Option<Waiting> {
@@ -64,88 +106,97 @@ impl<A: Allocator + Copy> Ahead<A> {
     }
 }
 
-/// Returns an error that ends a call, and passes over any other.
-fn only_memory(answer: Result<(), ReadError>) -> Result<(), ReadError> {
-    match answer {
-        Err(ReadError::OutOfMemory) => Err(ReadError::OutOfMemory),
-        _ => Ok(()),
-    }
-}
-
 impl<R: Reader + Drop, A: Allocator + Copy> History<R, A> {
     /// Reads a commit, unless it is known.
-    pub(crate) fn read_one(&mut self, alloc: A, id: ObjectId) -> Result<Waiting, ReadError>
+    pub(crate) fn read_one(&mut self, alloc: A, id: ObjectId) -> Result<(), ReadError>
         ensures { Grows self.old.known self.new.known }
     {
-        if let Some(time) = self.known.time(alloc, id)? {
-            return Ok(Waiting {
-                time,
-                id,
-                was_known: true,
-            });
+        if self.known.has(alloc, id)? {
+            return Ok(());
         }
         let Some(read) = self.reader.read(alloc, id)? else {
             return Err(ReadError::Missing(id));
         };
-        let time = read.commit.time;
         self.known.add(alloc, id, read)?;
-        Ok(Waiting {
-            time,
-            id,
-            was_known: false,
-        })
+        Ok(())
     }
 
-    /// Reads a commit, unless it is known, and lets it wait.
+    /// Reads a commit that is not known, lets it wait, and returns its time.
+    fn read_new(&mut self, alloc: A, id: ObjectId, ahead: &mut Ahead<A>) -> Result<i64, ReadError>
+        requires { entry_at self.old.known.commits id ≡ None }
+        ensures { Grows self.old.known self.new.known }
+    {
+        let Some(read) = self.reader.read(alloc, id)? else {
+            return Err(ReadError::Missing(id));
+        };
+        let time = ahead.wait(id, &read.commit, false)?;
+        self.known.put(id, read)?;
+        Ok(time)
+    }
+
+    /// Reads a commit, unless it is known, lets it wait, and returns its time.
     fn read_waiting(
         &mut self,
         alloc: A,
         id: ObjectId,
         ahead: &mut Ahead<A>,
-    ) -> Result<(), ReadError>
+    ) -> Result<i64, ReadError>
         ensures { Grows self.old.known self.new.known }
     {
-        let read = self.read_one(alloc, id)?;
-        ahead.waiting.push(read)?;
-        Ok(())
+        match self.known.commits().get(alloc, id)? {
+            Some(commit) => ahead.wait(id, &commit, true),
+            None => self.read_new(alloc, id, ahead),
+        }
+    }
+
+    /// Reads a commit that was not met, and lets it wait, in a call before which nothing was known.
+    /// One that fails is left unread.
+    fn meet_new(&mut self, alloc: A, id: ObjectId, ahead: &mut Ahead<A>) -> Result<(), ReadError>
+        ensures { Grows self.old.known self.new.known }
+    {
+        if self.known.has(alloc, id)? {
+            return Ok(());
+        }
+        if ahead.has_failed(id) {
+            return Ok(());
+        }
+        match self.read_new(alloc, id, ahead) {
+            Ok(_) => Ok(()),
+            Err(ReadError::OutOfMemory) => Err(ReadError::OutOfMemory),
+            Err(_) => {
+                ahead.met.insert(id)?;
+                Ok(())
+            }
+        }
     }
 
     /// Reads a commit that was not met, and lets it wait. One that fails is left unread.
     fn meet(&mut self, alloc: A, id: ObjectId, ahead: &mut Ahead<A>) -> Result<(), ReadError>
         ensures { Grows self.old.known self.new.known }
     {
+        if ahead.before == 0 {
+            return self.meet_new(alloc, id, ahead);
+        }
         if !ahead.met.insert(id)? {
             return Ok(());
         }
-        only_memory(self.read_waiting(alloc, id, ahead))
+        match self.read_waiting(alloc, id, ahead) {
+            Err(ReadError::OutOfMemory) => Err(ReadError::OutOfMemory),
+            _ => Ok(()),
+        }
     }
 
-    /// Reads those of `ids` that were not met, and lets them wait.
-    fn meet_all(
-        &mut self,
-        alloc: A,
-        ids: &[ObjectId],
-        ahead: &mut Ahead<A>,
-    ) -> Result<(), ReadError>
+    /// Reads the parents of a commit that waited, and lets them wait.
+    fn meet_parents(&mut self, alloc: A, of: Waiting, ahead: &mut Ahead<A>) -> Result<(), ReadError>
         ensures { Grows self.old.known self.new.known }
     {
-        for id in ids {
-            self.meet(alloc, *id, ahead)?;
+        for place in of.start..of.end {
+            let Some(id) = ahead.parents.get(place).copied() else {
+                return Ok(());
+            };
+            self.meet(alloc, id, ahead)?;
         }
         Ok(())
-    }
-
-    /// Reads the parents of a known commit, and lets them wait.
-    fn meet_parents(
-        &mut self,
-        alloc: A,
-        id: ObjectId,
-        ahead: &mut Ahead<A>,
-    ) -> Result<(), ReadError>
-        ensures { Grows self.old.known self.new.known }
-    {
-        let parents = self.known.parents(alloc, id)?;
-        self.meet_all(alloc, &parents, ahead)
     }
 
     /// Reads the parents of the commits that wait, the newest first, until `count` more were read or
@@ -170,7 +221,7 @@ impl<R: Reader + Drop, A: Allocator + Copy> History<R, A> {
             let Some(next) = ahead.pop(wanted) else {
                 return Ok(());
             };
-            self.meet_parents(alloc, next.id, ahead)?;
+            self.meet_parents(alloc, next, ahead)?;
         }
         Ok(())
     }
@@ -208,7 +259,7 @@ impl<R: Reader + Drop, A: Allocator + Copy> History<R, A> {
         if ahead.effort(&self.known) == 0 {
             return Ok(());
         }
-        self.read_ahead(alloc, LEAST, i64::MAX, ahead)
+        self.read_ahead(alloc, ahead.step(LEAST), i64::MAX, ahead)
     }
 
     /// Reads the commit `id`, and then ancestors of all that the call has met, the newest first: as
@@ -221,10 +272,11 @@ impl<R: Reader + Drop, A: Allocator + Copy> History<R, A> {
     ) -> Result<(), ReadError>
         ensures { Grows self.old.known self.new.known }
     {
-        let count = ahead.effort(&self.known).max(LEAST);
-        let wanted = self.read_one(alloc, id)?;
-        ahead.met.insert(id)?;
-        ahead.waiting.push(wanted)?;
-        self.read_ahead(alloc, count, wanted.time, ahead)
+        let count = ahead.step(ahead.effort(&self.known).max(LEAST));
+        let wanted = self.read_waiting(alloc, id, ahead)?;
+        if ahead.before != 0 {
+            ahead.met.insert(id)?;
+        }
+        self.read_ahead(alloc, count, wanted, ahead)
     }
 }

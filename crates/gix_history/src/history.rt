@@ -48,7 +48,8 @@ impl<R: Reader + Drop, A: Allocator + Copy> History<R, A> {
     /// If the question names a commit that was not read, all that it names are read, and 64 of their
     /// ancestors. Then it is tried over the commits that were read. If it wants another one, that
     /// commit is read, and ancestors of all that the call has met: as many as the call has read so
-    /// far, and at least 64. Then the question is tried again.
+    /// far, and at least 64. Then the question is tried again. For a question that needs all
+    /// ([`Question::needs_all`]) all of these ancestors are read.
     ///
     /// Ancestors are read by their commit dates, the newest first. Those that earlier calls have read
     /// are passed over. They count as read, except those newer than the wanted commit.
@@ -65,7 +66,7 @@ impl<R: Reader + Drop, A: Allocator + Copy> History<R, A> {
         ensures grown { Grows self.old.known self.new.known }
         ensures means { IfOk result (Q.means question.now (self.new.known.commits ++ K.beyond)) }
     {
-        let mut ahead = Ahead::new(alloc, &self.known);
+        let mut ahead = Ahead::new(alloc, &self.known, question.needs_all());
         self.read_named(alloc, question, &mut ahead)?;
         self.ask_over::<K, Q>(alloc, question, &mut ahead)
     }

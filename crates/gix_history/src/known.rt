@@ -106,19 +106,6 @@ impl<A: Allocator + Copy> Known<A> {
         Ok(self.commits.get(alloc, id)?.is_some())
     }
 
-    /// Returns the time of the commit `id`; `None` if it is not known.
-    pub(crate) fn time(&self, alloc: A, id: ObjectId) -> Result<Option<i64>, AllocError> {
-        Ok(self.commits.get(alloc, id)?.map(|commit| commit.time))
-    }
-
-    /// Returns the parents of the commit `id`; none if it is not known.
-    pub(crate) fn parents(&self, alloc: A, id: ObjectId) -> Result<Vec<ObjectId, A>, AllocError> {
-        match self.commits.get(alloc, id)? {
-            Some(commit) => Ok(commit.parents),
-            None => Ok(Vec::new(alloc)),
-        }
-    }
-
     /// Returns where the commit `id` is from; `None` if this was not noted.
     pub fn origin(&self, id: ObjectId) -> Option<Origin>
         ensures value { result ≡ origin_at self.now id }
@@ -141,6 +128,20 @@ impl<A: Allocator + Copy> Known<A> {
         if self.has(alloc, id)? {
             return Ok(());
         }
+        self.put(id, read)
+    }
+
+    /// Adds a commit that was read, under an id that is not known.
+    ///
+    /// # Errors
+    ///
+    /// [`AllocError`]: an allocation failed. No commit is then added.
+    pub(crate) fn put(&mut self, id: ObjectId, read: Read<A>) -> Result<(), AllocError>
+        requires from { IsFrom read.origin id (entry_of read.commit) }
+        requires new { entry_at self.old.commits id ≡ None }
+        ensures grown { Grows self.old self.new }
+        ensures there { OnOk result (Has self.new.commits id) }
+    {
         let Read { commit, origin } = read;
         self.origins.insert(id, origin)?;
         match self.commits.insert(id, commit) {

@@ -38,4 +38,10 @@ pub trait Question {
     ///
     /// They are read first, all at once.
     fn named(&self, number: usize) -> Option<ObjectId>;
+
+    /// Returns whether an answer needs all that the named commits reach. All of it is then read at
+    /// once.
+    fn needs_all(&self) -> bool {
+        false
+    }
 }

@@ -1,6 +1,7 @@
 //! Where commits are read from.
 
-ghost use Rattle.std.specs.Prelude.{IfOk};
+ghost use Rattle.std.specs.Prelude.{IfOk, Some};
+ghost use Rattle.gix_base.specs.declared.hash.ObjectId.{ObjectId};
 ghost use Rattle.gix_history.specs.Origins.{IsReadOf};
 
 use crate::error::ReadError;
@@ -26,6 +27,18 @@ pub struct Read<A: Allocator> {
     pub commit: SourceCommit<A>,
     /// Where it is from.
     pub origin: Origin,
+}
+
+impl<A: Allocator> Read<A> {
+    /// Returns a commit that the repository changes: no content whose hash is its id says so.
+    pub fn changed(commit: SourceCommit<A>) -> Self
+        ensures { (id : ObjectId) → IsReadOf id (Some result) }
+    {
+        Read {
+            commit,
+            origin: Origin::Changed,
+        }
+    }
 }
 
 /// Reads commits by their ids.

@@ -50,6 +50,10 @@ impl<A: Allocator + Copy> Question for ReachableNewestFirst<'_, A> {
     fn named(&self, number: usize) -> Option<ObjectId> {
         of_both(self.include, self.exclude, number)
     }
+
+    fn needs_all(&self) -> bool {
+        self.exclude.is_empty()
+    }
 }
 
 /// Asks how many commits `include` reaches and `exclude` does not (git-rev-list, "--count").
@@ -85,6 +89,10 @@ impl<A: Allocator + Copy> Question for CountReachable<'_, A> {
 
     fn named(&self, number: usize) -> Option<ObjectId> {
         of_both(self.include, self.exclude, number)
+    }
+
+    fn needs_all(&self) -> bool {
+        self.exclude.is_empty()
     }
 }
 

@@ -75,6 +75,10 @@ impl<'a, A: Allocator + Copy, I: Ids> Question for RevParse<'a, A, I> {
     fn named(&self, number: usize) -> Option<ObjectId> {
         None
     }
+
+    fn needs_all(&self) -> bool {
+        false
+    }
 }
 
 /// Asks what a revision means, with abbreviated object names before refs.
@@ -118,5 +122,9 @@ impl<'a, A: Allocator + Copy, I: Ids> Question for Resolve<'a, A, I> {
 
     fn named(&self, number: usize) -> Option<ObjectId> {
         None
+    }
+
+    fn needs_all(&self) -> bool {
+        false
     }
 }

@@ -1,25 +1,6 @@
-use Rattle.std.proofs.Common.{◌≡◌, ◌∙◌, None, is_some, false, sym, ap}
-use Rattle.gix_revwalk.specs.Held.{entry_of}
-use Rattle.gix_revwalk.specs.History.{entry_at}
-use Rattle.gix_history.specs.Grown.{Sourced}
-use Rattle.gix_history.proofs.Grown.{lacks-of, note-grows, note-sourced, put-grows}
+use Rattle.std.proofs.Common.{◌∙◌, sym}
+use Rattle.gix_history.proofs.Grown.{lacks-of}
 use Rattle.gix_history.proofs.known.Known.add.Goals as goal
 
-pub returns-clause-grown : goal.returns-clause-grown
-returns-clause-grown g c =
-    rw (← c.self.view_is) (put-grows c.self.inside.commits c.self.inside.origins.entries c.insert.new.self.entries c.args.id c.args.read.origin c.in-Ok.ensures.new c.in_ok-insert.ensures.updates.0
-    c.insert-2.new.self (entry_of c.args.read.commit) c.in-Ok.ensures.put)
-
-pub returns-in-Err-clause-grown : goal.returns-in-Err-clause-grown
-returns-in-Err-clause-grown g c =
-    let none : is_some (entry_at c.args.self.now.commits c.args.id) ≡ false = sym c.in_ok-has.ensures ∙ c.if-branch.false in
-    let lacks : entry_at c.self.inside.commits c.args.id ≡ None = lacks-of _ (ap (λ (k : Sourced). is_some (entry_at k.commits c.args.id)) c.self.view_is ∙ none) in
-    rw (← c.self.view_is) (rw c.in-Err.ensures.refused
-    (note-grows c.self.inside.commits c.self.inside.origins.entries c.insert.new.self.entries c.args.id c.args.read.origin lacks c.in_ok-insert.ensures.updates.0))
-
-pub invariant_of-self-in-Err : goal.invariant_of-self-in-Err
-invariant_of-self-in-Err g c =
-    let none : is_some (entry_at c.args.self.now.commits c.args.id) ≡ false = sym c.in_ok-has.ensures ∙ c.if-branch.false in
-    let lacks : entry_at c.self.inside.commits c.args.id ≡ None = lacks-of _ (ap (λ (k : Sourced). is_some (entry_at k.commits c.args.id)) c.self.view_is ∙ none) in
-    rw c.in-Err.ensures.refused
-    (note-sourced c.self.inside.commits c.self.inside.origins.entries c.insert.new.self.entries c.args.id c.args.read.origin lacks c.in_ok-insert.ensures.updates.0 c.self.invariant)
+pub put-requires-clause-new : goal.put-requires-clause-new
+put-requires-clause-new g c = lacks-of _ (sym c.in_ok-has.ensures ∙ c.if-branch.false)
