@@ -5,3 +5,6 @@ pub mod Knows
 pub mod Changes
 pub mod Leads
 pub mod Rules
+pub mod Told
+pub mod Rising
+pub mod Places

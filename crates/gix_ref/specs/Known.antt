@@ -53,4 +53,4 @@ reads_of (r ∷ rs) = read_of r ∷ reads_of rs
 
 -- What the program knows of references.
 abbrev pub known : {F O A : Type 0} → References F O A → Known
-known s = record { loose = reads_of s.readings.items; packed = option_map (λ v. v.items) s.packed }
+known s = record { loose = reads_of s.readings.items; packed = option_map (λ p. p.bytes.items) s.packed }

@@ -2,6 +2,7 @@ pub mod Lines
 pub mod Names
 pub mod Loose
 pub mod Packed
+pub mod Snapshot
 pub mod Said
 pub mod Known
 pub mod Errors

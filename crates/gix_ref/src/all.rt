@@ -201,11 +201,13 @@ fn is_own_folder(folder: &[u8]) -> bool {
     OWN_FOLDERS.iter().any(|own| own.as_bytes() == folder)
 }
 
-/// Fails if a name of `packed-refs` has a part `..`: git then reads no reference.
+/// Fails if a part of a name of `packed-refs` is empty, `.` or `..`: git then lists no reference.
+///
+/// git still looks up a single name in such a file, so reading the file does not fail.
 fn ensure_below(name: &[u8]) -> Result<(), Fault> {
-    if name
-        .split(|b| *b == b'/')
-        .any(|part| part == b"..".as_slice())
+    if name.split(|b| *b == b'/').any(|part| part.is_empty()
+        || part == b".".as_slice()
+        || part == b"..".as_slice())
     {
         return Err(Fault::Damaged(ErrorName::new(b"packed-refs")));
     }

@@ -11,7 +11,7 @@ ghost use Rattle.gix_ref.specs.Found.{found_says, led_to, answer_says, answer_le
 use crate::error::{Error, ErrorName, Fault};
 use crate::loose::{self, Said};
 use crate::name::is_full_name;
-use crate::packed::{self, Packed};
+use crate::packed::Packed;
 use crate::store::References;
 use gix_base::hash::ObjectId;
 use gix_odb::files::Folders;
@@ -79,7 +79,10 @@ impl<F: Folders + Drop, A: Allocator + Copy> References<F, A> {
     fn packed_found(&self, name: &[u8]) -> Option<Found<A>>
         ensures { packed_says (unwrap_or (known self.now).packed []) name.now ≡ option_map found_says result }
     {
-        match packed::find(self.packed_bytes(), name) {
+        let Some(snapshot) = &self.packed else {
+            return None;
+        };
+        match snapshot.find(name) {
             Some(Packed { id, peeled }) => Some(Found::Id(id, peeled)),
             None => None,
         }

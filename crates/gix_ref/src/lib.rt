@@ -25,6 +25,7 @@ mod name;
 mod packed;
 mod place;
 mod short;
+mod snapshot;
 mod store;
 
 pub use all::{Listed, Listing, Skipped, Why};

@@ -1,6 +1,6 @@
 //! Cuts the lines of a file, and reads the ids in them.
 
-ghost use Rattle.std.specs.Prelude.{◌≡◌, ◌<◌, ◌≤◌, ◌==◌, ◌∷◌, length, IfSome};
+ghost use Rattle.std.specs.Prelude.{◌≡◌, ◌+◌, ◌<◌, ◌≤◌, ◌==◌, ◌∷◌, drop, length, IfSome};
 ghost use Rattle.std.specs.Option.{option_map};
 ghost use Rattle.std.specs.List.{position_or_len};
 ghost use Rattle.gix_ref.specs.Lines.{parts, parts_after, tail, id_of};
@@ -34,9 +34,20 @@ fn tail(bytes: &[u8]) -> Option<&[u8]>
 pub(crate) fn cut(bytes: &[u8], at: u8) -> (&[u8], Option<&[u8]>)
     ensures parts { parts at bytes.now ≡ result.0.now ∷ parts_after at (option_map (λ r. r.now) result.1) }
     ensures shorter { IfSome result.1 (λ rest. length rest.now < length bytes.now) }
+    ensures behind { IfSome result.1 (λ rest. rest.now ≡ drop (length result.0.now + 1) bytes.now) }
 {
     let (front, rest) = bytes.split_at(len_before(bytes, at));
     (front, tail(rest))
+}
+
+/// Returns the bytes from a place on. There are none if the bytes end before it.
+pub(crate) fn bytes_from(bytes: &[u8], place: usize) -> &[u8]
+    ensures { result.now ≡ drop place bytes.now }
+{
+    match bytes.split_at_checked(place) {
+        Some((_, rest)) => rest,
+        None => &[],
+    }
 }
 
 /// Returns the id whose 40 hex digits a text is.

@@ -36,7 +36,8 @@ pub struct Reflog<A: Allocator = Global> {
 /// What a reflog says of a date.
 #[derive(Clone, Copy, Debug, PartialEq, Eq)]
 pub enum AtDate {
-    /// The date is after the newest entry: the reference has the id that it has now.
+    /// The date is after the newest entry, or before an entry that has no old id. git answers with
+    /// the id that the reference has now.
     Now,
     /// The reference had this id.
     Id(ObjectId),
@@ -226,25 +227,52 @@ impl<A: Allocator> Reflog<A> {
         }
     }
 
+    /// Returns the place of the entry whose old id [`Reflog::nth`] returns; `None` if `n` is 0, or if
+    /// there is no such entry.
+    pub fn place_of_nth(&self, n: usize) -> Option<usize> {
+        let len = self.entries.len().saturating_sub(n.checked_sub(1)?);
+        let older = self.entries.get(..len)?;
+        older.iter().rposition(|entry| !is_null(&entry.old))
+    }
+
+    /// Returns the place of the newest entry that is not after a date; `None` if there is none.
+    pub fn place_at(&self, seconds: u64) -> Option<usize> {
+        self.entries
+            .iter()
+            .rposition(|entry| entry.seconds <= seconds)
+    }
+
+    /// Returns the old id of the entry after the one at a place, unless it has zeros only.
+    fn old_after(&self, place: usize) -> Option<ObjectId> {
+        old_of(self.entries.get(place.saturating_add(1)))
+    }
+
+    /// Tests whether changes are missing after the entry at a place.
+    ///
+    /// They are if the next entry has another old id than this one's new id. As in git, an old id
+    /// that has zeros only is not compared.
+    pub fn has_gap_after(&self, place: usize) -> bool {
+        match (self.entries.get(place), self.old_after(place)) {
+            (Some(entry), Some(old)) => old != entry.new,
+            _ => false,
+        }
+    }
+
     /// Returns the id that the reference had at a date (gitrevisions, `<refname>@{<date>}`).
     ///
     /// It is `None` if there is no entry.
     pub fn at(&self, seconds: u64) -> Option<AtDate> {
-        let mut newer = None;
-        for entry in self.entries.iter().rev() {
-            if entry.seconds <= seconds {
-                let is_now = newer.is_none() && entry.seconds != seconds;
-                return Some(if is_now {
-                    AtDate::Now
-                } else {
-                    AtDate::Id(entry.new)
-                });
-            }
-            newer = old_of(Some(entry));
+        let Some(place) = self.place_at(seconds) else {
+            let oldest = self.entries.first()?;
+            let id = old_of(Some(oldest)).unwrap_or(oldest.new);
+            return Some(AtDate::Before(id, oldest.seconds));
+        };
+        let entry = self.entries.get(place)?;
+        if self.old_after(place).is_none() && entry.seconds != seconds {
+            Some(AtDate::Now)
+        } else {
+            Some(AtDate::Id(entry.new))
         }
-        let oldest = self.entries.first()?;
-        let id = old_of(Some(oldest)).unwrap_or(oldest.new);
-        Some(AtDate::Before(id, oldest.seconds))
     }
 
     /// Returns the `n`th branch or commit that was checked out before (gitrevisions, `@{-<n>}`).

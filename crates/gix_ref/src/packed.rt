@@ -1,9 +1,10 @@
 //! Reads the lines of `packed-refs` (git-pack-refs; gitrepository-layout, "packed-refs").
 
-ghost use Rattle.std.specs.Prelude.{◌≡◌, drop, take};
+ghost use Rattle.std.specs.Prelude.{◌≡◌, ℕ, List, drop, None, IfSome};
 ghost use Rattle.std.specs.Option.{option_map};
 ghost use Rattle.gix_ref.specs.Lines.{lines, parts_after};
-ghost use Rattle.gix_ref.specs.Packed.{is_named, told_by, peeled, peeled_first, packed_says};
+ghost use Rattle.gix_ref.specs.Packed.{is_named, told_by, peeled, peeled_first};
+ghost use Rattle.gix_ref.specs.Snapshot.{first_says, IsTold, IsRecord};
 ghost use Rattle.gix_ref.specs.Said.{packed_said};
 
 use crate::lines::{cut, id_of};
@@ -27,30 +28,53 @@ pub(crate) fn record(line: &[u8]) -> Option<(ObjectId, &[u8])> {
     }
 }
 
+/// Tests whether the traits in a header say that the names are sorted.
+fn are_sorted(traits: &[u8]) -> bool {
+    traits
+        .split(|b| *b == b' ')
+        .any(|one| one == b"sorted".as_slice())
+}
+
+/// Returns the traits in a header.
+fn traits_of(line: &[u8]) -> Option<&[u8]>
+    ensures { IfSome result (λ traits. (name : List ℕ) → told_by line.now name ≡ None) }
+{
+    line.strip_prefix(b"# pack-refs with:")
+}
+
 /// Returns what follows a header, and whether it says that the names are sorted; `None` if git
 /// refuses it.
-fn without_header(bytes: &[u8]) -> Option<(&[u8], bool)> {
+pub(crate) fn without_header(bytes: &[u8]) -> Option<(&[u8], bool)>
+    ensures { IfSome result (λ r. IsTold bytes.now r.0.now) }
+{
     if !bytes.starts_with(b"#") {
         return Some((bytes, false));
     }
     let (line, after) = cut(bytes, b'\n');
-    let traits = line.strip_prefix(b"# pack-refs with:")?;
-    let is_sorted = traits
-        .split(|b| *b == b' ')
-        .any(|one| one == b"sorted".as_slice());
-    Some((after?, is_sorted))
+    let traits = traits_of(line)?;
+    match after {
+        Some(after) => Some((after, are_sorted(traits))),
+        None => None,
+    }
 }
 
 /// Returns the name of a line `ID NAME`. It is below `refs/`.
-fn name_of(line: &[u8]) -> Option<&[u8]> {
+fn name_of(line: &[u8]) -> Option<&[u8]>
+    ensures { IfSome result (λ name. name.now ≡ drop 41 line.now) }
+{
     let (digits, rest) = line.split_at_checked(40)?;
     let name = rest.strip_prefix(b" ")?;
-    let is_record = name.starts_with(b"refs/") && digits.iter().all(|b| b.is_ascii_hexdigit());
-    is_record.then_some(name)
+    if name.starts_with(b"refs/") && digits.iter().all(|b| b.is_ascii_hexdigit()) {
+        Some(name)
+    } else {
+        None
+    }
 }
 
 /// Returns what follows a line `^ID`, if such a line comes first; `None` if it is no such line.
-fn after_peeled(rest: &[u8]) -> Option<&[u8]> {
+fn after_peeled(rest: &[u8]) -> Option<&[u8]>
+    ensures { IfSome result (λ after. IsTold rest.now after.now) }
+{
     if !rest.starts_with(b"^") {
         return Some(rest);
     }
@@ -60,33 +84,12 @@ fn after_peeled(rest: &[u8]) -> Option<&[u8]> {
 }
 
 /// Returns the name in the first line `ID NAME`, and what follows it and its line `^ID`.
-fn first_record(rest: &[u8]) -> Option<(&[u8], &[u8])> {
+pub(crate) fn first_record(rest: &[u8]) -> Option<(&[u8], &[u8])>
+    ensures { IfSome result (λ r. IsRecord rest.now r.0.now r.1.now) }
+{
     let (line, after) = cut(rest, b'\n');
     let name = name_of(line)?;
     Some((name, after_peeled(after?)?))
-}
-
-/// Tests whether a file has only lines that git writes: maybe a header, then lines `ID NAME`, each
-/// maybe with a line `^ID` behind it. If the header says that the names are sorted, they are.
-pub(crate) fn is_whole(bytes: &[u8]) -> bool {
-    let Some((mut rest, is_sorted)) = without_header(bytes) else {
-        return false;
-    };
-    let mut last = b"".as_slice();
-    for _ in 0..bytes.len() {
-        if rest.is_empty() {
-            return true;
-        }
-        let Some((name, after)) = first_record(rest) else {
-            return false;
-        };
-        if is_sorted && name <= last {
-            return false;
-        }
-        last = name;
-        rest = after;
-    }
-    rest.is_empty()
 }
 
 /// Tests whether a text is a blank and this name.
@@ -133,21 +136,16 @@ pub(crate) fn peeled_after(rest: Option<&[u8]>) -> Option<ObjectId>
     }
 }
 
-/// Returns what the first line says that tells of this name.
-pub(crate) fn find(bytes: &[u8], name: &[u8]) -> Option<Packed>
-    ensures { option_map packed_said result ≡ packed_says bytes.now name.now }
+/// Returns what the first line says, if it tells of this name.
+pub(crate) fn first_told(bytes: &[u8], name: &[u8]) -> Option<Packed>
+    ensures { option_map packed_said result ≡ first_says (lines bytes.now) name.now None }
 {
-    let mut rest = bytes;
-    for _ in 0..bytes.len() {
-        let (line, after) = cut(rest, b'\n');
-        if let Some(id) = told_by(line, name) {
+    let (line, after) = cut(bytes, b'\n');
+    match told_by(line, name) {
+        Some(id) => {
             let peeled = peeled_after(after);
-            return Some(Packed { id, peeled });
+            Some(Packed { id, peeled })
         }
-        match after {
-            Some(after) => rest = after,
-            None => return None,
-        }
+        None => None,
     }
-    None
 }

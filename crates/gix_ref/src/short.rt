@@ -244,8 +244,8 @@ impl<F: Folders + Drop, A: Allocator + Copy> References<F, A> {
         }
     }
 
-    /// Tells by the list of all references whether there is one with a full name; `None` if there is
-    /// no list, or it does not tell.
+    /// Tests by the list of all references whether there is one with a full name; `None` if there
+    /// is no list, or it does not tell.
     fn listed(&self, name: &[u8]) -> Option<bool> {
         match &self.names {
             Some(all) if name.starts_with(b"refs/") => all.tells(name),
@@ -303,8 +303,8 @@ impl<F: Folders + Drop, A: Allocator + Copy> References<F, A> {
         Ok((!text.is_empty() && !is_read).then_some(text))
     }
 
-    /// Lists all references. From now on, until [`References::refresh`], names are shortened by this
-    /// list, so that files are not read for each name.
+    /// Lists all references. From now on, until [`References::refresh`], names are shortened by
+    /// this list, so that files are not read for each name.
     ///
     /// # Errors
     ///

@@ -7,8 +7,8 @@ ghost use Rattle.gix_ref.specs.Known.{Grows, known, read_of, first_read, content
 use crate::all::{Listing, Skipped};
 use crate::error::{Error, ErrorName, Fault};
 use crate::files::read;
-use crate::packed::is_whole;
 use crate::place::located;
+use crate::snapshot::Snapshot;
 use gix_odb::files::Folders;
 use std::alloc::{Allocator, Global};
 
@@ -26,8 +26,8 @@ pub struct References<F: Folders + Drop, A: Allocator + Copy = Global> {
     pub(crate) files: F,
     pub(crate) git_dir: Vec<u8, A>,
     pub(crate) common_dir: Vec<u8, A>,
-    // The bytes of `packed-refs`, if it was read. They are empty if there is no such file.
-    pub(crate) packed: Option<Vec<u8, A>>,
+    // What `packed-refs` has, if it was read: no bytes if there is no such file.
+    pub(crate) packed: Option<Snapshot<A>>,
     // What the current answer has read. The first reading of a name counts.
     pub(crate) readings: Vec<Reading<A>, A>,
     // The references that the current answer has passed over.
@@ -75,8 +75,8 @@ impl<F: Folders + Drop, A: Allocator + Copy> References<F, A> {
         }
     }
 
-    /// Forgets what was read of `packed-refs` and the list of all references, so that the next answer
-    /// reads them anew.
+    /// Forgets what was read of `packed-refs` and the list of all references, so that the next
+    /// answer reads them anew.
     pub fn refresh(&mut self) {
         self.packed = None;
         self.names = None;
@@ -157,18 +157,17 @@ impl<F: Folders + Drop, A: Allocator + Copy> References<F, A> {
         Ok(())
     }
 
-    /// Returns the bytes of the file `packed-refs`. They are empty if there is no such file.
-    fn packed_file(&self) -> Result<Vec<u8, A>, Fault> {
+    /// Reads the file `packed-refs`. It has no bytes if there is no such file.
+    fn packed_file(&self) -> Result<Snapshot<A>, Fault> {
         let mut path = self.common_dir.to_vec(self.alloc)?;
         path.extend_from_slice(b"/packed-refs")?;
         let bytes = match read(self.alloc, &self.files, &path, b"packed-refs")? {
             Some(bytes) => bytes,
             None => Vec::new(self.alloc),
         };
-        if is_whole(&bytes) {
-            Ok(bytes)
-        } else {
-            Err(Fault::Damaged(ErrorName::new(b"packed-refs")))
+        match Snapshot::new(self.alloc, bytes)? {
+            Some(snapshot) => Ok(snapshot),
+            None => Err(Fault::Damaged(ErrorName::new(b"packed-refs"))),
         }
     }
 
@@ -180,8 +179,8 @@ impl<F: Folders + Drop, A: Allocator + Copy> References<F, A> {
         if self.packed.is_some() {
             return Ok(());
         }
-        let bytes = self.packed_file()?;
-        self.packed = Some(bytes);
+        let snapshot = self.packed_file()?;
+        self.packed = Some(snapshot);
         Ok(())
     }
 
@@ -190,7 +189,7 @@ impl<F: Folders + Drop, A: Allocator + Copy> References<F, A> {
         ensures { result.now ≡ unwrap_or (known self.now).packed [] }
     {
         match &self.packed {
-            Some(bytes) => bytes.as_slice(),
+            Some(snapshot) => snapshot.bytes.as_slice(),
             None => &[],
         }
     }

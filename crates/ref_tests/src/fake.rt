@@ -8,14 +8,14 @@ use std::alloc::Allocator;
 use std::cell::Cell;
 use std::io::ErrorKind;
 
-/// Has the files. The call with the number `fails` fails.
+/// The files of the tables. The call with the number `fails` fails.
 #[derive(Clone, Copy, Drop)]
 pub(crate) struct Fake<'a> {
     pub(crate) calls: &'a Cell<u64>,
     pub(crate) fails: u64,
 }
 
-/// Is an open file of these.
+/// An open file of these.
 #[derive(Clone, Copy, Drop)]
 pub(crate) struct Held<'a> {
     bytes: &'static [u8],
@@ -54,7 +54,7 @@ fn bytes_at(path: &[u8]) -> Option<&'static [u8]> {
     None
 }
 
-/// Tells whether there is a folder with a path.
+/// Tests whether there is a folder with a path.
 fn is_folder(path: &[u8]) -> bool {
     for file in &FILES {
         if below(file.path, path).is_some() {

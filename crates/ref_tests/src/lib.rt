@@ -8,6 +8,8 @@ mod fake;
 #[cfg(test)]
 mod packed;
 #[cfg(test)]
+mod packed_rows;
+#[cfg(test)]
 mod rows;
 #[cfg(test)]
 mod tables;

@@ -1,6 +1,6 @@
 //! Has a repository, questions about its references, and the answers of git 2.39.5.
 
-/// Is a file with its path.
+/// A file with its path.
 pub(crate) struct Written {
     pub(crate) path: &'static [u8],
     pub(crate) bytes: &'static [u8],
@@ -126,7 +126,7 @@ pub(crate) static FILES: [Written; 29] = [
     },
 ];
 
-/// Is a question.
+/// A question.
 #[derive(Clone, Copy)]
 pub(crate) enum Ask {
     Short,
@@ -144,7 +144,7 @@ pub(crate) enum Ask {
     Heads,
 }
 
-/// Is a question about a name with its answer as a text.
+/// A question about a name, with its answer as a text.
 pub(crate) struct Row {
     pub(crate) ask: Ask,
     /// Whether it is asked in the linked worktree.
@@ -929,7 +929,7 @@ pub(crate) static ROWS: [Row; 110] = [
     },
 ];
 
-/// Has files `packed-refs` that git refuses, or in which it finds no name or not the first.
+/// Files `packed-refs` that git refuses, or in which it finds no name or not the first.
 pub(crate) static DAMAGED: [&[u8]; 15] = [
     // A comment behind the header.
     b"# pack-refs with: peeled fully-peeled sorted \n# x\n56a6051ca2b02b04ef92d5150c9ef600403cb1de refs/heads/a\n",
@@ -963,7 +963,7 @@ pub(crate) static DAMAGED: [&[u8]; 15] = [
     b"# pack-refs with: peeled fully-peeled sorted \n56a6051ca2b02b04ef92d5150c9ef600403cb1de refs/heads/a\n56a6051ca2b02b04ef92d5150c9ef600403cb1de refs/heads/a\n",
 ];
 
-/// Has files `packed-refs` in which git finds `refs/heads/a`.
+/// Files `packed-refs` in which git finds `refs/heads/a`.
 pub(crate) static WHOLE: [&[u8]; 3] = [
     // No header.
     b"56a6051ca2b02b04ef92d5150c9ef600403cb1de refs/heads/b\n56a6051ca2b02b04ef92d5150c9ef600403cb1de refs/heads/a\n",
