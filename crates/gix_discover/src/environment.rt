@@ -27,6 +27,7 @@ pub enum Variable {
     ReplaceRefBase,
     ShallowFile,
     GraftFile,
+    IndexFile,
     Namespace,
     SudoUid,
 }
@@ -38,7 +39,7 @@ struct Named {
 }
 
 /// The names of all variables.
-static NAMES: [Named; 21] = [
+static NAMES: [Named; 22] = [
     Named {
         variable: Variable::GitDir,
         name: "GIT_DIR",
@@ -114,6 +115,10 @@ static NAMES: [Named; 21] = [
     Named {
         variable: Variable::GraftFile,
         name: "GIT_GRAFT_FILE",
+    },
+    Named {
+        variable: Variable::IndexFile,
+        name: "GIT_INDEX_FILE",
     },
     Named {
         variable: Variable::Namespace,

@@ -1,0 +1,4 @@
+pub mod IndexBytes
+pub mod IndexEntry
+pub mod IndexForm
+pub mod Compare

@@ -1,0 +1,36 @@
+//! Reads git's index, and compares its entries with the files of a working tree (gitformat-index).
+//!
+//! - [`Index::parse`] reads the bytes of an index file: its entries, and the tree of its root if the
+//!   index has noted it.
+//! - [`Change::of`] compares an entry with what the system says of its file, as git does before it reads
+//!   the file.
+//! - [`WorkTree::look`] compares an entry with its file, and reads the file if need be.
+//! - [`tree::first`] reads an entry of a tree, with which entries of the index are compared.
+//! - [`Statuses`] is the trait by which files are reached.
+//!
+//! A split index and a sparse index are not supported. Filters are not run and line ends are not
+//! converted: a file to which git might do either is left undecided.
+#![tactic(auto)]
+
+mod attributes;
+mod bytes;
+mod compare;
+mod entry;
+mod error;
+mod files;
+mod index;
+mod look;
+mod numbers;
+mod path;
+mod root;
+mod status;
+pub mod tree;
+
+pub use attributes::{Conversion, add_conversion, read_file};
+pub use compare::{Change, Checks};
+pub use entry::{Entry, Stat};
+pub use error::Error;
+pub use files::Statuses;
+pub use index::Index;
+pub use look::{Look, WorkTree};
+pub use status::Status;

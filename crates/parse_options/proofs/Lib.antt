@@ -1,0 +1,4 @@
+pub mod Next
+pub mod Places
+pub mod Texts
+pub mod Words

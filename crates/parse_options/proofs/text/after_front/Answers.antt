@@ -1,0 +1,5 @@
+use Rattle.parse_options.proofs.Texts.{stripped}
+use Rattle.parse_options.proofs.text.after_front.Goals as goal
+
+pub returns : goal.returns
+returns c = stripped c.args.text.now c.args.front.now c.strip_prefix.result c.strip_prefix.ensures.cases

@@ -1,0 +1,5 @@
+pub mod Found
+pub mod Line
+pub mod Names
+pub mod Reader
+pub mod Word
