@@ -10,13 +10,13 @@ use crate::stop::{FATAL, NOT_READ, Stop, not_read};
 use std::alloc::{AllocError, Global};
 use std::io::Write;
 
-/// Is what an answer prints, and its status.
+/// What an answer prints, and its status.
 #[derive(Drop)]
 pub(crate) struct Finished {
     pub(crate) status: u8,
-    /// Has what goes to standard output.
+    /// What goes to standard output.
     pub(crate) output: Vec<u8>,
-    /// Has what goes to standard error.
+    /// What goes to standard error.
     pub(crate) errors: Vec<u8>,
 }
 

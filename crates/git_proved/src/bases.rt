@@ -11,11 +11,11 @@ use gix_revision::hash::ObjectId;
 use std::alloc::{AllocError, Global};
 use std::marker::Brand;
 
-/// Is a merge base, with what its place in git's order depends on.
+/// A merge base, with what its place in git's order depends on.
 #[derive(Clone, Copy)]
 struct Dated {
     time: i64,
-    /// Has its place among the commits that git's walk meets.
+    /// Its place among the commits that git's walk meets.
     place: usize,
     id: ObjectId,
 }

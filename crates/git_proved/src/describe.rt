@@ -6,12 +6,16 @@
 
 mod ask;
 mod asked;
+mod dirty;
+mod head;
 mod patterns;
 mod table;
+mod tree;
 mod walk;
 
 use crate::describe::ask::{is_any_reached, is_own, nearest, question};
 use crate::describe::asked::{Abbrev, Asked};
+use crate::describe::dirty::is_dirty;
 use crate::describe::patterns::refuse_odd;
 use crate::describe::table::{Name, Priority, Table, say_unread};
 use crate::describe::walk::{Candidate, Search, walk_from};
@@ -31,6 +35,8 @@ struct Describer<'w> {
     table: Table,
     /// Has the question with all names that are taken, once it was needed.
     question: Option<Describe<'static>>,
+    /// Is printed behind each description.
+    mark: &'w [u8],
 }
 
 /// Is what is known of a name once it was printed.
@@ -54,8 +60,8 @@ fn refuse(session: &Session<'_>, asked: &Asked<'_>) -> Result<(), Stop> {
     if asked.contains || asked.debug {
         return Err(not_read(alloc, &[b"describe --contains and --debug are not read"]));
     }
-    if asked.texts.is_empty() && (asked.dirty || asked.broken) {
-        return Err(not_read(alloc, &[b"describe --dirty and --broken are not read"]));
+    if asked.texts.is_empty() && asked.broken {
+        return Err(not_read(alloc, &[b"describe --broken is not read"]));
     }
     refuse_odd(alloc, &asked.matched)?;
     refuse_odd(alloc, &asked.excluded)
@@ -67,8 +73,8 @@ fn refuse_names(session: &Session<'_>, asked: &Asked<'_>, table: &Table) -> Resu
     if table.is_empty() && !asked.always {
         return Err(fatal(alloc, &[b"No names found, cannot describe anything."]));
     }
-    if asked.dirty || asked.broken {
-        let option = if asked.dirty {
+    if !asked.texts.is_empty() && (asked.dirty.is_some() || asked.broken) {
+        let option = if asked.dirty.is_some() {
             b"--dirty".as_slice()
         } else {
             b"--broken".as_slice()
@@ -209,7 +215,7 @@ impl<'w> Describer<'w> {
             let id = printed.target.unwrap_or(object);
             print_suffix(session, self.asked.abbrev, 0, id)?;
         }
-        session.print(b"\n")?;
+        session.print_line(self.mark)?;
         Ok(())
     }
 
@@ -227,7 +233,7 @@ impl<'w> Describer<'w> {
         if printed.is_misnamed || self.asked.abbrev != Abbrev::Nothing {
             print_suffix(session, self.asked.abbrev, near.depth, commit)?;
         }
-        session.print(b"\n")?;
+        session.print_line(self.mark)?;
         Ok(())
     }
 
@@ -300,7 +306,7 @@ impl<'w> Describer<'w> {
         }
         let digits = digits(session, self.asked.abbrev, commit)?;
         session.print_digits(commit, digits)?;
-        session.print(b"\n")?;
+        session.print_line(self.mark)?;
         Ok(())
     }
 
@@ -329,12 +335,25 @@ impl<'w> Describer<'w> {
     }
 }
 
+/// Returns what is printed behind a description: the mark of a working tree that is dirty.
+fn mark<'w>(session: &mut Session<'_>, asked: &Asked<'w>) -> Result<&'w [u8], Stop> {
+    let Some(mark) = asked.dirty else {
+        return Ok(b"");
+    };
+    if is_dirty(session)? {
+        Ok(mark)
+    } else {
+        Ok(b"")
+    }
+}
+
 /// Answers `describe`, and returns the status.
 pub(crate) fn describe(session: &mut Session<'_>, words: &[&[u8]]) -> Result<u8, Stop> {
     let asked = Asked::read(session.alloc, words)?;
     refuse(session, &asked)?;
     let table = Table::collect(session, &asked)?;
     refuse_names(session, &asked, &table)?;
+    let mark = mark(session, &asked)?;
     let mut texts = Vec::new(session.alloc);
     texts.extend_from_slice(&asked.texts)?;
     if texts.is_empty() {
@@ -344,6 +363,7 @@ pub(crate) fn describe(session: &mut Session<'_>, words: &[&[u8]]) -> Result<u8,
         asked,
         table,
         question: None,
+        mark,
     };
     for text in texts.iter() {
         describer.describe(session, text)?;

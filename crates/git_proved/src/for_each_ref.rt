@@ -10,14 +10,15 @@ use crate::for_each_ref::format::{Part, expect_names, look_up, print_reference, 
 use crate::for_each_ref::list::{Candidate, list_wanted};
 use crate::integer::integer;
 use crate::names::commit_of;
-use crate::options::{Choice, Given, Item, Reader, Value};
+use crate::options::next_item;
 use crate::ranges::revision;
 use crate::session::Session;
 use crate::stop::{Stop, fatal, not_read};
 use gix_revision::hash::ObjectId;
+use parse_options::{Choice, Given, Item, Reader, Value};
 use std::alloc::Global;
 
-/// Is the format if none is given.
+/// The format if none is given.
 const FORMAT: &[u8] = b"%(objectname) %(objecttype)\t%(refname)";
 
 /// Names an option.
@@ -136,7 +137,7 @@ static CHOICES: [Choice<Key>; 14] = [
     },
 ];
 
-/// Has what the words ask for.
+/// What the words ask for.
 #[derive(Drop)]
 struct Asked<'w> {
     filter: Filter,
@@ -244,9 +245,9 @@ impl<'w> Asked<'w> {
             is_reversed: false,
             patterns: Vec::new(alloc),
         };
-        let mut reader = Reader::new(alloc, &CHOICES, words);
+        let mut reader = Reader::new(&CHOICES, words);
         for _ in 0..usize::MAX {
-            match reader.read()? {
+            match next_item(alloc, &mut reader)? {
                 Some(Item::Option(given)) => asked.note(session, given)?,
                 Some(Item::Argument(text)) => asked.note_pattern(alloc, text)?,
                 None => break,

@@ -1,7 +1,8 @@
 //! Reads the form of a revision from its end, as git does (gitrevisions).
 //!
-//! git takes steps off the end of a text, such as `~2` and `^{tree}`, before it looks up the name that
-//! is left. So a text that is wrong near its end names nothing, and git says nothing of its name.
+//! git takes steps off the end of a text, such as `~2` and `^{tree}`, before it looks up the name
+//! that is left. So a text that is wrong near its end names nothing, and git does not look up its
+//! name.
 
 use gix_revision::spec::parse::delegate::SiblingBranch;
 
@@ -44,7 +45,7 @@ fn has(text: &[u8], mark: &[u8]) -> bool {
     last(text, mark).is_some()
 }
 
-/// Returns the text before the last of two bytes, and what is between them and the brace at the end.
+/// Returns the text before the last of two bytes, and the text from there to the brace at the end.
 fn braced<'t>(text: &'t [u8], mark: &[u8]) -> Option<(&'t [u8], &'t [u8])> {
     let open = text.strip_suffix(b"}".as_slice())?;
     let at = last(open, mark)?;
@@ -201,6 +202,17 @@ pub(crate) fn asks_sibling(text: &[u8]) -> bool {
     };
     match braced(name, b"@{") {
         Some((_, inner)) => SiblingBranch::parse(inner).is_some(),
+        None => false,
+    }
+}
+
+/// Returns whether a text asks for an entry of a reflog. Then it names no reference.
+pub(crate) fn asks_entry(text: &[u8]) -> bool {
+    let Some(name) = name_of(text) else {
+        return false;
+    };
+    match braced(name, b"@{") {
+        Some((_, inner)) => !inner.starts_with(b"-") && SiblingBranch::parse(inner).is_none(),
         None => false,
     }
 }

@@ -5,15 +5,15 @@ use std::alloc::{AllocError, Global};
 /// Says what the options before the word ask for.
 #[derive(Drop)]
 pub struct Front<'w> {
-    /// Has the folders of `-C`, one after another.
+    /// The folders of `-C`, one after another.
     pub folders: Vec<&'w [u8]>,
-    /// Has the folder of `--git-dir`.
+    /// The folder of `--git-dir`.
     pub git_dir: Option<&'w [u8]>,
-    /// Has the folder of `--work-tree`.
+    /// The folder of `--work-tree`.
     pub work_tree: Option<&'w [u8]>,
     /// Tells whether only objects are believed, each the content of its id.
     pub is_authentic: bool,
-    /// Has what follows.
+    /// What follows.
     pub asked: Asked<'w>,
 }
 
@@ -32,7 +32,7 @@ pub enum Asked<'w> {
     Unread(&'w [u8]),
 }
 
-/// Is an option that wants a value.
+/// An option that wants a value.
 #[derive(Clone, Copy)]
 enum Wants {
     Folder,

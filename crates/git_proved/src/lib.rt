@@ -1,15 +1,16 @@
-//! Answers git's words `merge-base`, `describe`, `rev-parse`, `rev-list` and `for-each-ref`, as they
-//! stand on a command line, and the word `batch`, which answers lines of such words.
+//! Answers git's words `merge-base`, `describe`, `rev-parse`, `rev-list` and `for-each-ref`, as
+//! they stand on a command line, and the word `batch`, which answers lines of such words.
 //!
-//! Merge bases, ancestry, depths, and which commits a whole list has are answers of proved questions
-//! of `gix_history` about the repository (`gix_repository`). All else is made here and tested against
-//! git: options, the order of lists, first parents, filters, what is printed, and the status.
+//! Merge bases, ancestry, depths, and which commits a whole list has are answers of proved
+//! questions of `gix_history` about the repository (`gix_repository`). The forms of options are
+//! those of `parse_options`. All else is made here and tested against git: what options mean, the
+//! order of lists, first parents, filters, what is printed, and the status.
 //!
 //! - [`front`] reads the options before the word, which say where the repository is.
 //! - [`run`] opens the repository, answers, and returns the status.
 //!
-//! The status is git's: 0, 1 or 128. What is not read here, and what fails here, ends with the status
-//! 129 and prints nothing on standard output, so that a script can ask git then.
+//! The status is git's: 0, 1 or 128. What is not read here, and what fails here, ends with the
+//! status 129 and prints nothing on standard output, so that a script can ask git then.
 #![tactic(auto)]
 
 mod answer;

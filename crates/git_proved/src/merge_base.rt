@@ -1,14 +1,16 @@
 //! Answers `merge-base` (git-merge-base).
 
 use crate::bases::{bases_in_order, merge_bases, octopus_in_order};
+use crate::forms::asks_entry;
 use crate::names::{commit, commit_of, commits, commits_last_first};
-use crate::options::{Choice, Given, Item, Reader, Value};
+use crate::options::next_item;
 use crate::ranges::revision;
 use crate::session::Session;
 use crate::stop::{Stop, fatal, not_read};
 use gix_history::questions::{Independent, IsAncestor};
 use gix_repository::Refusal;
 use gix_revision::hash::ObjectId;
+use parse_options::{Choice, Given, Item, Reader, Value};
 use std::alloc::Global;
 use std::marker::Brand;
 
@@ -68,7 +70,7 @@ static CHOICES: [Choice<Key>; 5] = [
     },
 ];
 
-/// Has what the words ask for.
+/// What the words ask for.
 #[derive(Drop)]
 struct Asked<'w> {
     mode: Mode,
@@ -94,9 +96,9 @@ impl<'w> Asked<'w> {
             all: false,
             texts: Vec::new(alloc),
         };
-        let mut reader = Reader::new(alloc, &CHOICES, words);
+        let mut reader = Reader::new(&CHOICES, words);
         for _ in 0..usize::MAX {
-            match reader.read()? {
+            match next_item(alloc, &mut reader)? {
                 Some(Item::Option(given)) => asked.note(alloc, given)?,
                 Some(Item::Argument(text)) => asked.texts.push(text)?,
                 None => break,
@@ -184,7 +186,12 @@ fn is_ancestor(session: &mut Session<'_>, asked: &Asked<'_>) -> Result<u8, Stop>
 
 /// Returns the ids that a reference has stood for, by its reflog.
 fn logged_ids(session: &mut Session<'_>, reference: &[u8]) -> Result<Vec<ObjectId>, Stop> {
-    match session.repository.logged_ids(reference) {
+    let found = if asks_entry(reference) {
+        Err(Refusal::Unknown)
+    } else {
+        session.repository.logged_ids(reference)
+    };
+    match found {
         Ok(ids) => Ok(ids),
         Err(Refusal::Unknown) => {
             Err(fatal(session.alloc, &[b"No such ref: '", reference, b"'"]))

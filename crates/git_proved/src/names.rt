@@ -6,8 +6,8 @@ use crate::stop::{Stop, fatal};
 use gix_repository::Refusal;
 use gix_revision::hash::ObjectId;
 
-/// Returns the commit to which an object leads through tags; `None` if it is another kind of object,
-/// or if there is no such object.
+/// Returns the commit to which an object leads through tags; `None` if it is another kind of
+/// object, or if there is no such object.
 ///
 /// # Errors
 ///

@@ -121,10 +121,27 @@ pub(crate) fn both(alloc: Global, word: &[u8]) -> Stop {
     )
 }
 
-/// Is the advice of both messages.
+/// The advice of both messages.
 const SEPARATE: &[u8] = b"
 Use '--' to separate paths from revisions, like this:
 'git <command> [<revision>...] -- [<file>...]'";
+
+/// Returns git's end for a word that is not the name of a file, behind one that may be.
+fn no_path(alloc: Global, word: &[u8]) -> Stop {
+    let front = before_path(word);
+    if !front.is_empty() && front.len() < word.len() {
+        // It may be a path in a tree. git has printed the words up to it.
+        return not_read(alloc, &[b"the path '", word, b"' is not read"]);
+    }
+    fatal(
+        alloc,
+        &[
+            word,
+            b": no such path in the working tree.
+Use 'git <command> -- <path>...' to specify paths that do not exist locally.",
+        ],
+    )
+}
 
 /// Ends if a word that is no revision cannot be the name of a file either.
 ///
@@ -148,13 +165,6 @@ pub(crate) fn verify_file(session: &Session<'_>, word: &[u8], turn: Turn) -> Res
     }
     Err(match turn {
         Turn::First => neither(alloc, word),
-        Turn::Later => fatal(
-            alloc,
-            &[
-                word,
-                b": no such path in the working tree.
-Use 'git <command> -- <path>...' to specify paths that do not exist locally.",
-            ],
-        ),
+        Turn::Later => no_path(alloc, word),
     })
 }

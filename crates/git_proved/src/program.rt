@@ -11,7 +11,7 @@ use gix_repository::{OpenError, Opening, Repository};
 use std::alloc::Global;
 use std::io::{self, BufRead, ErrorKind, Write};
 
-/// Is the status of a program that a closed pipe has ended: that of git, which the signal ends.
+/// The status of a program that a closed pipe has ended: that of git, which the signal ends.
 const CLOSED_PIPE: u8 = 141;
 
 /// The words that are answered.
@@ -24,7 +24,7 @@ static WORDS: [&str; 6] = [
     "batch",
 ];
 
-/// Has the standard streams.
+/// The standard streams.
 #[derive(Drop)]
 pub struct Streams<'t, I: BufRead, O: Write, E: Write> {
     pub input: &'t mut I,
@@ -128,11 +128,11 @@ fn unopened(alloc: Global, error: &OpenError) -> Stop {
 fn open<'s>(
     alloc: Global,
     files: System<'s>,
-    environment: &Environment,
+    environment: Environment,
     opening: Opening,
 ) -> Result<Session<'s>, Stop> {
-    match Repository::open(alloc, files, environment, opening) {
-        Ok(repository) => Ok(Session::new(alloc, files, repository)),
+    match Repository::open(alloc, files, &environment, opening) {
+        Ok(repository) => Ok(Session::new(alloc, files, environment, repository)),
         Err(error) => Err(unopened(alloc, &error)),
     }
 }
@@ -195,7 +195,8 @@ fn unread(alloc: Global, word: &[u8], words: &[&[u8]]) -> Option<Stop> {
 ///
 /// The repository is that of the current folder, as `environment` says where it is. `word` is the
 /// first word behind the options that [`Front`](crate::front::Front) reads, and `words` are the
-/// others. All memory comes from `alloc`. The output is written at once, when the whole answer is known.
+/// others. All memory comes from `alloc`. The output is written at once, when the whole answer is
+/// known.
 ///
 /// # Status
 ///
@@ -205,7 +206,7 @@ fn unread(alloc: Global, word: &[u8], words: &[&[u8]]) -> Option<Stop> {
 pub fn run<'s, I: BufRead, O: Write, E: Write>(
     alloc: Global,
     files: System<'s>,
-    environment: &Environment,
+    environment: Environment,
     opening: Opening,
     word: &[u8],
     words: &[&[u8]],

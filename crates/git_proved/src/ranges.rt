@@ -10,7 +10,7 @@ use gix_revision::hash::ObjectId;
 use gix_revision::object::Kind;
 use std::alloc::Global;
 
-/// Is the name of an end that is left out.
+/// The name of an end that is left out.
 const HEAD: &[u8] = b"HEAD";
 
 /// Says by which name a word means an object.
@@ -24,17 +24,17 @@ pub(crate) enum Name<'w> {
     Base,
 }
 
-/// Is an object that a word means.
+/// An object that a word means.
 #[derive(Clone, Copy)]
 pub(crate) struct Tip<'w> {
-    /// Has the object as the name means it: a tag is not peeled.
+    /// The object as the name means it: a tag is not peeled.
     pub(crate) id: ObjectId,
     pub(crate) name: Name<'w>,
     /// Tells whether what the object reaches is left out.
     pub(crate) is_excluded: bool,
 }
 
-/// Has the texts of a range, `A..B` or `A...B`.
+/// The texts of a range, `A..B` or `A...B`.
 #[derive(Clone, Copy)]
 pub(crate) struct Range<'w> {
     pub(crate) start: &'w [u8],
@@ -42,7 +42,7 @@ pub(crate) struct Range<'w> {
     pub(crate) is_symmetric: bool,
 }
 
-/// Has the ends of a range whose texts both name objects.
+/// The ends of a range whose texts both name objects.
 #[derive(Clone, Copy)]
 pub(crate) struct Ends<'w> {
     pub(crate) range: Range<'w>,
@@ -61,7 +61,7 @@ pub(crate) enum Marked {
     Without(usize),
 }
 
-/// Has the text of a commit, and the mark behind it.
+/// The text of a commit, and the mark behind it.
 #[derive(Clone, Copy)]
 pub(crate) struct Shorthand<'w> {
     pub(crate) text: &'w [u8],
@@ -329,8 +329,8 @@ fn add_bases<'w>(
     Ok(true)
 }
 
-/// Returns the tips of a range: its end, its start, and for `A...B` the merge bases; `None` if a word
-/// is no range.
+/// Returns the tips of a range: its end, its start, and for `A...B` the merge bases; `None` if a
+/// word is no range.
 ///
 /// # Errors
 ///
@@ -385,8 +385,8 @@ fn marked_tips<'w>(
     Ok(Some(tips))
 }
 
-/// Returns the tips of `A^@`, `A^!` and `A^-n`; `None` if a word has another form, if its text names
-/// no commit, or if the commit lacks the parent.
+/// Returns the tips of `A^@`, `A^!` and `A^-n`; `None` if a word has another form, if its text
+/// names no commit, or if the commit lacks the parent.
 ///
 /// # Errors
 ///

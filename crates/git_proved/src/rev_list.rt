@@ -1,9 +1,9 @@
 //! Answers `rev-list` (git-rev-list).
 //!
 //! What a list has is the answer of a proved question, and so is each count. The order of a list is
-//! made here, as git makes it: the commits of the set come one after another, by what is read of each.
-//! If only some commits are wanted of all that revisions reach, as by `-n 10`, the list is read as git
-//! reads it, and is not that of a question.
+//! made here, as git makes it: the commits of the set come one after another, by what is read of
+//! each. If only some commits are wanted of all that revisions reach, as by `-n 10`, the list is
+//! read as git reads it, and is not that of a question.
 
 mod boundary;
 mod counts;
@@ -48,7 +48,7 @@ fn print_parents(session: &mut Session<'_>, id: ObjectId) -> Result<(), Stop> {
     Ok(())
 }
 
-/// Is a line of a list.
+/// A line of a list.
 #[derive(Clone, Copy)]
 struct Line {
     mark: &'static [u8],

@@ -11,7 +11,7 @@ use crate::rev_parse::show::{show_default, show_text, show_tip};
 use crate::session::Session;
 use crate::stop::{Stop, fatal};
 
-/// Ends where git wants exactly one revision: with the status 1 and no message if it is to be quiet.
+/// Ends if git wants exactly one revision: with status 1 and no message if it is to be quiet.
 fn no_single(session: &Session<'_>, asked: &Asked<'_>) -> Result<u8, Stop> {
     if asked.is_quiet {
         return Ok(1);
@@ -79,8 +79,8 @@ fn looked_up_quietly<'w>(
     found
 }
 
-/// Returns the tip of a word that is no range. If the look-up is to be quiet, git says even so what it
-/// has to say of a name before `~n` or `^n`, and what a branch lacks.
+/// Returns the tip of a word that is no range. If the look-up is to be quiet, git says even so what
+/// it has to say of a name before `~n` or `^n`, and what a branch lacks.
 fn looked_up<'w>(
     session: &mut Session<'_>,
     is_quiet: bool,

@@ -1,26 +1,28 @@
-//! Has the repository, and what is printed.
+//! The repository, and what is printed.
 
 use crate::stop::Stop;
+use gix_discover::Environment;
 use gix_odb::System;
 use gix_repository::Repository;
 use gix_revision::hash::ObjectId;
 use std::alloc::{AllocError, Global};
 use std::io::Write;
 
-/// Has the repository that is asked about, and what the answer prints so far.
+/// The repository that is asked about, and what the answer prints so far.
 #[derive(Drop)]
 pub(crate) struct Session<'s> {
     pub(crate) alloc: Global,
     /// Reads the file system, from the current folder.
     pub(crate) files: System<'s>,
+    pub(crate) environment: Environment,
     pub(crate) repository: Repository<System<'s>>,
-    /// Has what goes to standard output once the answer is whole.
+    /// What goes to standard output once the answer is whole.
     pub(crate) output: Vec<u8>,
-    /// Has what goes to standard error.
+    /// What goes to standard error.
     messages: Vec<u8>,
     /// Counts the bytes of the repository's messages that are among these.
     taken: usize,
-    /// Has the whole of standard input, if the question wants it.
+    /// The whole of standard input, if the question wants it.
     pub(crate) input: Option<Vec<u8>>,
 }
 
@@ -29,11 +31,13 @@ impl<'s> Session<'s> {
     pub(crate) fn new(
         alloc: Global,
         files: System<'s>,
+        environment: Environment,
         repository: Repository<System<'s>>,
     ) -> Session<'s> {
         Session {
             alloc,
             files,
+            environment,
             repository,
             output: Vec::new(alloc),
             messages: Vec::new(alloc),

@@ -3,10 +3,10 @@
 use gix_repository::Refusal;
 use std::alloc::{AllocError, AllocFailed, Global};
 
-/// Is the status of git if it is asked for what is not there.
+/// The status of git if it is asked for what is not there.
 pub(crate) const FATAL: u8 = 128;
 
-/// Is the status for what is not read here, and for each failure of the program.
+/// The status for what is not read here, and for each failure of the program.
 pub(crate) const NOT_READ: u8 = 129;
 
 /// Says why a word ends without its answer.

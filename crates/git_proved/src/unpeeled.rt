@@ -45,9 +45,9 @@ pub(crate) fn say_lost(
         return Ok(());
     };
     // What there is to say of the name was said already.
-    session.repository.set_quiet(true);
+    session.repository.set_silent(true);
     let named = session.repository.object(name);
-    session.repository.set_quiet(false);
+    session.repository.set_silent(false);
     match named {
         Ok(id) if id != missing => {
             session.say(&[b"error: missing object referenced by '", name, b"'"])?;
@@ -57,7 +57,7 @@ pub(crate) fn say_lost(
     Ok(())
 }
 
-/// Returns where the first step of a text begins, from a place on: its `^` or `~` outside of braces.
+/// Returns where the first step of a text begins, from a place on: its `^` or `~` outside braces.
 fn step_from(text: &[u8], from: usize) -> Option<usize> {
     let mut depth = 0usize;
     for (place, byte) in text.iter().enumerate().skip(from) {
@@ -89,10 +89,10 @@ fn wanted(step: &[u8]) -> Option<Kind> {
     }
 }
 
-/// Is an object that a step does not take.
+/// An object that a step does not take.
 #[derive(Clone, Copy)]
 struct Mismatch {
-    /// Has the object to which tags lead.
+    /// The object to which tags lead.
     id: ObjectId,
     kind: Kind,
     wanted: Kind,
@@ -140,8 +140,8 @@ fn step_text(alloc: Global, id: ObjectId, step: &[u8]) -> Result<Vec<u8>, Stop> 
     Ok(joined(alloc, &[&digits[..written], step])?)
 }
 
-/// Says at which step of a text an object is of another kind than the step wants. `id` is the object
-/// before the step that begins at `from`.
+/// Says at which step of a text an object is of another kind than the step wants. `id` is the
+/// object before the step that begins at `from`.
 fn say_from(session: &mut Session<'_>, text: &[u8], from: usize, id: ObjectId) -> Result<(), Stop> {
     let (mut from, mut id) = (from, id);
     for _ in 0..text.len() {
@@ -167,8 +167,8 @@ fn say_from(session: &mut Session<'_>, text: &[u8], from: usize, id: ObjectId) -
     Ok(())
 }
 
-/// Returns the first object of a text that there is, and where the step behind it begins: that of the
-/// name, or of the name and its first step, if this tells what ambiguous digits mean.
+/// Returns the first object of a text that there is, and where the step behind it begins: that of
+/// the name, or of the name and its first step, if this tells what ambiguous digits mean.
 fn begun(session: &mut Session<'_>, text: &[u8]) -> Option<(ObjectId, usize)> {
     let mut from = step_from(text, 0)?;
     for _ in 0..2u8 {
@@ -180,19 +180,19 @@ fn begun(session: &mut Session<'_>, text: &[u8]) -> Option<(ObjectId, usize)> {
     None
 }
 
-/// Says at which step of a text that names nothing an object is of another kind than the step wants,
-/// if that is why.
+/// Says at which step of a text that names nothing an object is of another kind than the step
+/// wants, if that is why.
 ///
 /// # Errors
 ///
 /// Fails if an allocation failed.
 pub(crate) fn say_unpeeled(session: &mut Session<'_>, text: &[u8]) -> Result<(), Stop> {
     // What there is to say of the name was said already.
-    session.repository.set_quiet(true);
+    session.repository.set_silent(true);
     let said = match begun(session, text) {
         Some((id, from)) => say_from(session, text, from, id),
         None => Ok(()),
     };
-    session.repository.set_quiet(false);
+    session.repository.set_silent(false);
     said
 }

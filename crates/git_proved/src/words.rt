@@ -1,6 +1,6 @@
 //! Goes over the words of a command line.
 
-/// Has the words of a command line, and the place of the next one.
+/// The words of a command line, and the place of the next one.
 #[derive(Clone, Copy)]
 pub(crate) struct Words<'w> {
     all: &'w [&'w [u8]],

@@ -1,4 +1,4 @@
-//! Is the program `git-proved`: passes the command line, the environment and the standard streams to
+//! The program `git-proved`: passes the command line, the environment and the standard streams to
 //! `git_proved`.
 #![tactic(auto)]
 
@@ -16,7 +16,7 @@ use std::process::ExitCode;
 use std::random::RandomSource;
 use std::time::SystemTime;
 
-/// Is the status for what is not read here, and for each failure of the program.
+/// The status for what is not read here, and for each failure of the program.
 const NOT_READ: u8 = 129;
 
 /// Says why the program ends before a question is asked.
@@ -180,7 +180,7 @@ fn serve(rt: &HostRuntime, front: &Front<'_>, word: &[u8], words: &[&[u8]]) -> R
     Ok(run(
         rt.alloc(),
         System(rt),
-        &environment,
+        environment,
         opening,
         word,
         words,

@@ -95,7 +95,10 @@ impl<F: Folders + Drop, A: Allocator + Copy> Repository<F, A> {
                     to.extend_from_slice(b" - ")?;
                     to.extend_from_slice(&tag.name)?;
                 }
-                Err(_) => to.extend_from_slice(b" [bad tag, could not parse it]")?,
+                Err(Refusal::Object(gix_odb::Error::MalformedTag(..))) => {
+                    to.extend_from_slice(b" [bad tag, could not parse it]")?;
+                }
+                Err(refusal) => return Err(refusal),
             },
             Kind::Commit => {
                 to.extend_from_slice(b" commit ")?;
@@ -110,6 +113,11 @@ impl<F: Folders + Drop, A: Allocator + Copy> Repository<F, A> {
     }
 
     /// Returns the line of the hint about an object, and its rank.
+    ///
+    /// # Errors
+    ///
+    /// `Object` if the object is not read, and `NotSupported` if it is missing. git then says more,
+    /// which depends on the damage.
     fn candidate(&mut self, id: ObjectId) -> Result<(u8, Vec<u8, A>), Refusal> {
         let least = self.least_digits()?;
         let count = self.unique_digits(id, least)?;
@@ -117,43 +125,66 @@ impl<F: Folders + Drop, A: Allocator + Copy> Repository<F, A> {
         let written = id.write_hex(count, &mut digits);
         let mut line = digits[..written].to_vec(self.alloc)?;
         let alloc = self.alloc;
-        match self.history.reader.store.read(alloc, id) {
-            Ok(object) => {
-                self.push_object(&mut line, id, &object)?;
-                Ok((rank(object.kind), line))
-            }
-            Err(gix_odb::Error::OutOfMemory) => Err(Refusal::OutOfMemory),
-            Err(_) => {
-                line.extend_from_slice(b" [bad object]")?;
-                Ok((4, line))
-            }
+        let by = self.history.reader.changes.stand_in(id);
+        let object = match self.history.reader.store.read(alloc, by) {
+            Ok(object) => object,
+            // It was there before, or is to stand in for one that was.
+            Err(gix_odb::Error::Missing(_)) => return Err(Refusal::NotSupported),
+            Err(error) => return Err(Refusal::from(error)),
+        };
+        self.push_object(&mut line, id, &object)?;
+        Ok((rank(object.kind), line))
+    }
+
+    /// Returns the lines of the hint about some objects, in git's order.
+    fn candidates(&mut self, ids: &[ObjectId]) -> Result<Vec<Vec<u8, A>, A>, Refusal> {
+        let mut ranked = Vec::new(self.alloc);
+        for (place, id) in ids.iter().enumerate() {
+            let (rank, line) = self.candidate(*id)?;
+            ranked.push((rank, place, line))?;
         }
+        ranked.sort_unstable();
+        let mut lines = Vec::new(self.alloc);
+        for (_, _, line) in ranked {
+            lines.push(line)?;
+        }
+        Ok(lines)
     }
 
     /// Says that digits are ambiguous, and which objects they may mean. If several of these are
     /// wanted, only they are listed.
+    ///
+    /// # Errors
+    ///
+    /// - `NotSupported` if there are more objects than are listed.
+    /// - Those of [`Repository::candidate`].
     pub(crate) fn say_ambiguous(
         &mut self,
         prefix: Prefix,
         digits: &[u8],
         wanted: Wanted,
     ) -> Result<(), Refusal> {
-        self.say(b"error: short object ID ", digits, b" is ambiguous")?;
-        self.say(b"hint: The candidates are:", b"", b"")?;
-        let alloc = self.alloc;
-        let found = self
-            .history
-            .reader
-            .store
-            .completions(alloc, prefix, MOST_LISTED)?;
-        let listed = self.all_wanted(&found, wanted)?;
-        let mut lines = Vec::new(alloc);
-        for (place, id) in listed.iter().enumerate() {
-            let (rank, line) = self.candidate(*id)?;
-            lines.push((rank, place, line))?;
+        if self.is_quiet || self.is_silent {
+            return Ok(());
         }
-        lines.sort_unstable();
-        for (_, _, line) in lines.iter() {
+        let alloc = self.alloc;
+        let store = &mut self.history.reader.store;
+        let found = store.completions(alloc, prefix, MOST_LISTED.saturating_add(1))?;
+        if found.len() > MOST_LISTED {
+            return Err(Refusal::NotSupported);
+        }
+        let listed = self.all_wanted(&found, wanted)?;
+        let lines = self.candidates(&listed)?;
+        // git writes the digits in lower case.
+        let mut text = [0u8; 40];
+        let written = prefix.as_oid().write_hex(digits.len(), &mut text);
+        self.say(
+            b"error: short object ID ",
+            &text[..written],
+            b" is ambiguous",
+        )?;
+        self.say(b"hint: The candidates are:", b"", b"")?;
+        for line in lines.iter() {
             self.say(b"hint:   ", line, b"")?;
         }
         Ok(())

@@ -122,6 +122,18 @@ fn authentic<A: Allocator, B: Allocator>(
 }
 
 impl<F: Folders + Drop, A: Allocator + Copy> Commits<F, A> {
+    /// Returns whether the commit-graph has a commit. One that is damaged has none.
+    pub(crate) fn has_row(&mut self, id: ObjectId) -> Result<bool, AllocError> {
+        let Some(rows) = self.rows.as_mut() else {
+            return Ok(false);
+        };
+        match rows.has(self.alloc, id) {
+            Ok(is_there) => Ok(is_there),
+            Err(gix_graph_rows::Error::OutOfMemory) => Err(AllocError),
+            Err(_) => Ok(false),
+        }
+    }
+
     /// Looks a commit up in the commit-graph.
     fn row<B: Allocator + Copy>(
         &mut self,
@@ -173,7 +185,7 @@ impl<F: Folders + Drop, A: Allocator + Copy> Commits<F, A> {
             return self.replaced(alloc, id, by);
         };
         let Read { commit, origin: _ } = self.object(alloc, by)?;
-        Ok(changed(with_parents(commit, parents)))
+        Ok(Read::changed(with_parents(commit, parents)))
     }
 
     /// Reads the commit `by` in the place of `id`.
@@ -189,17 +201,7 @@ impl<F: Folders + Drop, A: Allocator + Copy> Commits<F, A> {
             return self.object(alloc, id);
         }
         let Read { commit, origin: _ } = self.object(alloc, by)?;
-        Ok(changed(commit))
-    }
-}
-
-/// Returns a commit that the repository changes.
-fn changed<B: Allocator>(commit: SourceCommit<B>) -> Read<B>
-    ensures { (id : ObjectId) → IsReadOf id (Some result) }
-{
-    Read {
-        commit,
-        origin: Origin::Changed,
+        Ok(Read::changed(commit))
     }
 }
 

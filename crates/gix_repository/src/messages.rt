@@ -41,6 +41,20 @@ impl<F: Folders + Drop, A: Allocator + Copy> Repository<F, A> {
         if self.is_quiet {
             return Ok(());
         }
+        self.say_even_quietly(before, name, behind)
+    }
+
+    /// Adds a message of three parts that git prints even if it is to be quiet. Adds none if all
+    /// was said before.
+    pub(crate) fn say_even_quietly(
+        &mut self,
+        before: &[u8],
+        name: &[u8],
+        behind: &[u8],
+    ) -> Result<(), AllocError> {
+        if self.is_silent {
+            return Ok(());
+        }
         add_line(&mut self.messages, before, name, behind)
     }
 

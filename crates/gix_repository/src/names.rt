@@ -202,13 +202,18 @@ impl<F: Folders + Drop, A: Allocator + Copy> Repository<F, A> {
         found.ok_or(Refusal::Ambiguous)
     }
 
-    /// Returns whether an object is wanted.
+    /// Returns whether an object is wanted. A tag whose object is missing is wanted only if any
+    /// object is, unless a remote has promised it.
     pub(crate) fn is_wanted(&mut self, id: ObjectId, wanted: Wanted) -> Result<bool, Refusal> {
-        match self.peeled(id)? {
-            (_, Kind::Commit) if wanted == Wanted::Committish => Ok(true),
-            (peeled, Kind::Commit) if wanted == Wanted::OnlyCommit => Ok(peeled == id),
-            (_, Kind::Commit | Kind::Tree) => Ok(wanted == Wanted::Treeish),
-            _ => Ok(wanted == Wanted::Any),
+        match self.peeled(id) {
+            Ok((_, Kind::Commit)) if wanted == Wanted::Committish => Ok(true),
+            Ok((peeled, Kind::Commit)) if wanted == Wanted::OnlyCommit => Ok(peeled == id),
+            Ok((_, Kind::Commit | Kind::Tree)) => Ok(wanted == Wanted::Treeish),
+            Err(Refusal::Object(gix_odb::Error::Missing(_))) if self.is_partial() => {
+                Err(Refusal::NotSupported)
+            }
+            Ok(_) | Err(Refusal::Object(gix_odb::Error::Missing(_))) => Ok(wanted == Wanted::Any),
+            Err(refusal) => Err(refusal),
         }
     }
 }

@@ -19,7 +19,8 @@ use std::alloc::{AllocError, AllocFailed, Allocator, Global};
 /// Which files are believed.
 #[derive(Clone, Copy, Debug, PartialEq, Eq)]
 pub enum Mode {
-    /// The commit-graph is, and what changes commits: grafts, replace references, a shallow history.
+    /// The commit-graph is, and so are changes of commits: grafts, replace references, shallow
+    /// histories.
     Usual,
     /// Only objects are, and only if their SHA-1 is their id. All that a question's commits reach
     /// is read, and an answer has no premise.
@@ -270,6 +271,7 @@ impl<F: Places + Copy + Drop, A: Allocator + Copy> Repository<F, A> {
             abbrev: settings.abbrev(alloc)?,
             warns: settings.warns_ambiguous_refs(alloc)?,
             is_quiet: false,
+            is_silent: false,
             layout,
             settings,
             references,

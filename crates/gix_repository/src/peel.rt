@@ -2,8 +2,8 @@
 
 use crate::error::Refusal;
 use crate::repository::Repository;
-use gix_odb::Tag;
 use gix_odb::files::Folders;
+use gix_odb::{Object, Tag};
 use gix_revision::hash::ObjectId;
 use gix_revision::object::Kind;
 use std::alloc::Allocator;
@@ -34,6 +34,21 @@ impl<F: Folders + Drop, A: Allocator + Copy> Repository<F, A> {
         Ok(self.history.reader.store.kind(alloc, id)?)
     }
 
+    /// Returns whether the commit-graph has the commit `id`, and the object database has an object
+    /// with this id. The object is not read.
+    ///
+    /// # Errors
+    ///
+    /// - `Object` if an index or a folder was not read.
+    /// - `OutOfMemory` if an allocation failed.
+    pub fn is_in_graph(&mut self, id: ObjectId) -> Result<bool, Refusal> {
+        let alloc = self.alloc;
+        if !self.history.reader.has_row(id)? {
+            return Ok(false);
+        }
+        Ok(self.history.reader.store.has(alloc, id)?)
+    }
+
     /// Returns what an annotated tag says.
     ///
     /// # Errors
@@ -46,16 +61,27 @@ impl<F: Folders + Drop, A: Allocator + Copy> Repository<F, A> {
         Ok(self.history.reader.store.tag(alloc, id)?)
     }
 
+    /// Returns an object, or the one that stands for it if it is replaced.
+    ///
+    /// # Errors
+    ///
+    /// - `Object` if the object was not read.
+    /// - `OutOfMemory` if an allocation failed.
+    pub fn read_object(&mut self, id: ObjectId) -> Result<Object<A>, Refusal> {
+        let alloc = self.alloc;
+        let id = self.history.reader.changes.stand_in(id);
+        Ok(self.history.reader.store.read(alloc, id)?)
+    }
+
     /// Returns the tree of a commit.
     ///
     /// # Errors
     ///
     /// - `Object` if the commit was not read.
+    /// - `Unknown` if it does not begin with the line of a tree.
     /// - `OutOfMemory` if an allocation failed.
-    pub(crate) fn tree(&mut self, commit: ObjectId) -> Result<ObjectId, Refusal> {
-        let alloc = self.alloc;
-        let id = self.history.reader.changes.stand_in(commit);
-        let object = self.history.reader.store.read(alloc, id)?;
+    pub fn tree(&mut self, commit: ObjectId) -> Result<ObjectId, Refusal> {
+        let object = self.read_object(commit)?;
         match tree_line(&object.content) {
             Some(id) => Ok(id),
             None => Err(Refusal::Unknown),

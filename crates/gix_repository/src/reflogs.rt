@@ -68,12 +68,25 @@ impl<F: Folders + Drop, A: Allocator + Copy> Repository<F, A> {
                 self.say(b"fatal: log for ", &logged.name, b" is empty")?;
                 Err(Refusal::Fatal)
             }
-            ReflogLookup::Entry(number) => match logged.reflog.nth(number) {
-                Some(id) => Ok(id),
-                None => self.too_short(&logged.reflog, written),
-            },
+            ReflogLookup::Entry(number) => self.nth_entry(logged, written, number),
             ReflogLookup::Date(time) => self.entry_at(logged, written, time.seconds),
         }
+    }
+
+    /// Returns the object that a reflog with entries names by a number, from 1 on.
+    fn nth_entry(
+        &mut self,
+        logged: &Logged<A>,
+        written: &[u8],
+        number: usize,
+    ) -> Result<ObjectId, Refusal> {
+        let Some(id) = logged.reflog.nth(number) else {
+            return self.too_short(&logged.reflog, written);
+        };
+        if let Some(place) = logged.reflog.place_of_nth(number) {
+            self.warn_of_gap(logged, place)?;
+        }
+        Ok(id)
     }
 
     /// Returns the object that a reflog with entries names at a date.
@@ -83,9 +96,16 @@ impl<F: Folders + Drop, A: Allocator + Copy> Repository<F, A> {
         written: &[u8],
         seconds: i64,
     ) -> Result<ObjectId, Refusal> {
-        match logged.reflog.at(seconds.max(0).cast_unsigned()) {
+        let date = seconds.max(0).cast_unsigned();
+        if let Some(place) = logged.reflog.place_at(date) {
+            self.warn_of_gap(logged, place)?;
+        }
+        match logged.reflog.at(date) {
             Some(AtDate::Id(id)) => Ok(id),
-            Some(AtDate::Now) => Ok(logged.id),
+            Some(AtDate::Now) => {
+                self.warn_of_end(logged, date)?;
+                Ok(logged.id)
+            }
             Some(AtDate::Before(id, _)) if seconds > 0 => {
                 self.warn_of_begin(&logged.reflog, written)?;
                 Ok(id)
@@ -93,6 +113,44 @@ impl<F: Folders + Drop, A: Allocator + Copy> Repository<F, A> {
             // git takes second 0 for the number of an entry here.
             _ => self.too_short(&logged.reflog, written),
         }
+    }
+
+    /// Warns if changes are missing in a reflog after the entry at a place.
+    fn warn_of_gap(&mut self, logged: &Logged<A>, place: usize) -> Result<(), Refusal> {
+        if logged.reflog.has_gap_after(place) {
+            self.warn_of_log(logged, place, b" has gap after ")?;
+        }
+        Ok(())
+    }
+
+    /// Warns if the newest entry that is not after a date has another id than the reference now.
+    fn warn_of_end(&mut self, logged: &Logged<A>, date: u64) -> Result<(), Refusal> {
+        let Some(place) = logged.reflog.place_at(date) else {
+            return Ok(());
+        };
+        match logged.reflog.entries.get(place) {
+            Some(entry) if entry.new != logged.id => {
+                self.warn_of_log(logged, place, b" unexpectedly ended on ")
+            }
+            _ => Ok(()),
+        }
+    }
+
+    /// Adds a warning about a reflog, with the date of the entry at a place. git prints it even if
+    /// it is to be quiet.
+    fn warn_of_log(
+        &mut self,
+        logged: &Logged<A>,
+        place: usize,
+        what: &[u8],
+    ) -> Result<(), Refusal> {
+        let Some(entry) = logged.reflog.entries.get(place) else {
+            return Ok(());
+        };
+        let mut behind = what.to_vec(self.alloc)?;
+        push_full_date(&mut behind, entry.seconds, entry.zone)?;
+        self.say_even_quietly(b"warning: log for ref ", &logged.name, &behind)?;
+        Ok(())
     }
 
     /// Says that a reflog has too few entries.
@@ -150,8 +208,8 @@ impl<F: Folders + Drop, A: Allocator + Copy> Repository<F, A> {
         Ok(())
     }
 
-    /// Returns what a reference stood for, the oldest first, by its reflog; what it stands for if it
-    /// has none (git-merge-base, "--fork-point").
+    /// Returns what a reference stood for, the oldest first, by its reflog; what it stands for if
+    /// it has none (git-merge-base, "--fork-point").
     ///
     /// # Errors
     ///

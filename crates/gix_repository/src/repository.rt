@@ -29,8 +29,10 @@ pub struct Repository<F: Folders + Drop, A: Allocator + Copy = Global> {
     pub(crate) abbrev: Abbrev,
     /// Whether ambiguous names are warned of.
     pub(crate) warns: bool,
-    /// Whether nothing is said about names.
+    /// Whether git is to be quiet about names.
     pub(crate) is_quiet: bool,
+    /// Whether nothing is said about names, since all was said before.
+    pub(crate) is_silent: bool,
     pub(crate) layout: Layout<A>,
     pub(crate) settings: Settings<A>,
     pub(crate) references: References<F, A>,
@@ -68,9 +70,14 @@ impl<F: Folders + Drop, A: Allocator + Copy> Repository<F, A> {
     }
 
     /// Turns off, or on again, the messages about names that are looked up (git-rev-parse,
-    /// "--quiet").
+    /// "--quiet"). Those that git prints even so stay on.
     pub fn set_quiet(&mut self, is_quiet: bool) {
         self.is_quiet = is_quiet;
+    }
+
+    /// Turns off, or on again, all messages about names, for a name that is looked up once more.
+    pub fn set_silent(&mut self, is_silent: bool) {
+        self.is_silent = is_silent;
     }
 
     /// Lists the references whose full names begin with a text.
@@ -142,6 +149,7 @@ impl<F: Folders + Drop, A: Allocator + Copy> Repository<F, A> {
     pub fn refresh(&mut self) {
         self.messages.clear();
         self.is_quiet = false;
+        self.is_silent = false;
         self.references.refresh();
     }
 

@@ -16,8 +16,10 @@ use std::alloc::Allocator;
 
 /// Looks up what a revision names, call by call.
 #[derive(Drop)]
-struct Lookup<'r, F: Folders + Drop, A: Allocator + Copy> {
+struct Lookup<'r, 't, F: Folders + Drop, A: Allocator + Copy> {
     repository: &'r mut Repository<F, A>,
+    /// The revision as it was written.
+    text: &'t [u8],
     /// What the digits of several objects mean.
     wanted: Wanted,
     /// The name with which the revision begins, until it is known what follows: a name before
@@ -31,7 +33,27 @@ struct Lookup<'r, F: Folders + Drop, A: Allocator + Copy> {
     refusal: Option<Refusal>,
 }
 
-impl<'r, F: Folders + Drop, A: Allocator + Copy> Lookup<'r, F, A> {
+/// Returns the name and the mark with which a text begins, such as `main@{u}`.
+fn marked(text: &[u8]) -> &[u8] {
+    let Some(at) = text.windows(2).position(|two| two == b"@{".as_slice()) else {
+        return text;
+    };
+    let mark = text.get(at..).unwrap_or(&[]);
+    match mark.iter().position(|b| *b == b'}') {
+        Some(len) => text.get(..=at.saturating_add(len)).unwrap_or(text),
+        None => text,
+    }
+}
+
+/// Tests whether a further rule reads the name of a reference, too.
+fn is_ambiguous<A: Allocator>(named: &Named<A>) -> bool {
+    match &named.reference {
+        Some(reference) => reference.is_ambiguous,
+        None => false,
+    }
+}
+
+impl<'r, 't, F: Folders + Drop, A: Allocator + Copy> Lookup<'r, 't, F, A> {
     /// Answers a call: notes the object to which it leads, or why it leads to none.
     fn answer(&mut self, found: Result<ObjectId, Refusal>) -> Result<(), Exn> {
         match found {
@@ -135,6 +157,15 @@ impl<'r, F: Folders + Drop, A: Allocator + Copy> Lookup<'r, F, A> {
         }
     }
 
+    /// Returns what the sibling branch stands for, and warns if its short name is ambiguous.
+    fn warned_sibling(&mut self, kind: SiblingBranch) -> Result<Named<A>, Refusal> {
+        let found = self.sibling(kind)?;
+        if is_ambiguous(&found) {
+            self.repository.warn_ambiguous(marked(self.text))?;
+        }
+        Ok(found)
+    }
+
     /// Returns the commit whose message contains a text.
     fn searched(&mut self, regex: &[u8], negated: bool) -> Result<ObjectId, Refusal> {
         self.settle()?;
@@ -150,11 +181,11 @@ impl<'r, F: Folders + Drop, A: Allocator + Copy> Lookup<'r, F, A> {
     }
 }
 
-impl<F: Folders + Drop, A: Allocator + Copy> Listener for Lookup<'_, F, A> {
+impl<F: Folders + Drop, A: Allocator + Copy> Listener for Lookup<'_, '_, F, A> {
     ghost step = { λ before call answer after. Unit {0} };
 }
 
-impl<F: Folders + Drop, A: Allocator + Copy> Revision for Lookup<'_, F, A> {
+impl<F: Folders + Drop, A: Allocator + Copy> Revision for Lookup<'_, '_, F, A> {
     fn find_ref(&mut self, name: &[u8]) -> Result<(), Exn> {
         match name.to_vec(self.repository.alloc) {
             Ok(name) => {
@@ -185,12 +216,12 @@ impl<F: Folders + Drop, A: Allocator + Copy> Revision for Lookup<'_, F, A> {
     }
 
     fn sibling_branch(&mut self, kind: SiblingBranch) -> Result<(), Exn> {
-        let found = self.sibling(kind);
+        let found = self.warned_sibling(kind);
         self.begin(found)
     }
 }
 
-impl<F: Folders + Drop, A: Allocator + Copy> Kind for Lookup<'_, F, A> {
+impl<F: Folders + Drop, A: Allocator + Copy> Kind for Lookup<'_, '_, F, A> {
     // A single revision has no kind; the ends of ranges are read apart.
     fn kind(&mut self, kind: spec::Kind) -> Result<(), Exn> {
         let refusal = self.unsupported();
@@ -198,7 +229,7 @@ impl<F: Folders + Drop, A: Allocator + Copy> Kind for Lookup<'_, F, A> {
     }
 }
 
-impl<F: Folders + Drop, A: Allocator + Copy> Navigate for Lookup<'_, F, A> {
+impl<F: Folders + Drop, A: Allocator + Copy> Navigate for Lookup<'_, '_, F, A> {
     fn traverse(&mut self, kind: Traversal) -> Result<(), Exn> {
         let found = self.stepped(kind);
         self.reference = None;
@@ -222,7 +253,7 @@ impl<F: Folders + Drop, A: Allocator + Copy> Navigate for Lookup<'_, F, A> {
     }
 }
 
-impl<F: Folders + Drop, A: Allocator + Copy> Delegate for Lookup<'_, F, A> {
+impl<F: Folders + Drop, A: Allocator + Copy> Delegate for Lookup<'_, '_, F, A> {
     fn done(&mut self) -> Result<(), Exn> {
         self.end()
     }
@@ -243,7 +274,7 @@ fn is_looked_up<F: Folders + Drop, A: Allocator + Copy>(
     alloc: A,
     text: &[u8],
     now: Time,
-    lookup: &mut Lookup<'_, F, A>,
+    lookup: &mut Lookup<'_, '_, F, A>,
 ) -> bool {
     is_parsed(alloc, text, now, lookup)
 }
@@ -306,8 +337,8 @@ impl<F: Folders + Drop, A: Allocator + Copy> Repository<F, A> {
         }
     }
 
-    /// Returns the object of a kind to which an object leads: through tags, and from a commit to its
-    /// tree.
+    /// Returns the object of a kind to which an object leads: through tags, and from a commit to
+    /// its tree.
     pub(crate) fn peeled_to(
         &mut self,
         id: ObjectId,
@@ -359,10 +390,10 @@ impl<F: Folders + Drop, A: Allocator + Copy> Repository<F, A> {
     ///   prints no name then.
     /// - Those of [`Repository::object`].
     pub fn reference_of(&mut self, text: &[u8]) -> Result<Option<Vec<u8, A>>, Refusal> {
-        let was_quiet = self.is_quiet;
-        self.is_quiet = true;
+        let was_silent = self.is_silent;
+        self.is_silent = true;
         let found = self.reference_unwarned(text);
-        self.is_quiet = was_quiet;
+        self.is_silent = was_silent;
         match found? {
             Some((_, target)) => Ok(Some(target)),
             None => Ok(None),
@@ -425,6 +456,7 @@ impl<F: Folders + Drop, A: Allocator + Copy> Repository<F, A> {
         let (alloc, now) = (self.alloc, self.now);
         let mut lookup = Lookup {
             repository: self,
+            text,
             wanted,
             name: None,
             at: None,
@@ -436,6 +468,7 @@ impl<F: Folders + Drop, A: Allocator + Copy> Repository<F, A> {
         let is_settled = lookup.end().is_ok();
         let Lookup {
             repository: _,
+            text: _,
             wanted: _,
             name: _,
             at,

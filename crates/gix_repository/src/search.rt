@@ -112,8 +112,8 @@ impl<F: Folders + Drop, A: Allocator + Copy> Repository<F, A> {
         Err(Refusal::Unknown)
     }
 
-    /// Returns the youngest commit whose message contains a text, or does not if `negated`: of those
-    /// that an object reaches, or else of those that references reach.
+    /// Returns the youngest commit whose message contains a text, or does not if `negated`: of
+    /// those that an object reaches, or else of those that references reach.
     ///
     /// # Errors
     ///

@@ -90,8 +90,8 @@ impl<F: Folders + Drop, A: Allocator + Copy> Repository<F, A> {
         self.mapped_by(remote, b"fetch", name)
     }
 
-    /// Returns the remote and the branch there from which a local branch is merged, whose short name
-    /// is `short` (git-config, `branch.<name>.remote`, `branch.<name>.merge`).
+    /// Returns the remote and the branch there from which a local branch is merged, whose short
+    /// name is `short` (git-config, `branch.<name>.remote`, `branch.<name>.merge`).
     fn merged_from(&self, short: &[u8]) -> Result<Option<(&[u8], &[u8])>, Refusal> {
         let Some(remote) = self.setting(b"branch", Some(short), b"remote") else {
             return Ok(None);
@@ -227,8 +227,8 @@ impl<F: Folders + Drop, A: Allocator + Copy> Repository<F, A> {
 
     /// Returns what the sibling of a branch stands for, whose short name is `short`.
     ///
-    /// Its settings count even if there is no such branch. As git does, it shortens the full name of
-    /// the sibling, and reads it again by the rules.
+    /// Its settings count even if there is no such branch. As git does, it shortens the full name
+    /// of the sibling, and reads it again by the rules.
     fn sibling(&mut self, short: &[u8], kind: SiblingBranch) -> Result<Named<A>, Refusal> {
         let name = self.sibling_name(short, kind)?;
         let text = self.references.shortest(&name, false)?;

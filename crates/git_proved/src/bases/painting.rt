@@ -17,21 +17,21 @@ struct Paint {
     is_stale: bool,
 }
 
-/// Is the paint of a commit that was not reached.
+/// The paint of a commit that was not reached.
 const NOWHERE: Paint = Paint {
     from_first: false,
     from_others: false,
     is_stale: false,
 };
 
-/// Is the paint of the commit on one side.
+/// The paint of the commit on one side.
 const FIRST: Paint = Paint {
     from_first: true,
     from_others: false,
     is_stale: false,
 };
 
-/// Is the paint of the commits on the other side.
+/// The paint of the commits on the other side.
 const OTHERS: Paint = Paint {
     from_first: false,
     from_others: true,
@@ -56,7 +56,7 @@ impl Paint {
     }
 }
 
-/// Is a commit that was reached.
+/// A commit that was reached.
 #[derive(Clone, Copy)]
 struct Reached {
     paint: Paint,
@@ -66,11 +66,11 @@ struct Reached {
     is_met: bool,
 }
 
-/// Is a commit that waits. The greatest comes next.
+/// A commit that waits. The greatest comes next.
 #[derive(Clone, Copy, PartialEq, Eq, PartialOrd, Ord)]
 struct Waiting {
     time: i64,
-    /// Is the smaller, the later the commit began to wait.
+    /// A number that is smaller the later the commit began to wait.
     before: u64,
     id: ObjectId,
 }
@@ -84,7 +84,7 @@ struct Walk {
     count: u64,
     /// Tells how many wait that are not stale.
     fresh: usize,
-    /// Has the common ancestors that were met.
+    /// The common ancestors that were met.
     met: Vec<ObjectId>,
 }
 

@@ -1,8 +1,9 @@
 //! Reads the options of `describe` (git-describe, "Options").
 
 use crate::integer::integer;
-use crate::options::{Choice, Given, Item, Reader, Value};
+use crate::options::next_item;
 use crate::stop::{Stop, not_read};
+use parse_options::{Choice, Given, Item, Reader, Value};
 use std::alloc::Global;
 
 /// Is how many names git weighs at most.
@@ -156,7 +157,8 @@ pub(crate) struct Asked<'w> {
     pub(crate) long: bool,
     pub(crate) first_parent: bool,
     pub(crate) always: bool,
-    pub(crate) dirty: bool,
+    /// Has what is printed behind the description if the working tree is dirty.
+    pub(crate) dirty: Option<&'w [u8]>,
     pub(crate) broken: bool,
     pub(crate) abbrev: Abbrev,
     /// Is how many names are weighed. With 0 only a commit's own name counts.
@@ -206,6 +208,15 @@ fn candidates_of(alloc: Global, given: Given<'_, Key>) -> Result<usize, Stop> {
     }
 }
 
+/// Returns the mark that `--dirty` asks for; `None` for `--no-dirty`.
+fn mark_of<'w>(given: Given<'w, Key>) -> Option<&'w [u8]> {
+    if given.is_no {
+        None
+    } else {
+        Some(given.value.unwrap_or(b"-dirty"))
+    }
+}
+
 /// Adds a pattern to a list. `--no-match` and `--no-exclude` empty it.
 fn note_pattern<'w>(patterns: &mut Vec<&'w [u8]>, given: Given<'w, Key>) -> Result<(), Stop> {
     match given.value {
@@ -226,7 +237,7 @@ impl<'w> Asked<'w> {
             long: false,
             first_parent: false,
             always: false,
-            dirty: false,
+            dirty: None,
             broken: false,
             abbrev: Abbrev::Usual,
             candidates: USUAL_CANDIDATES,
@@ -247,7 +258,7 @@ impl<'w> Asked<'w> {
             Key::Long => self.long = is_set,
             Key::FirstParent => self.first_parent = is_set,
             Key::Always => self.always = is_set,
-            Key::Dirty => self.dirty = is_set,
+            Key::Dirty => self.dirty = mark_of(given),
             Key::Broken => self.broken = is_set,
             Key::ExactMatch => self.candidates = 0,
             Key::Abbrev => self.abbrev = abbrev_of(alloc, given)?,
@@ -261,9 +272,9 @@ impl<'w> Asked<'w> {
     /// Reads the words behind `describe`.
     pub(crate) fn read(alloc: Global, words: &'w [&'w [u8]]) -> Result<Asked<'w>, Stop> {
         let mut asked = Asked::new(alloc);
-        let mut reader = Reader::new(alloc, &CHOICES, words);
+        let mut reader = Reader::new(&CHOICES, words);
         for _ in 0..usize::MAX {
-            match reader.read()? {
+            match next_item(alloc, &mut reader)? {
                 Some(Item::Option(given)) => asked.note(alloc, given)?,
                 Some(Item::Argument(text)) => asked.texts.push(text)?,
                 None => break,

@@ -47,7 +47,11 @@ impl Filter {
 /// Looks up the commits of references, and keeps those that lead to one.
 fn keep_commits(session: &mut Session<'_>, candidates: &mut Vec<Candidate>) -> Result<(), Stop> {
     for candidate in candidates.iter_mut() {
-        candidate.commit = commit_of(session, candidate.id)?;
+        candidate.commit = if session.repository.is_in_graph(candidate.id)? {
+            Some(candidate.id)
+        } else {
+            commit_of(session, candidate.id)?
+        };
     }
     candidates.retain(|candidate| candidate.commit.is_some());
     Ok(())

@@ -15,7 +15,7 @@ use std::marker::Brand;
 /// How many names are shortened at least, if all references are listed for it.
 const MANY: usize = 16;
 
-/// Is a part of a format.
+/// A part of a format.
 #[derive(Drop)]
 pub(crate) enum Part {
     /// A text that stands for itself.

@@ -7,16 +7,16 @@ use gix_ref::{Listed, Skipped, Why, is_full_name};
 use gix_revision::hash::ObjectId;
 use gix_revision::object::Kind;
 
-/// Is a reference that may be printed.
+/// A reference that may be printed.
 #[derive(Drop)]
 pub(crate) struct Candidate {
-    /// Has the full name.
+    /// The full name.
     pub(crate) name: Vec<u8>,
-    /// Has the object at the end of symbolic references.
+    /// The object at the end of symbolic references.
     pub(crate) id: ObjectId,
-    /// Has the commit to which the object leads, once it was looked up.
+    /// The commit to which the object leads, once it was looked up.
     pub(crate) commit: Option<ObjectId>,
-    /// Has the kind of the object, once it was looked up.
+    /// The kind of the object, once it was looked up.
     pub(crate) kind: Option<Kind>,
 }
 

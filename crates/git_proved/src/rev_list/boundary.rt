@@ -27,7 +27,7 @@ fn parents_behind(session: &mut Session<'_>, ids: &[ObjectId]) -> Result<Vec<Com
     Ok(behind)
 }
 
-/// Returns the commits behind those that are printed, in git's order; none if they are not asked for.
+/// Returns the commits behind the printed ones, in git's order; none if they are not asked for.
 ///
 /// # Errors
 ///

@@ -27,8 +27,8 @@ fn count_reachable(
     Ok(session.repository.ask::<Brand, _>(&question)?)
 }
 
-/// Returns how many commits only the left end of `A...B` reaches, and how many only the right one. The
-/// answer is that of a proved question.
+/// Returns how many commits only the left end of `A...B` reaches, and how many only the right one.
+/// The answer is that of a proved question.
 fn ahead_behind(
     session: &mut Session<'_>,
     ours: ObjectId,

@@ -1,8 +1,8 @@
 //! Tells whether git leaves out the same commits with `--first-parent`.
 //!
-//! git follows all parents of a commit that it knows to be left out, and else only the first one. If
-//! dates are equal, or a clock was wrong, it may meet a commit before it knows that, and then it never
-//! sees what the other parents reach.
+//! git follows all parents of a commit that it knows to be left out, and else only the first one.
+//! If dates are equal, or a clock was wrong, it may meet a commit before it knows that, and then it
+//! never sees what the other parents reach.
 
 use crate::rev_list::order::{Come, Walk, set_of};
 use crate::rev_list::starts::Ends;
@@ -10,7 +10,7 @@ use crate::session::Session;
 use crate::stop::{Stop, not_read};
 use gix_revision::hash::ObjectId;
 
-/// Is a commit that is left out, at which a line of first parents ends. The greatest is the newest.
+/// A commit that is left out, at which a line of first parents ends. The greatest is the newest.
 #[derive(Clone, Copy, PartialEq, Eq, PartialOrd, Ord)]
 struct Last {
     time: i64,
@@ -44,7 +44,7 @@ fn last_ones(
     Ok(last)
 }
 
-/// Returns whether git knows of each of some commits that it is left out, before it meets the commit.
+/// Returns whether git knows that each of some commits is left out, before it meets the commit.
 fn are_known(session: &mut Session<'_>, ends: &Ends, last: &[Last]) -> Result<bool, Stop> {
     let mut walk = Walk::new(session, None, false, &ends.excluded)?;
     for one in last {

@@ -115,8 +115,8 @@ fn first_parents(session: &mut Session<'_>, begin: &[ObjectId], ends: &Ends) -> 
 ///
 /// # Errors
 ///
-/// `NotRead` if the walk does not meet each commit of the set: then generation numbers rise somewhere,
-/// and the set may be too great.
+/// `NotRead` if the walk does not meet each commit of the set: then generation numbers rise
+/// somewhere, and the set may be too great.
 fn whole_list(session: &mut Session<'_>, ends: &Ends) -> Result<Vec<Come>, Stop> {
     let ids = reachable(session, &ends.included, &ends.excluded)?;
     let within = set_of(session, &ids)?;
@@ -183,8 +183,8 @@ fn listed_whole(
 
 /// Lists the commits that are printed, in git's order.
 ///
-/// The set is that of a proved question, except where only some commits are wanted of all that
-/// revisions reach: then no more commits are read than git reads, and each is a parent of one before.
+/// The set is that of a proved question, unless only some commits are wanted of all that revisions
+/// reach: then no more commits are read than git reads, and each is a parent of one before.
 ///
 /// # Errors
 ///
@@ -232,8 +232,8 @@ pub(crate) fn on_both_sides(alloc: Global) -> Stop {
 ///
 /// # Errors
 ///
-/// `NotRead` if a commit is on both sides, as it may be for several ranges: which side git takes then
-/// hangs on the order in which it meets commits.
+/// `NotRead` if a commit is on both sides, as it may be for several ranges: which side git takes
+/// then hangs on the order in which it meets commits.
 pub(crate) fn left_side(
     session: &mut Session<'_>,
     wishes: &Wishes,

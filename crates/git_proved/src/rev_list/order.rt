@@ -8,24 +8,24 @@ use gix_revision::hash::ObjectId;
 use std::alloc::{AllocError, Global};
 use std::collections::{BinaryHeap, HashMap};
 
-/// Is a commit that was met and did not come yet. The greatest comes next.
+/// A commit that was met and did not come yet. The greatest comes next.
 #[derive(Clone, Copy, PartialEq, Eq, PartialOrd, Ord)]
 struct Waiting {
     time: i64,
-    /// Is the smaller, the later the commit was met.
+    /// A number that is smaller the later the commit was met.
     before: u64,
     id: ObjectId,
 }
 
-/// Is a commit that came.
+/// A commit that came.
 #[derive(Clone, Copy)]
 pub(crate) struct Come {
     pub(crate) id: ObjectId,
-    /// Has the number of its parents.
+    /// The number of its parents.
     pub(crate) parents: usize,
 }
 
-/// Has a set of commits.
+/// A set of commits.
 pub(crate) type Ids = HashMap<ObjectId, (), Seed, Global>;
 
 /// Returns a set of commits.
@@ -40,7 +40,7 @@ pub(crate) fn set_of(session: &Session<'_>, ids: &[ObjectId]) -> Result<Ids, All
 /// Lets commits come one after another.
 #[derive(Drop)]
 pub(crate) struct Walk {
-    /// Has the commits that may come; `None` if all may.
+    /// The commits that may come; `None` if all may.
     within: Option<Ids>,
     is_first_parent: bool,
     met: Ids,

@@ -1,17 +1,19 @@
-//! Has the objects from which a list begins, and those that end it.
+//! The objects from which a list begins, and those that end it.
 
 use crate::session::Session;
 use crate::stop::{Stop, fatal, not_read};
 use gix_discover::wildmatch::{Rules, is_match};
+use gix_ref::{Skipped, Why};
 use gix_repository::Refusal;
 use gix_revision::hash::ObjectId;
 use gix_revision::object::Kind;
 use std::alloc::{AllocError, Global};
+use std::cmp::Ordering;
 
-/// Is an object from which a list begins, or one that ends it.
+/// An object from which a list begins, or one that ends it.
 #[derive(Clone, Copy)]
 pub(crate) struct Start {
-    /// Has the object as it was named: a tag is not peeled.
+    /// The object as it was named: a tag is not peeled.
     pub(crate) id: ObjectId,
     /// Tells whether what it reaches is left out.
     pub(crate) is_excluded: bool,
@@ -19,7 +21,7 @@ pub(crate) struct Start {
     pub(crate) is_left: bool,
 }
 
-/// Has all of them, in the order in which they were named.
+/// All of them, in the order in which they were named.
 #[derive(Drop)]
 pub(crate) struct Starts {
     alloc: Global,
@@ -28,16 +30,16 @@ pub(crate) struct Starts {
     is_pair: bool,
 }
 
-/// Has the commits to which the objects lead.
+/// The commits to which the objects lead.
 #[derive(Drop)]
 pub(crate) struct Ends {
-    /// Has those from which the list begins.
+    /// Those from which the list begins.
     pub(crate) included: Vec<ObjectId>,
-    /// Has those that reach nothing of it.
+    /// Those that reach nothing of it.
     pub(crate) excluded: Vec<ObjectId>,
-    /// Has those of `included` that are left ends.
+    /// Those of `included` that are left ends.
     pub(crate) lefts: Vec<ObjectId>,
-    /// Has the others of `included`.
+    /// The others of `included`.
     pub(crate) rights: Vec<ObjectId>,
     /// Tells whether the list is that of one `A...B` alone, with its merge bases as `excluded`.
     pub(crate) is_pair: bool,
@@ -63,8 +65,8 @@ pub(crate) fn bad_object(alloc: Global, name: &[u8]) -> Stop {
     fatal(alloc, &[b"bad object ", name])
 }
 
-/// Returns the pattern that names match: that of an option behind the front of the names, or all below
-/// it if nothing of it is special.
+/// Returns the pattern that names match: that of an option behind the front of the names, or all
+/// below it if nothing of it is special.
 fn whole_pattern(alloc: Global, front: &str, pattern: &[u8]) -> Result<Vec<u8>, AllocError> {
     let mut whole = Vec::new(alloc);
     whole.extend_from_slice(front.as_bytes())?;
@@ -91,8 +93,39 @@ fn matches_pattern(alloc: Global, pattern: Option<&[u8]>, name: &[u8]) -> Result
     is_match(alloc, pattern, name, rules)
 }
 
-/// Returns the object that a tag names; `None` if the object is no tag, or if it is left out and leads
-/// nowhere.
+/// Returns the name of the first reference that is broken and matches a pattern.
+fn first_broken<'l>(
+    alloc: Global,
+    skipped: &'l [Skipped],
+    pattern: Option<&[u8]>,
+) -> Result<Option<&'l [u8]>, AllocError> {
+    for one in skipped {
+        if one.why == Why::Broken && matches_pattern(alloc, pattern, &one.name)? {
+            return Ok(Some(one.name.as_slice()));
+        }
+    }
+    Ok(None)
+}
+
+/// Returns whether a name is there and sorts before another one.
+fn comes_before(name: Option<&[u8]>, other: &[u8]) -> bool {
+    match name {
+        Some(name) => name.cmp(other) == Ordering::Less,
+        None => false,
+    }
+}
+
+/// Returns the name that git prints if a list is to begin from a reference. Only `--all` has full
+/// names.
+fn printed_name<'n>(front: &str, name: &'n [u8]) -> &'n [u8] {
+    if front.as_bytes() == b"refs/".as_slice() {
+        return name;
+    }
+    name.strip_prefix(front.as_bytes()).unwrap_or(name)
+}
+
+/// Returns the object that a tag names; `None` if the object is no tag, or if it is left out and
+/// leads nowhere.
 fn target(
     session: &mut Session<'_>,
     id: ObjectId,
@@ -192,24 +225,31 @@ impl Starts {
         Ok(())
     }
 
-    /// Adds what a reference stands for. As git does, it passes over one whose object is not there.
+    /// Adds what a reference stands for.
+    ///
+    /// # Errors
+    ///
+    /// `Fatal`, with the name that git prints, if the object is not there.
     fn add_reference(
         &mut self,
         session: &mut Session<'_>,
-        name: &[u8],
+        printed: &[u8],
         id: ObjectId,
         is_excluded: bool,
     ) -> Result<(), Stop> {
-        if is_there(session, id)? {
-            self.add(id, is_excluded)?;
-        } else {
-            session.say(&[b"error: ", name, b" does not point to a valid object!"])?;
+        if !is_there(session, id)? {
+            return Err(bad_object(self.alloc, printed));
         }
+        self.add(id, is_excluded)?;
         Ok(())
     }
 
     /// Adds what the references stand for whose names begin with a text, and match a pattern behind
     /// it if there is one.
+    ///
+    /// # Errors
+    ///
+    /// `Fatal`, as in git, for the first of them that is broken or whose object is not there.
     pub(crate) fn add_references(
         &mut self,
         session: &mut Session<'_>,
@@ -223,12 +263,20 @@ impl Starts {
             None => None,
         };
         let listing = session.repository.list_references(front.as_bytes())?;
+        let broken = first_broken(self.alloc, &listing.skipped, whole.as_deref())?;
         for listed in listing.references.iter() {
+            if comes_before(broken, &listed.name) {
+                break;
+            }
             if matches_pattern(self.alloc, whole.as_deref(), &listed.name)? {
-                self.add_reference(session, &listed.name, listed.id, is_excluded)?;
+                let printed = printed_name(front, &listed.name);
+                self.add_reference(session, printed, listed.id, is_excluded)?;
             }
         }
-        Ok(())
+        match broken {
+            Some(name) => Err(bad_object(self.alloc, printed_name(front, name))),
+            None => Ok(()),
+        }
     }
 
     /// Adds what all references stand for, and what the HEAD of each work tree does.

@@ -9,14 +9,14 @@ use gix_revision::hash::ObjectId;
 use std::alloc::{AllocError, Global};
 use std::collections::{BinaryHeap, HashMap};
 
-/// Has the parents of each commit of a list that the list has, too: by places in the list.
+/// The parents of each commit of a list that the list has, too: by places in the list.
 #[derive(Drop)]
 struct Links {
-    /// Has the places of all parents, those of the first commit first.
+    /// The places of all parents, those of the first commit first.
     parents: Vec<usize>,
-    /// Has the end of each commit's parents among all.
+    /// The end of each commit's parents among all.
     ends: Vec<usize>,
-    /// Has the dates of the commits.
+    /// The dates of the commits.
     times: Vec<i64>,
     /// Tells whether a commit has a parent in the list that is not its first one.
     has_sides: bool,
@@ -79,16 +79,16 @@ fn links_of(session: &mut Session<'_>, list: &[Come]) -> Result<Links, Stop> {
     Ok(links)
 }
 
-/// Is a commit all of whose children came. The greatest comes next.
+/// A commit all of whose children came. The greatest comes next.
 #[derive(Clone, Copy, PartialEq, Eq, PartialOrd, Ord)]
 struct Ready {
     time: i64,
-    /// Is the smaller, the later the commit became ready.
+    /// A number that is smaller the later the commit became ready.
     before: u64,
     place: usize,
 }
 
-/// Has the commits all of whose children came.
+/// The commits all of whose children came.
 #[derive(Drop)]
 struct Front {
     /// Tells whether the newest comes next; else the last that became ready does.
@@ -168,7 +168,7 @@ fn count_children(alloc: Global, links: &Links) -> Result<Vec<u32>, AllocError> 
     Ok(children)
 }
 
-/// Is a list in its order.
+/// A list in its order.
 #[derive(Drop)]
 pub(crate) struct Sorted {
     pub(crate) list: Vec<Come>,

@@ -15,9 +15,9 @@ pub(crate) enum Order {
 #[derive(Clone, Copy)]
 pub(crate) struct Wishes {
     pub(crate) order: Order,
-    /// Has the greatest number of commits to print.
+    /// The greatest number of commits to print.
     pub(crate) most: Option<usize>,
-    /// Has the number of commits to leave out before the first one.
+    /// The number of commits to leave out before the first one.
     pub(crate) skip: usize,
     pub(crate) least_parents: usize,
     pub(crate) most_parents: usize,

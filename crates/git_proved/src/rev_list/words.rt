@@ -8,7 +8,7 @@ use crate::stop::{FATAL, Stop, fatal, not_read};
 use crate::words::Words;
 use std::alloc::Global;
 
-/// Is an option without a value.
+/// An option without a value.
 #[derive(Clone, Copy)]
 enum Plain {
     All,
@@ -27,7 +27,7 @@ enum Plain {
     NoMerges,
 }
 
-/// Is the name of an option without a value.
+/// The name of an option without a value.
 #[derive(Clone, Copy)]
 struct Named {
     text: &'static str,
@@ -106,7 +106,7 @@ static NAMES: [Named; 17] = [
     },
 ];
 
-/// Is an option with a pattern of names.
+/// An option with a pattern of names.
 #[derive(Clone, Copy)]
 struct Globbed {
     text: &'static str,
@@ -129,7 +129,7 @@ static GLOBS: [Globbed; 3] = [
     },
 ];
 
-/// Is an option whose value is a number.
+/// An option whose value is a number.
 #[derive(Clone, Copy)]
 enum Number {
     Most,
@@ -203,10 +203,10 @@ fn whole_number(digits: &[u8]) -> Option<usize> {
     usize::try_from(number).ok()
 }
 
-/// Has what was read of the words.
+/// What was read of the words.
 #[derive(Drop)]
 pub(crate) struct Scan<'w> {
-    /// Has the words that are left.
+    /// The words that are left.
     words: Words<'w>,
     pub(crate) wishes: Wishes,
     pub(crate) starts: Starts,

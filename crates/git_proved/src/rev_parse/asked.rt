@@ -109,7 +109,7 @@ fn key_of(word: &[u8]) -> Option<Key> {
     None
 }
 
-/// Is the value of an option that may have one.
+/// The value of an option that may have one.
 #[derive(Clone, Copy)]
 enum Value<'w> {
     None,
@@ -147,10 +147,10 @@ fn leading_number(alloc: Global, text: &[u8]) -> Result<usize, Stop> {
     }
 }
 
-/// Has what the words ask for so far.
+/// What the words ask for so far.
 #[derive(Clone, Copy)]
 pub(super) struct Asked<'w> {
-    /// Has the words that are not read yet.
+    /// The words that are not read yet.
     words: Words<'w>,
     /// Tells whether `--` is among the words.
     pub(super) has_dashes: bool,
@@ -170,16 +170,16 @@ pub(super) struct Asked<'w> {
     /// unambiguous; `None` in the latter if the setting decides.
     pub(super) short_names: Option<Option<bool>>,
     pub(super) digits: Digits,
-    /// Has the revision that is printed if there is no other.
+    /// The revision that is printed if there is no other.
     pub(super) default: Option<&'w [u8]>,
     /// Counts the revisions of which one is wanted.
     count: usize,
-    /// Has the last of them.
+    /// The last of them.
     last: Option<Tip<'w>>,
 }
 
 impl<'w> Asked<'w> {
-    /// Has read none of the words.
+    /// Returns what is asked for before a word is read.
     pub(super) fn new(words: &'w [&'w [u8]]) -> Asked<'w> {
         Asked {
             words: Words::new(words),

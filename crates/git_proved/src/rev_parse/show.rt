@@ -183,8 +183,8 @@ pub(super) fn show_tip(
     }
 }
 
-/// Prints the revision of `--default`, if nothing was printed in its place. Returns whether it names
-/// an object.
+/// Prints the revision of `--default`, if nothing was printed in its place. Returns whether it
+/// names an object.
 pub(super) fn show_default(session: &mut Session<'_>, asked: &mut Asked<'_>) -> Result<bool, Stop> {
     let Some(text) = asked.default else {
         return Ok(false);
