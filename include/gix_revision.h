@@ -559,7 +559,9 @@ typedef struct {
  * Returns:
  *   GIX_OK
  *   GIX_NONE           No name is found, and how->fallback_to_id is not set.
- *   GIX_NO_COMMIT      The history does not have `commit`.
+ *   GIX_NO_COMMIT      The history does not have `commit` and has to be walked:
+ *                      there are names, but `commit` has none, and
+ *                      how->max_candidates is not 0.
  *   GIX_NO_HOW         how->size is not sizeof(gix_how).
  *   GIX_TOO_MANY       `commit` reaches 2^32 commits or more.
  *   GIX_OUT_OF_MEMORY

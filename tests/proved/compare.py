@@ -2,8 +2,8 @@
 
 Makes repositories in the folder, and asks both the same: fixed commands, and as many random ones as
 COMMANDS says. The answers are the same if the statuses and standard output are. With status 128 or
-129 the program prints nothing on standard output. With 128 its fatal line on standard error is
-git's, and with 0 and 1 its first warning.
+129 the program prints nothing on standard output. With 0, 1 and 128 the errors and warnings on
+standard error are git's, but each once.
 """
 
 from __future__ import annotations
@@ -43,11 +43,14 @@ class Said:
     out: bytes
     err: bytes
 
-    def message(self) -> bytes:
-        """Returns the fatal line, or else the first warning; hints, for example of grafts, and what
-        git says of a commit-graph that it leaves are not compared."""
-        front = b"fatal: " if self.status == 128 else b"warning: "
-        return next((it for it in self.err.split(b"\n") if it.startswith(front)), b"")
+    def messages(self) -> list[bytes]:
+        """Returns what is said of names and of the end, each line once: git may look a name up
+        again, and say the same. Advice, and what git says of a commit-graph that it leaves and of
+        tags that are in a reflog, are not compared."""
+        fronts = (b"fatal: ", b"error: ", b"warning: ", b"hint: The candidates", b"hint:   ")
+        lines = [it for it in self.err.split(b"\n") if it.startswith(fronts)]
+        left_out = (b"commit-graph", b"improper chunk", b" not a commit")
+        return list(dict.fromkeys(it for it in lines if not any(word in it for word in left_out)))
 
 
 def ask(program: list[bytes], command: Command) -> Said:
@@ -129,9 +132,11 @@ class Comparison:
                     self.choices[command.words[0].decode()] += 1
                 return None
             return f"git prints {wanted.out[:120]!r}, here it is {found.out[:120]!r}"
-        says, said = wanted.message()[:120], found.message()[:120]
-        if self.compares_messages and not command.place.twin and says != said:
-            return f"git says {says!r}, here it is {said!r}"
+        if wanted.status == 129 or command.place.twin or not self.compares_messages:
+            return None
+        says, said = wanted.messages(), found.messages()
+        if says != said:
+            return f"git says {b' / '.join(says)[:300]!r}, here it is {b' / '.join(said)[:300]!r}"
         return None
 
     def refusal(self, command: Command, wanted: Said, found: Said) -> str | None:

@@ -7,11 +7,12 @@ from __future__ import annotations
 
 import os
 import shutil
+import subprocess
 
 from questions import Command, each, row, rows
 from repositories import (
-    Repository, Room, chained, digit_names, filed, many_references, odd_names, one_line, siblings,
-    trees,
+    ENVIRONMENT, LOGS, Repository, Room, age, chained, digit_names, filed, kept, logged,
+    many_references, odd_names, one_line, siblings, trees,
 )
 
 WORDS = ("merge-base", "describe", "rev-parse", "rev-list", "for-each-ref")
@@ -327,6 +328,28 @@ def ambiguous(room: Room) -> list[Command]:
     commands += each(made, "rev-parse --short=4", *made.ids, tree)
     commands += [row(made, *f"describe --tags --abbrev=4 {it}".split(" ")) for it
                  in made.git("rev-list", "-n", "12", "many").split("\n")]
+    commands += each(made, "rev-parse", *(it.upper() for it in chosen.values()))
+    return commands + unreadable(room)
+
+
+def unreadable(room: Room) -> list[Command]:
+    """Digits with which objects begin that git cannot read: of an unknown kind, or damaged."""
+    made = one_line(room, "unreadable", 2)
+    # What git says of the objects depends on the damage. It says nothing if it is to be quiet.
+    made.may_be_refused = True
+    for kind, texts in (("bad", ("xyzfaowcoh", "xyzhjpyvwl")), ("blob", ("bnkxmdwz", "bmwsjxzi")),
+                        ("blob", ("brocdnra", "brigddsv"))):
+        ids = [made.git("hash-object", "-t", kind, "-w", "--stdin", "--literally",
+                        data=f"{it}\n".encode()) for it in texts]
+        if texts[0] == "bnkxmdwz":
+            os.chmod(made.loose(ids[1]), 0o644)
+            made.write(f".git/objects/{ids[1][:2]}/{ids[1][2:]}", "broken\n")
+    commands = []
+    for digits in ("bad0", "cafe"):
+        commands += each(made, "rev-parse", digits, f"{digits}^0", f"{digits}..HEAD", f"^{digits}")
+        commands += each(made, "rev-parse -q --verify", digits, is_strict=True)
+        commands += each(made, "rev-list", digits) + each(made, "describe", digits)
+    commands += each(made, "rev-parse", "dead", "DEAD", "dead..HEAD", is_strict=True)
     return commands
 
 
@@ -358,9 +381,43 @@ def branches(room: Room) -> list[Command]:
     for default in ("nothing", "current", "upstream", "simple", "matching", "bad"):
         commands += rows(made, "rev-parse --abbrev-ref @{push}", "rev-parse tracked@{push}",
                          environment=settings("push.default", default))
+    twice = room.copy(made, "siblings of two references")
+    twice.git("update-ref", "refs/remotes/main", "dev")
+    quiet = room.copy(twice, "quiet siblings")
+    quiet.git("config", "core.warnAmbiguousRefs", "false")
+    for place in (twice, quiet):
+        commands += each(place, "rev-parse", "local@{u}", "local@{UPSTREAM}~1", "^local@{u}",
+                         "local@{u}..HEAD", "HEAD...local@{u}^0", "local@{u}^{tree}", "@{u}",
+                         "local@{u}^!", is_strict=True)
+        commands += each(place, "rev-parse -q --verify", "local@{u}", "local@{u}~1")
+        commands += each(place, "rev-list -n 1", "local@{u}", "local@{u}..HEAD~1")
+        commands += each(place, "rev-parse --abbrev-ref", "local@{u}", "main")
+        commands += rows(place, "merge-base local@{u} HEAD", "describe --all local@{u}")
     bare = room.clone(made, "bare clone", "--bare")
     commands += each(bare, "rev-parse", "@{u}", "main@{u}", "HEAD@{0}", "@{0}", "@{1}", "@{-1}",
                      "main@{0}")
+    return commands
+
+
+def reflogs(room: Room) -> list[Command]:
+    """Reflogs with gaps, reflogs that end with another commit, and empty ones."""
+    made = logged(room)
+    commands = []
+    dates = ("2005-05-25", "2030-01-01", *range(1117150319, 1117150382, 10), 1117150320,
+             1117150330, 1117150350, 1117150380)
+    for name in (*LOGS, "junk", "link", "bare", "heads/ended", "nosuch", "HEAD", "@", ""):
+        commands += each(made, "rev-parse", *(f"{name}@{{{it}}}" for it in (*dates, *range(6), 99)),
+                         is_strict=True)
+    for name in ("gap", "ended", "none", ""):
+        few = [f"{name}@{{{it}}}" for it in ("2005-05-25", 1117150351, "2030-01-01", 2, 99)]
+        for text in few:
+            commands += each(made, "rev-parse", f"{text}~1", f"{text}^{{tree}}", f"{text}..HEAD",
+                             f"HEAD...{text}", f"{text}^!", f"^{text}", f"{text}~99")
+        for front in ("rev-parse -q --verify", "rev-parse --symbolic-full-name",
+                      "rev-list --count", "merge-base HEAD", "merge-base --fork-point",
+                      "describe --all"):
+            commands += each(made, front, *few)
+        commands += each(made, "rev-parse -q --verify", *(f"{it}~1" for it in few))
     return commands
 
 
@@ -368,10 +425,8 @@ def working_trees(room: Room) -> list[Command]:
     """Working trees that are clean or dirty, and linked ones."""
     commands = []
     for place in trees(room):
-        name = os.path.basename(place.path)
-        sure = name in ("tree", "longer", "lacking")
         commands += rows(place, "describe --tags --dirty", "describe --tags --dirty=.x",
-                         "describe --always --dirty=", is_strict=sure)
+                         "describe --always --dirty=", is_strict=True)
         commands += rows(place, "describe --tags --dirty --all --long",
                          "describe --always --match=none --dirty", "describe --dirty HEAD",
                          "describe --tags --no-dirty")
@@ -382,9 +437,124 @@ def working_trees(room: Room) -> list[Command]:
         commands += rows(place, "describe --all HEAD~2", "rev-list --all -n 3", "describe --broken",
                          folder=place.path + b"/folder")
     inside = commands[0].place
+    commands += rows(inside, "describe --tags --dirty", "describe --dirty HEAD",
+                     folder=inside.path + b"/.git", is_strict=True)
     commands += common(inside, folder=inside.path + b"/.git")[:6]
     commands += common(inside, folder=inside.path + b"/.git/objects")[:3]
     return commands
+
+
+# Words that ask whether a working tree is dirty.
+DIRTY = ("describe --tags --dirty", "describe --tags --long --dirty=-x", "describe --always --dirty",
+         "describe --tags --abbrev=0 --dirty", "describe --all --dirty=",
+         "describe --tags --exact-match --dirty HEAD", "describe --dirty --no-dirty --tags",
+         "describe --dirty=x --tags --broken HEAD", "describe --tags --dirty --long --abbrev=0",
+         "describe --match nothing --dirty")
+
+
+def changes() -> dict[str, tuple]:
+    """Returns what is done to a clean working tree, by a name: commands, and whether
+    `describe --dirty` has to be answered."""
+    return {
+        "kept": ((), True),
+        "same size": (("printf '%s\\n' CONTENT.1 >folder/file",), True),
+        "other size": (("echo longer content >folder/file",), True),
+        "touched": (("touch a folder/run",), True),
+        "gone": (("rm folder/file",), True),
+        "folder gone": (("rm -r folder",), True),
+        "staged": (("echo staged >a", "git add a"), True),
+        "staged and undone": (("echo staged >a", "git add a", "echo 'content 0' >a"), True),
+        "added": (("echo new >new", "git add new"), True),
+        "added and gone": (("echo new >new", "git add new", "rm new"), True),
+        "removed": (("git rm -q --cached a",), True),
+        "to be added": (("echo new >new", "git add -N new"), True),
+        "to be added and gone": (("echo new >new", "git add -N new", "rm new"), True),
+        "mode": (("chmod -x folder/run",), True),
+        "mode that does not count": (("git config core.fileMode false", "chmod +x a"), True),
+        "link elsewhere": (("ln -sfn elsewhere link",), True),
+        "link in place of a file": (("rm a", "ln -s folder/file a"), True),
+        "folder in place of a file": (("rm a", "mkdir a", "echo x >a/x"), True),
+        "link in place of a folder": (("mv folder moved", "ln -s moved folder"), True),
+        "repository in place of a file": (("rm a", "git init -q a"), False),
+        "not looked at": (("git update-index --assume-unchanged a", "echo other >a"), True),
+        "left out": (("git update-index --skip-worktree a", "rm a"), True),
+        "left out of a sparse checkout": (
+            ("git sparse-checkout set --no-cone /folder/",), True),
+        "there although left out": (
+            ("git sparse-checkout set --no-cone /folder/", "echo other >a"), False),
+        "no index": (("rm .git/index",), True),
+        "read anew": (("git read-tree HEAD",), True),
+        "racy": (("git config core.trustctime true", "touch a", "git update-index --refresh"), True),
+        "committed": (("echo more >more", "git add more", "git commit -q -m more"), True),
+        "minimal": (("git config core.checkStat minimal", "cp -p a b", "mv b a"), True),
+        "unmerged": (
+            ("git checkout -q -b other HEAD~1", "echo other >a", "git add a",
+             "git commit -q -m other", "git merge -q main || true"), True),
+        "split": (("git update-index --split-index",), False),
+        "sparse": (("git sparse-checkout set --cone --sparse-index folder",), False),
+        "untracked": (("git update-index --untracked-cache --force-untracked-cache",), True),
+        "line ends": (("git config core.autocrlf true", "touch a"), True),
+        "other line ends": (
+            ("git config core.autocrlf input", "printf 'x\\r\\n' >a", "git add a",
+             "git commit -q -m crlf", "touch a"), False),
+        "filter": (("echo '* filter=x' >.gitattributes", "touch a"), False),
+        "harmless attributes": (("echo '* -diff' >.gitattributes", "touch a"), True),
+        "empty submodule": (
+            ("git init -q sub", "git -C sub commit -q --allow-empty -m sub", "git add sub",
+             "git commit -q -m sub", "rm -rf sub", "mkdir sub"), True),
+        "submodule": (
+            ("git init -q sub", "git -C sub commit -q --allow-empty -m sub", "git add sub",
+             "git commit -q -m sub"), False),
+        "damaged": (("printf x | dd of=.git/index bs=1 seek=100 conv=notrunc status=none",), False),
+        "monitored": (("git config core.fsmonitor /nosuch",), False),
+        "unborn": (("git symbolic-ref HEAD refs/heads/unborn",), True),
+    }
+
+
+def indexes(room: Room) -> list[Command]:
+    """Working trees with indexes of all versions, and with changes of each kind."""
+    commands = []
+    for version in (2, 3, 4):
+        place = kept(room, f"index {version}", version)
+        commands += rows(place, *DIRTY, is_strict=True)
+        commands += rows(place, *DIRTY[:2], folder=place.path + b"/folder", is_strict=True)
+        place.write("new", "new\n")
+        place.git("add", "-N", "new")
+        commands += rows(room.copy(place, f"added later {version}"), *DIRTY, is_strict=True)
+    base = kept(room, "to change", 4)
+    for name, (lines, sure) in changes().items():
+        place = room.copy(base, f"with {name}")
+        age(place)
+        for line in lines:
+            subprocess.run(["sh", "-c", line], cwd=place.path, env=ENVIRONMENT, check=True,
+                           capture_output=True)
+        # Git leaves the index as it is, so that both programs read the same one.
+        place.write(".git/index.lock", "")
+        place.may_be_refused = not sure
+        commands += rows(place, *DIRTY[:5], is_strict=sure)
+    bare = room.clone(base, "bare of files", "--bare")
+    commands += rows(bare, *DIRTY, is_strict=True)
+    return commands + elsewhere(room, base)
+
+
+def elsewhere(room: Room, base: Repository) -> list[Command]:
+    """Working trees and indexes in other places."""
+    away = {"folder": room.path("nowhere"), "is_strict": True}
+    git_folder = base.path + b"/.git"
+    commands = []
+    for before in ((b"--git-dir", git_folder, b"--work-tree", base.path),
+                   (b"-C", base.path + b"/folder"), (b"--git-dir", git_folder)):
+        commands += rows(base, *DIRTY[:2], before=before, **away)
+    other = room.copy(base, "with a second index")
+    other.git("read-tree", "HEAD~1")
+    os.rename(other.path + b"/.git/index", other.path + b"/.git/second")
+    for path in (b".git/second", other.path + b"/.git/second", b".git/nosuch"):
+        commands += rows(other, *DIRTY[:2], environment={b"GIT_INDEX_FILE": path}, is_strict=True)
+        commands += rows(other, *DIRTY[:2], environment={b"GIT_INDEX_FILE": path},
+                         folder=other.path + b"/folder", is_strict=True)
+    apart = room.copy(base, "with a work tree elsewhere")
+    apart.git("config", "core.worktree", base.path)
+    return commands + rows(apart, *DIRTY[:3], is_strict=True)
 
 
 def unusual(room: Room) -> list[Command]:
@@ -602,6 +772,15 @@ def nowhere(room: Room) -> list[Command]:
         commands += common(place, "describe --tags --exact-match", "describe --all --match *",
                            "describe --all", f"rev-parse {head}", f"rev-parse {head[:8]}",
                            f"rev-parse {head}~1", f"rev-parse {head}~1..HEAD")
+    refused = room.copy(base, "refused name")
+    refused.write(".git/refs/heads/a b", head + "\n")
+    both = room.copy(garbage, "garbage and a gone branch")
+    both.write(".git/refs/heads/first", "1234" * 10 + "\n")
+    for place in (gone, lacking, garbage, circle, dangling, refused, both):
+        commands += rows(place, "rev-list --all", "rev-list --count --branches",
+                         "rev-list --count --branches=*", "rev-list --count --branches=ma*",
+                         "rev-list --tags", "rev-list --count HEAD --not --tags",
+                         "rev-list --count HEAD --not --all", is_strict=True)
     commands += each(gone, "rev-parse", "gone", "gone^0", "gone~1") + each(garbage, "rev-parse",
         "empty", "garbage", "short", "heads/empty")
     commands += each(circle, "rev-parse", "round", "heads/round") + each(lacking, "rev-parse",
@@ -681,7 +860,7 @@ def hostile(room: Room) -> list[Command]:
 
 def many(room: Room) -> list[Command]:
     """Many references, many arguments and many options."""
-    made = many_references(room, 8000)
+    made = many_references(room, 60000)
     names = made.names
     commands = common(made)
     commands += [
@@ -703,8 +882,8 @@ def many(room: Room) -> list[Command]:
     return commands
 
 
-MAKERS = (names, digits, branches, working_trees, unusual, graphs, lost, nowhere, ties, crossed,
-          hostile, many)
+MAKERS = (names, digits, branches, reflogs, working_trees, indexes, unusual, graphs, lost, nowhere, ties,
+          crossed, hostile, many)
 
 
 def remove_made(room: Room) -> None:

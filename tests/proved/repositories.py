@@ -302,6 +302,42 @@ def siblings(room: Room) -> Repository:
     return with_names(made)
 
 
+# Reflogs by branch: which commit the branch has, and each entry's old and new commit, date and time
+# zone. Commits are numbers, and 0 is none.
+LOGS = {
+    "gap": (6, ((1, 2, 1117150320, "+0130"), (3, 4, 1117150350, "+0130"),
+                (5, 6, 1117150380, "-0500"))),
+    "ended": (4, ((1, 2, 1117150320, "-0030"), (2, 3, 1117150350, "-0030"))),
+    "again": (6, ((0, 2, 1117150320, "+0000"), (2, 0, 1117150330, "+0000"),
+                  (0, 5, 1117150350, "+0000"), (5, 6, 1117150380, "+0000"))),
+    "falling": (6, ((1, 2, 1117150380, "+0000"), (2, 3, 1117150320, "+0000"),
+                    (4, 6, 1117150350, "+0000"))),
+    "early": (3, ((0, 2, 1, "+0000"), (2, 3, 5, "+0000"))),
+    "none": (3, ()),
+}
+
+
+def logged(room: Room) -> Repository:
+    """Makes branches with the reflogs of LOGS, a tag with a reflog, and one for HEAD."""
+    made = one_line(room, "logged", 6)
+    ids = ["0" * 40, *made.ids]
+    for name, (at, entries) in LOGS.items():
+        made.git("update-ref", f"refs/heads/{name}", ids[at])
+        text = "".join(f"{ids[old]} {ids[new]} a <a@example.org> {date} {zone}\ttext\n"
+                       for old, new, date, zone in entries)
+        made.write(f".git/logs/refs/heads/{name}", text)
+    made.write(".git/logs/refs/heads/junk", "no entry\n")
+    made.git("branch", "junk", made.ids[2])
+    # A tag of a branch's name, a branch without a reflog, and a symbolic one.
+    made.git("tag", "ended", made.ids[1])
+    shutil.copytree(made.path + b"/.git/logs/refs/heads", made.path + b"/.git/logs/refs/tags")
+    made.git("update-ref", "refs/heads/bare", made.ids[1])
+    made.git("symbolic-ref", "refs/heads/link", "refs/heads/gap")
+    made.git("symbolic-ref", "HEAD", "refs/heads/gap")
+    shutil.copy(made.path + b"/.git/logs/refs/heads/ended", made.path + b"/.git/logs/HEAD")
+    return made
+
+
 def trees(room: Room) -> list[Repository]:
     """Makes working trees: clean, clean but for times, changed, and without a file. All stat data
     is older than the index."""
@@ -329,6 +365,33 @@ def trees(room: Room) -> list[Repository]:
     by_name["staged"].git("add", "folder")
     by_name["touched"].git("update-ref", "refs/worktree/own", "HEAD~2")
     return copies
+
+
+def kept(room: Room, name: str, version: int = 2) -> Repository:
+    """Makes a clean working tree, with an index of this version. All files are older than it."""
+    made = one_line(room, name, 3)
+    made.git("config", "index.version", str(version))
+    made.git("reset", "-q")
+    for number, file in enumerate(("a", "folder/file", "folder/file.txt", "folder/run", "z" * 250)):
+        made.write(file, f"content {number}\n")
+    os.chmod(made.path + b"/folder/run", 0o755)
+    os.symlink("folder/file", made.path + b"/link")
+    made.git("add", ".")
+    made.git("commit", "-q", "-m", "files", date=1_000_001_000)
+    made.git("tag", "v1", "HEAD~1")
+    age(made)
+    return made
+
+
+def age(place: Repository) -> None:
+    """Makes all files of a working tree older than its index, which notes their times."""
+    listed = subprocess.run(["git", "ls-files", "-z"], cwd=place.path, env=ENVIRONMENT,
+                            capture_output=True, check=True).stdout
+    for file in listed.split(b"\0")[:-1]:
+        path = os.path.join(place.path, file)
+        if os.path.lexists(path):
+            os.utime(path, (10**9, 10**9), follow_symlinks=False)
+    place.git("update-index", "-q", "--refresh")
 
 
 def chained(room: Room, of: Repository, name: str) -> Repository:

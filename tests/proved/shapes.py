@@ -91,8 +91,6 @@ def refused_option(word: bytes, option: bytes) -> str | None:
     if not is_read(word, option):
         return "an option"
     name, mark, value = option.partition(b"=")
-    if name in (b"--dirty", b"--broken"):
-        return "--dirty"
     if name == b"--sort" and value not in (b"refname", b"-refname"):
         return "an order"
     if word == b"for-each-ref" and name == b"--format":

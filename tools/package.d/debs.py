@@ -39,11 +39,9 @@ WHAT = """\
 OVERRIDES = {
     "gix-revision-proved": """\
 # The programs are byte for byte those that were proved and built.
-gix-revision-proved: unstripped-binary-or-object [usr/libexec/gix_revision/bin/git-proved]
-gix-revision-proved: unstripped-binary-or-object [usr/libexec/gix_revision/bin/revtool]
+gix-revision-proved: unstripped-binary-or-object [usr/libexec/gix_revision/bin/*]
 # They are not compiled from C.
-gix-revision-proved: hardening-no-fortify-functions [usr/libexec/gix_revision/bin/git-proved]
-gix-revision-proved: hardening-no-fortify-functions [usr/libexec/gix_revision/bin/revtool]
+gix-revision-proved: hardening-no-fortify-functions [usr/libexec/gix_revision/bin/*]
 """,
 }
 
