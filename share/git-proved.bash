@@ -28,7 +28,8 @@ _git_proved() {
             ;;
         describe,-*)
             __gitcomp "--all --tags --long --abbrev= --exact-match \
-                --candidates= --first-parent --always --match= --exclude="
+                --candidates= --first-parent --always --match= --exclude= \
+                --dirty --dirty="
             ;;
         rev-parse,-*)
             __gitcomp "--verify --quiet --short --short= \
