@@ -36,11 +36,18 @@ use std::alloc::{AllocError, Allocator};
 pub struct Number(u32);
 
 impl Number {
+    /// The number of no id.
+    pub(crate) const UNUSED: Number = Number(u32::MAX);
+
     /// Returns the number of a place, or fails if there are no more numbers.
     #[inline(always)]
     pub(crate) fn at(place: usize) -> Result<Number, AllocError>
-        ensures { IfOk result (λ number. place_in number ≡ place) }
+        ensures number { IfOk result (λ number. place_in number ≡ place) }
+        ensures used { IfOk result (λ number. place_in number < 4294967295) }
     {
+        if place >= u32::MAX as usize {
+            return Err(AllocError);
+        }
         match u32::try_from(place) {
             Ok(number) => Ok(Number(number)),
             Err(_) => Err(AllocError),
@@ -148,6 +155,7 @@ fn push_node<T: Drop, A: Allocator>(
     value: T,
 ) -> Result<Number, AllocError>
     ensures number { IfOk result (λ n. place_in n ≡ length nodes.old.items) }
+    ensures used { IfOk result (λ n. place_in n < 4294967295) }
     ensures nodes { OnOk result (nodes.new.items ≡ nodes.old.items
         ++ record { id = id; row = None; turn = 0; queued = 0; value = value } ∷ []) }
     ensures refused { OnErr result (nodes.new.items ≡ nodes.old.items) }

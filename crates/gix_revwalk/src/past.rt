@@ -7,14 +7,15 @@
 //! The *spot* of an id is its place in this memory. A spot that a caller passes is a guess: the id
 //! stored there is compared, and a wrong guess costs a look-up by hash.
 
-ghost use Rattle.std.specs.Prelude.{IsTrue, ◌≡◌, ◌≤◌, ◌+◌, [], is_some, false, cond, Some, None, IfSome, IfOk, OnOk, OnErr, map, take, drop, length};
+ghost use Rattle.std.specs.Prelude.{IsTrue, ◌≡◌, ◌<◌, ◌≤◌, ◌+◌, [], is_some, false, cond, Some, None, IfSome, IfOk, OnOk, OnErr, map, take, drop, length};
 ghost use Rattle.std.specs.Option.{option_map};
 ghost use Rattle.std.specs.Int.{w64, to_le_bytes, from_le_bytes};
 ghost use Rattle.gix_base.specs.declared.hash.ObjectId.{ObjectId};
 ghost use Rattle.gix_revwalk.specs.History.{same_id};
 ghost use Rattle.gix_revwalk.specs.Words.{eight_from};
 ghost use Rattle.gix_revwalk.specs.Number.{place_in};
-ghost use Rattle.gix_revwalk.specs.Pasts.{home_in, told_in, spot_in, link_id, SameHomes, SameTold};
+ghost use Rattle.gix_revwalk.specs.Numbers.{item_at};
+ghost use Rattle.gix_revwalk.specs.Pasts.{home_in, home_with, told_in, spot_in, link_id, SameHomes, SameTold};
 
 use crate::graph::Row;
 use crate::numbers::Number;
@@ -27,13 +28,36 @@ use std::marker::Model;
 /// What is remembered about one id.
 #[derive(Clone, Copy)]
 pub(crate) struct Memory {
-    /// Its number when it was last held.
-    pub(crate) home: Option<Number>,
-    /// Where its parents are stored, once the source has returned its commit.
-    pub(crate) row: Option<Row>,
-    /// Its time if there is a row; 0 otherwise.
+    /// Its number when it was last held; [`Number::UNUSED`] if it never was.
+    pub(crate) home: Number,
+    /// The place of what the source returned for it; [`UNTOLD`] if it has returned nothing.
+    pub(crate) answer: u32,
+}
+
+impl Memory {
+    /// Returns the number that its id had when it was last held.
+    #[inline(always)]
+    fn home(self) -> Option<Number>
+        ensures { option_map place_in result ≡ home_with (Some self) }
+    {
+        if self.home.place() == UNTOLD as usize {
+            None
+        } else {
+            Some(self.home)
+        }
+    }
+}
+
+/// What the source returned for a commit.
+#[derive(Clone, Copy)]
+pub(crate) struct Answer {
+    /// Where the parents are stored.
+    pub(crate) row: Row,
     pub(crate) time: i64,
 }
+
+/// Stands for no answer: no answer has this place.
+const UNTOLD: u32 = u32::MAX;
 
 /// A parent of a commit, and a guess at its spot.
 #[derive(Clone, Copy)]
@@ -86,6 +110,7 @@ pub(crate) fn is_same(a: &ObjectId, b: &ObjectId) -> bool
 #[derive(Drop)]
 pub(crate) struct Past<A: Allocator> {
     memories: IndexMap<ObjectId, Memory, Seed, A>,
+    answers: Vec<Answer, A>,
     parents: Vec<ObjectId, A>,
     /// A guess at the spot of each parent, as far as these were looked up.
     guesses: Vec<usize, A>,
@@ -96,9 +121,13 @@ impl<A: Allocator> Model for Past<A> {
 
     ghost Value = { Pasts };
 
-    ghost view = { λ p. record { kept = p.memories.entries; parents = p.parents.items } };
+    ghost view = { λ p. record {
+      kept = p.memories.entries;
+      answers = p.answers.items;
+      parents = p.parents.items;
+    } };
 
-    ghost invariant = { λ p. ArePast p.memories.entries p.parents.items };
+    ghost invariant = { λ p. ArePast p.memories.entries p.answers.items p.parents.items };
 }
 
 impl<A: Allocator + Copy> Past<A> {
@@ -109,6 +138,7 @@ impl<A: Allocator + Copy> Past<A> {
     {
         Past {
             memories: IndexMap::with_hasher(alloc, seed),
+            answers: Vec::new(alloc),
             parents: Vec::new(alloc),
             guesses: Vec::new(alloc),
         }
@@ -149,9 +179,17 @@ impl<A: Allocator> Past<A> {
         ensures { option_map place_in result ≡ home_in self.now id.now }
     {
         match self.spot(id, guess) {
-            Some(spot) => self.memories[spot].home,
+            Some(spot) => self.memories[spot].home(),
             None => None,
         }
+    }
+
+    /// Returns what the source returned for an id, by what is remembered about it.
+    #[inline(always)]
+    fn answer(&self, memory: Memory) -> Option<Answer>
+        ensures { result ≡ item_at self.now.answers memory.answer }
+    {
+        self.answers.get(memory.answer as usize).copied()
     }
 
     /// Returns the spot of an id and its time, if the source has returned its commit.
@@ -161,13 +199,10 @@ impl<A: Allocator> Past<A> {
         ensures spot { IfSome result (λ r. spot_in self.now id.now ≡ Some r.0) }
     {
         match self.spot(id, guess) {
-            Some(spot) => {
-                let memory = self.memories[spot];
-                match memory.row {
-                    Some(_) => Some((spot, memory.time)),
-                    None => None,
-                }
-            }
+            Some(spot) => match self.answer(self.memories[spot]) {
+                Some(answer) => Some((spot, answer.time)),
+                None => None,
+            },
             None => None,
         }
     }
@@ -184,9 +219,8 @@ impl<A: Allocator + Copy> Past<A> {
             return Ok(guess);
         }
         let memory = Memory {
-            home: None,
-            row: None,
-            time: 0,
+            home: Number::UNUSED,
+            answer: UNTOLD,
         };
         let Ok((spot, known)) = self.memories.insert_full(id, memory) else {
             return Err(AllocError);
@@ -201,13 +235,14 @@ impl<A: Allocator + Copy> Past<A> {
     /// Remembers the number of an id whose spot is known.
     #[inline(always)]
     pub(crate) fn settle_at(&mut self, id: ObjectId, spot: usize, home: Number)
-        requires { spot_in self.old id ≡ Some spot }
+        requires spot { spot_in self.old id ≡ Some spot }
+        requires used { place_in home < 4294967295 }
         ensures homes { (q : ObjectId)
             → home_in self.new q ≡ cond (same_id id q) (Some (place_in home)) (home_in self.old q) }
         ensures told { SameTold self.old self.new }
     {
         let memory = &mut self.memories[spot];
-        memory.home = Some(home);
+        memory.home = home;
     }
 
     /// Remembers the number of an id, and returns its spot.
@@ -217,6 +252,7 @@ impl<A: Allocator + Copy> Past<A> {
         guess: usize,
         home: Number,
     ) -> Result<usize, AllocError>
+        requires { place_in home < 4294967295 }
         ensures homes { OnOk result ((q : ObjectId)
             → home_in self.new q ≡ cond (same_id id q) (Some (place_in home)) (home_in self.old q)) }
         ensures told { SameTold self.old self.new }
@@ -227,6 +263,22 @@ impl<A: Allocator + Copy> Past<A> {
         };
         self.settle_at(id, spot, home);
         Ok(spot)
+    }
+
+    /// Returns the place of the next answer, or fails if there are no more places.
+    fn next_answer(&self) -> Result<u32, AllocError>
+        ensures { IfOk result (λ k. (k ≡ length self.now.answers) × (k < 4294967295)) }
+    {
+        match u32::try_from(self.answers.len()) {
+            Ok(place) => {
+                if place == UNTOLD {
+                    Err(AllocError)
+                } else {
+                    Ok(place)
+                }
+            }
+            Err(_) => Err(AllocError),
+        }
     }
 
     /// Remembers what the source returned for an id, and returns its spot.
@@ -248,12 +300,17 @@ impl<A: Allocator + Copy> Past<A> {
         let Ok(row) = Row::of(start, parents.len()) else {
             return Err(AllocError);
         };
+        let Ok(place) = self.next_answer() else {
+            return Err(AllocError);
+        };
         let Ok(()) = self.parents.extend_from_slice(parents) else {
             return Err(AllocError);
         };
+        let Ok(()) = self.answers.push(Answer { row, time }) else {
+            return Err(AllocError);
+        };
         let memory = &mut self.memories[spot];
-        memory.row = Some(row);
-        memory.time = time;
+        memory.answer = place;
         Ok(spot)
     }
 
@@ -288,7 +345,10 @@ impl<A: Allocator + Copy> Past<A> {
         ensures fits { IfSome result (λ r. r.start + r.len ≤ length self.now.parents) }
     {
         match self.spot(id, guess) {
-            Some(spot) => self.memories[spot].row,
+            Some(spot) => match self.answer(self.memories[spot]) {
+                Some(answer) => Some(answer.row),
+                None => None,
+            },
             None => None,
         }
     }

@@ -3,8 +3,11 @@ use Rattle.gix_revwalk.specs.History.{same_id}
 use Rattle.gix_revwalk.specs.Number.{place_in}
 use Rattle.gix_revwalk.proofs.past.Past.settle.Goals as goal
 
-pub settle_at-requires : goal.settle_at-requires
-settle_at-requires g c = c.in-Ok.ensures.spot
+pub settle_at-requires-clause-spot : goal.settle_at-requires-clause-spot
+settle_at-requires-clause-spot g c = c.in-Ok.ensures.spot
+
+pub settle_at-requires-clause-used : goal.settle_at-requires-clause-used
+settle_at-requires-clause-used g c = c.requires
 
 pub returns-clause-homes : goal.returns-clause-homes
 returns-clause-homes g c q = c.settle_at.ensures.homes q ∙ ap (cond (same_id c.args.id q) (Some (place_in c.args.home))) (c.in-Ok.ensures.homes q)
