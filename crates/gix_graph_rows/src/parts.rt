@@ -5,14 +5,11 @@ use crate::source::Source;
 use gix_base::hash::ObjectId;
 use gix_ids::Span;
 use gix_odb::files::Opened;
-use gix_pack::part::{Told, guess, near, position};
+use gix_pack::part::{NEAR, Told, around, near, position};
 use std::alloc::Allocator;
 
 /// How many bytes of ids are kept of a file. If there are more, all are dropped.
 const MOST_KEPT: usize = 1 << 26;
-
-/// How many ids are read around the position where one should be.
-const NEAR: usize = 256;
 
 /// What was read of the ids with the same first byte.
 #[derive(Drop)]
@@ -104,17 +101,12 @@ impl<A: Allocator + Copy> Parts<A> {
         id: ObjectId,
         span: Span,
     ) -> Result<Told, Error> {
-        let count = span.high.saturating_sub(span.low);
-        let from = guess(id, count).saturating_sub(NEAR / 2);
-        let place = (span.low.saturating_add(from) as u64).saturating_mul(20);
-        let len = count.saturating_sub(from).min(NEAR);
-        source.read_into(
-            ids.saturating_add(place),
-            len.saturating_mul(20),
-            &mut self.few,
-        )?;
+        let Span { low, high } = around(id, span);
+        let at = ids.saturating_add((low as u64).saturating_mul(20));
+        let len = high.saturating_sub(low).saturating_mul(20);
+        source.read_into(at, len, &mut self.few)?;
         match near(&self.few, id) {
-            Told::At(k) => Ok(Told::At(from.saturating_add(k))),
+            Told::At(k) => Ok(Told::At(low.saturating_sub(span.low).saturating_add(k))),
             told => Ok(told),
         }
     }

@@ -9,15 +9,13 @@ use gix_base::hash::ObjectId;
 use gix_ids::Span;
 use gix_pack::index::OpenFault;
 use gix_pack::part::{
-    HEAD_LEN, Head, Offset, Told, guess, near, position, read_large_offset, read_offset, search,
+    HEAD_LEN, Head, NEAR, Offset, Told, around, near, position, read_large_offset, read_offset,
+    search,
 };
 use std::alloc::Allocator;
 
 /// How many bytes of ids and offsets are kept of an index. If there are more, all are dropped.
 const MOST_KEPT: usize = 1 << 26;
-
-/// How many ids are read around the position where one should be.
-const NEAR: usize = 256;
 
 /// Keeps the ids that begin with one byte, and the words of their offsets.
 #[derive(Drop)]
@@ -124,15 +122,12 @@ impl<O: Opened, A: Allocator + Copy> Index<O, A> {
 
     /// Returns what the ids around the position where an id should be tell of it.
     fn told(&mut self, id: ObjectId) -> Result<Told, Fault> {
-        let Span { low, high } = self.head.span(id.0[0]);
-        let count = high.saturating_sub(low);
-        let from = low.saturating_add(guess(id, count).saturating_sub(NEAR / 2));
-        let len = high.saturating_sub(from).min(NEAR);
-        let at = self.head.id_place(u32::try_from(from).unwrap_or(u32::MAX));
-        self.source
-            .read_into(at, len.saturating_mul(20), &mut self.few)?;
+        let Span { low, high } = around(id, self.head.span(id.0[0]));
+        let at = self.head.id_place(u32::try_from(low).unwrap_or(u32::MAX));
+        let len = high.saturating_sub(low).saturating_mul(20);
+        self.source.read_into(at, len, &mut self.few)?;
         match near(&self.few, id) {
-            Told::At(k) => Ok(Told::At(from.saturating_add(k))),
+            Told::At(k) => Ok(Told::At(low.saturating_add(k))),
             told => Ok(told),
         }
     }

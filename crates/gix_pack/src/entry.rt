@@ -34,8 +34,8 @@ pub struct Entry {
 fn offset_delta(rest: &[u8]) -> Option<(Body, usize)>
     ensures { MatchOption result ((body : Body) → (n : ℕ) → ¬ HasBody 6 rest.now body n) (λ p. HasBody 6 rest.now p.0 p.1 × (p.1 ≤ length rest.now)) }
 {
-    let n = numbers::number_length(rest)?;
-    Some((Body::OffsetDelta(numbers::high_first(&rest[..n])), n))
+    let (distance, n) = numbers::distance(rest)?;
+    Some((Body::OffsetDelta(distance), n))
 }
 
 /// Reads the id of the base of a delta, and its length in bytes.

@@ -4,6 +4,7 @@
 //! - [`part`]: parts of an index that is not read whole.
 //! - [`entry`]: the header of an entry of a pack.
 //! - [`delta`]: deltas between objects.
+//! - [`numbers`]: numbers of a variable length. git's index has them, too.
 //!
 //! What a zlib stream inflates to is the matter of another crate.
 #![tactic(auto)]
@@ -12,5 +13,5 @@ pub mod delta;
 pub mod entry;
 pub mod index;
 pub mod laws;
-mod numbers;
+pub mod numbers;
 pub mod part;

@@ -1,4 +1,4 @@
-//! Reads numbers of a variable length (gitformat-pack, "Size encoding").
+//! Reads numbers of a variable length (gitformat-pack, "Size encoding" and "offset encoding").
 
 ghost use Rattle.std.specs.Prelude.{◌≡◌, ◌+◌, ◌*◌, ◌%◌, ◌^◌, ◌<◌, ◌≤◌, length, take, MatchOption, IfSome};
 ghost use Rattle.gix_pack.specs.PackNumbers.{going_on, HasNumber, number_length, number_bytes, low_first, high_after, high_first};
@@ -60,11 +60,25 @@ fn high_after(first: u64, rest: &[u8]) -> u64
 }
 
 /// Reads the distance that up to 9 bytes say, the most significant byte first.
-pub(crate) fn high_first(bytes: &[u8]) -> u64
+fn high_first(bytes: &[u8]) -> u64
     requires some { 1 ≤ length bytes.now }
     requires few { length bytes.now ≤ 9 }
     ensures { result ≡ high_first bytes.now }
 {
     let (_, rest) = bytes.split_at(1);
     high_after(u64::from(bytes[0] % 128), rest)
+}
+
+/// Reads the distance at the beginning of a text, the most significant byte first, and returns it with
+/// the number of its bytes.
+///
+/// Returns `None` if the text does not begin with a number of at most 9 bytes.
+pub fn distance(text: &[u8]) -> Option<(u64, usize)>
+    ensures number { MatchOption result (¬ HasNumber text.now) (λ p. HasNumber text.now
+        × (p.0 ≡ high_first (number_bytes text.now)) × (p.1 ≡ number_length text.now)) }
+    ensures within { IfSome result (λ p. p.1 ≤ length text.now) }
+    ensures short { IfSome result (λ p. p.1 ≤ 9) }
+{
+    let n = number_length(text)?;
+    Some((high_first(&text[..n]), n))
 }

@@ -21,6 +21,9 @@ use std::marker::Model;
 /// The length of the head of an index: header and fanout table.
 pub const HEAD_LEN: usize = 1032;
 
+/// How many ids are read around the position where one should be.
+pub const NEAR: usize = 256;
+
 /// The head of an index, read in place.
 ///
 /// The bytes are owned, or borrowed as `Head<&[u8]>`.
@@ -203,9 +206,25 @@ pub fn near(ids: &[u8], id: ObjectId) -> Told
 ///
 /// It takes the next four bytes of `id` as a share of `count`, since ids are hashes. Nothing is
 /// promised of a guess.
-pub fn guess(id: ObjectId, count: usize) -> usize {
+fn guess(id: ObjectId, count: usize) -> usize {
     let next = u32::from_be_bytes([id.0[1], id.0[2], id.0[3], id.0[4]]);
     ((count as u64).saturating_mul(u64::from(next)) >> 32) as usize
+}
+
+/// Returns the positions of up to [`NEAR`] ids around the one where `id` should be, within the
+/// positions of the ids with its first byte.
+pub fn around(id: ObjectId, span: Span) -> Span
+    ensures low { span.low ≤ result.low }
+    ensures order { result.low ≤ result.high }
+    ensures high { span.low ≤ span.high → result.high ≤ span.high }
+    ensures few { result.high ≤ result.low + 256 }
+{
+    let count = span.high.saturating_sub(span.low);
+    let low = span.low + guess(id, count).saturating_sub(NEAR / 2).min(count);
+    Span {
+        low,
+        high: low + span.high.saturating_sub(low).min(NEAR),
+    }
 }
 
 /// Returns the id at a position of `ids`, which have 20 bytes each; `None` past the last one.
