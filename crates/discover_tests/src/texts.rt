@@ -1,7 +1,7 @@
 //! Reads the texts of the tables, and compares with git's answers.
 
 use crate::tables::ROWS;
-use gix_discover::config::{Entry, ParseError, boolean, entries, number};
+use gix_config::{Entry, ParseError, boolean, entries, number};
 use gix_discover::{grafts, shallow};
 use std::alloc::{AllocError, Global};
 use std::test::Fail;

@@ -1,8 +1,8 @@
 //! Reads the settings of `git -c`, which come by the environment.
 
-use crate::config::{Entry, is_blank, key_name};
 use crate::environment::{Environment, Pair, Variable};
 use crate::error::{DiscoverError, Reason, about};
+use gix_config::{Entry, is_blank, key_name};
 use std::alloc::{AllocError, Allocator};
 
 /// Returns the setting with a key and a value.

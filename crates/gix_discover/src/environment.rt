@@ -1,7 +1,7 @@
 //! Has the environment variables that git reads (git, "Environment variables").
 
-use crate::config::{boolean, decimal};
 use crate::error::{DiscoverError, Reason};
+use gix_config::{boolean, decimal};
 use std::alloc::{AllocError, Allocator, Global};
 use std::env::{Env, FillError};
 

@@ -1,9 +1,9 @@
 //! Reads the format of a repository (gitrepository-layout, "Git Repository Format Versions").
 
-use crate::config::{Entry, ParseError, boolean, entries, is_name, number, value_of};
 use crate::error::{DiscoverError, Reason, about};
 use crate::paths::within;
 use crate::source::read_file;
+use gix_config::{Entry, ParseError, boolean, entries, is_name, number, value_of};
 use gix_odb::files::Folders;
 use std::alloc::Allocator;
 

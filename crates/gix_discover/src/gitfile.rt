@@ -3,9 +3,10 @@
 use crate::environment::{Environment, Variable};
 use crate::error::{DiscoverError, Reason, about};
 use crate::head::is_head;
-use crate::paths::{before_zero, resolved, within, without_line_end};
+use crate::paths::{resolved, within, without_line_end};
 use crate::places::{PathKind, Places};
 use crate::source::{is_folder, place, read_file, read_front};
+use gix_config::before_zero;
 use std::alloc::Allocator;
 
 /// How many bytes a file `.git` has at most, as in git.

@@ -1,10 +1,10 @@
 //! Reads `HEAD` (gitrepository-layout, "HEAD").
 
-use crate::config::is_blank;
 use crate::error::DiscoverError;
 use crate::paths::within;
 use crate::source::read_front;
 use gix_base::hash::ObjectId;
+use gix_config::is_blank;
 use gix_odb::files::Folders;
 use std::alloc::Allocator;
 

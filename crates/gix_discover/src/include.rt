@@ -1,7 +1,6 @@
 //! Reads config files with the files that they include (git-config, "Includes").
 
 use crate::command_line;
-use crate::config::{Entry, ParseError, entries, is_name};
 use crate::environment::{Environment, Variable};
 use crate::error::{DiscoverError, Reason, about};
 use crate::head::branch;
@@ -9,6 +8,7 @@ use crate::paths::{absolute, folder_of, is_absolute, joined, resolved, within};
 use crate::places::Places;
 use crate::source::{read_file, reason_of};
 use crate::wildmatch::{Rules, is_match};
+use gix_config::{Entry, ParseError, entries, is_name};
 use std::alloc::Allocator;
 
 /// How deep files include one another at most, as in git.

@@ -14,7 +14,6 @@
 #![tactic(auto)]
 
 mod command_line;
-pub mod config;
 mod environment;
 mod error;
 mod format;

@@ -1,12 +1,12 @@
 //! Checks to whom a repository belongs (git-config, "safe.directory").
 
-use crate::config::{Entry, decimal, is_name};
 use crate::environment::{Environment, Variable};
 use crate::error::{DiscoverError, Reason, about};
 use crate::include::Reader;
 use crate::paths::joined;
 use crate::places::Places;
 use crate::source::reason_of;
+use gix_config::{Entry, decimal, is_name};
 use std::alloc::Allocator;
 
 /// Tells whether a path belongs to the user of the program, or to root's `SUDO_UID`.

@@ -66,14 +66,6 @@ pub(crate) fn without_line_end(text: &[u8]) -> &[u8] {
     rest
 }
 
-/// Returns the bytes before the first zero byte, as C reads a text.
-pub(crate) fn before_zero(text: &[u8]) -> &[u8] {
-    match text.iter().position(|b| *b == 0) {
-        Some(at) => text.get(..at).unwrap_or(text),
-        None => text,
-    }
-}
-
 /// Returns the absolute path of a path, by the path of the current folder, without `.` and `..`.
 pub(crate) fn absolute<A: Allocator>(
     alloc: A,

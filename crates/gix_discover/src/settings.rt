@@ -2,10 +2,10 @@
 
 ghost use Rattle.std.specs.Prelude.{◌≡◌, IfOk};
 ghost use Rattle.std.specs.Option.{option_map};
-ghost use Rattle.gix_discover.specs.Names.{name_of};
-ghost use Rattle.gix_discover.specs.Values.{shown, all_shown, values_of, last_value, settings_of};
+ghost use Rattle.gix_config.specs.Names.{name_of};
+ghost use Rattle.gix_config.specs.Values.{shown, all_shown, values_of, last_value};
+ghost use Rattle.gix_discover.specs.Settings.{settings_of};
 
-use crate::config::{self, Entry, all_values, is_word, number};
 use crate::environment::Environment;
 use crate::error::{DiscoverError, Reason, about};
 use crate::format::{boolean_of, needed};
@@ -13,6 +13,7 @@ use crate::include::{Known, Reader, Reading};
 use crate::layout::Layout;
 use crate::paths::within;
 use crate::places::Places;
+use gix_config::{Entry, all_values, is_word, number};
 use std::alloc::{AllocError, Allocator, Global};
 
 /// Says how many digits abbreviated object names have (git-config, "core.abbrev").
@@ -95,7 +96,7 @@ impl<A: Allocator + Copy> Settings<A> {
             ≡ last_value (name_of section.now (shown subsection.entry) key.now)
             (settings_of self.now) }
     {
-        config::last_value(&self.entries, section, subsection, key)
+        gix_config::last_value(&self.entries, section, subsection, key)
     }
 
     /// Returns all values of a setting, in git's order. One without `=` is `None`.

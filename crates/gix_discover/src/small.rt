@@ -1,6 +1,7 @@
 //! Reads the small files `shallow` and `info/grafts` (gitrepository-layout).
 
 use gix_base::hash::ObjectId;
+use gix_config::is_blank;
 use std::alloc::{AllocError, AllocFailed, Allocator, Global};
 
 /// Says why a small file is not read.
@@ -85,7 +86,7 @@ fn add_ids<A: Allocator>(text: &[u8], ids: &mut Vec<ObjectId, A>) -> Result<bool
             break;
         };
         match front_id(after) {
-            Some(id) if crate::config::is_blank(*byte) => ids.push(id)?,
+            Some(id) if is_blank(*byte) => ids.push(id)?,
             _ => return Ok(false),
         }
         rest = after.get(40..).unwrap_or(&[]);
@@ -111,7 +112,7 @@ fn without_blanks(line: &[u8]) -> &[u8] {
     let mut rest = line;
     for _ in 0..line.len() {
         match rest.split_last() {
-            Some((byte, before)) if crate::config::is_blank(*byte) => rest = before,
+            Some((byte, before)) if is_blank(*byte) => rest = before,
             _ => break,
         }
     }

@@ -1,5 +1,0 @@
-use Rattle.gix_discover.proofs.Texts.{stripped}
-use Rattle.gix_discover.proofs.config.name.after_front.Goals as goal
-
-pub returns : goal.returns
-returns c = stripped c.args.text.now c.args.front.now c.strip_prefix.result c.strip_prefix.ensures.cases

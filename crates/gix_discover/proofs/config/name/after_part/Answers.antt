@@ -1,5 +1,0 @@
-use Rattle.gix_discover.proofs.Texts.{dotted}
-use Rattle.gix_discover.proofs.config.name.after_part.Goals as goal
-
-pub returns-in-Some : goal.returns-in-Some
-returns-in-Some c = dotted c.args.name.now c.args.part.now c.in-Some.rest.now c.after_front-in-Some.result c.in-Some.ensures c.after_front-in-Some.ensures
