@@ -10,8 +10,8 @@ mod dirty;
 mod head;
 mod patterns;
 mod table;
-mod tree;
 mod walk;
+mod work_tree;
 
 use crate::describe::ask::{is_any_reached, is_own, nearest, question};
 use crate::describe::asked::{Abbrev, Asked};

@@ -27,6 +27,7 @@ mod names;
 mod options;
 mod paths;
 mod program;
+mod queue;
 mod quoted;
 mod ranges;
 mod rev_list;

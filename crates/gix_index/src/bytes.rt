@@ -1,4 +1,4 @@
-//! Reads short numbers, and finds bytes that are 0.
+//! Reads short numbers, and finds bytes.
 
 ghost use Rattle.std.specs.Prelude.{◌≡◌, ◌+◌, ◌<◌, ◌≤◌, ◌==◌, length, take, MatchOption};
 ghost use Rattle.gix_index.specs.IndexBytes.{half, place_of_nul, HasNul, name_at_front};
@@ -37,4 +37,10 @@ pub(crate) fn before_nul(text: &[u8]) -> Option<&[u8]>
     } else {
         None
     }
+}
+
+/// Returns the bytes before the first one of this value, and those after it; `None` if there is none.
+pub(crate) fn split(text: &[u8], at: u8) -> Option<(&[u8], &[u8])> {
+    let len = memchr(at, text)?;
+    Some((text.get(..len)?, text.get(len.saturating_add(1)..)?))
 }

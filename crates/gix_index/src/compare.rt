@@ -1,7 +1,7 @@
 //! Compares an entry with what the system says of its file, as git does before it reads the file
 //! (git-update-index, "Notes"; git-config, "core.fileMode", "core.trustctime", "core.checkStat").
 
-ghost use Rattle.std.specs.Prelude.{◌≡◌, ◌≢◌, true, false};
+ghost use Rattle.std.specs.Prelude.{◌≡◌, ◌↔◌, true, false};
 ghost use Rattle.gix_index.specs.Compare.{has_kind, has_other_size, is_as_noted, may_be_same};
 
 use crate::entry::{Entry, Stat};
@@ -82,15 +82,11 @@ impl Change {
     /// has to read the file.
     pub fn of<A: Allocator>(entry: &Entry<A>, status: &Status, checks: Checks) -> Change
         // The kind, or a noted size, is another one.
-        ensures changed { result ≡ Change.Changed
-            → may_be_same entry.now.stat entry.now.mode status.now checks ≡ false }
+        ensures changed { (result ≡ Change.Changed)
+            ↔ (may_be_same entry.now.stat entry.now.mode status.now checks ≡ false) }
 
         // All that was noted is as it was.
         ensures kept { result ≡ Change.Kept → is_as_noted entry.now.stat status.now checks ≡ true }
-
-        // The kind and the size may be those of the entry.
-        ensures same { result ≢ Change.Changed
-            → may_be_same entry.now.stat entry.now.mode status.now checks ≡ true }
     {
         if !may_be_same(&entry.stat, entry.mode, status, checks) {
             Change::Changed

@@ -17,6 +17,9 @@ pub enum Error {
     Checksum,
     /// The entry with this number, counted from 0, is malformed or cut off.
     Entry(u32),
+    /// The entry with this number, counted from 0, has a path that an index may not have, such as
+    /// `../file`.
+    Path(usize),
     /// The extension at this place is cut off.
     CutOff(usize),
     /// The index has this extension, which must be understood, and is not supported.
@@ -45,6 +48,7 @@ impl fmt::Display for Error {
             Error::Version(version) => write!(f, "unsupported: version {version} of index files"),
             Error::Checksum => f.write_str("index file has a bad checksum"),
             Error::Entry(number) => write!(f, "entry {number} of the index is malformed"),
+            Error::Path(number) => write!(f, "entry {number} of the index has an invalid path"),
             Error::CutOff(at) => write!(f, "index file has an extension at {at} that is cut off"),
             Error::Extension(name) => write!(
                 f,

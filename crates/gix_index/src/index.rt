@@ -1,11 +1,13 @@
 //! Reads an index file (gitformat-index).
 
-ghost use Rattle.std.specs.Prelude.{◌≡◌, ◌+◌, ◌≤◌, length, take, drop, IfOk};
+ghost use Rattle.std.specs.Prelude.{◌≡◌, ◌+◌, ◌≤◌, true, length, take, drop, IfOk};
 ghost use Rattle.gix_index.specs.IndexForm.{last_path, AreEntries, IsIndex, IsHeader};
 ghost use Rattle.gix_ids.specs.TableBytes.{word};
+ghost use Rattle.gix_index.specs.IndexPaths.{are_inside};
 
 use crate::entry::{Entry, read};
 use crate::error::Error;
+use crate::path::is_inside;
 use crate::root::root;
 use gix_base::hash::ObjectId;
 use gix_ids::word_at;
@@ -113,6 +115,18 @@ fn read_extensions(bytes: &[u8], at: usize, count: u32) -> Result<Option<ObjectI
     }
 }
 
+/// Fails at the first entry with a path that an index may not have.
+fn check_paths<A: Allocator>(entries: &[Entry<A>]) -> Result<(), Error>
+    ensures { IfOk result (λ u. are_inside entries.now ≡ true) }
+{
+    for (number, entry) in entries.iter().enumerate() {
+        if !is_inside(&entry.path) {
+            return Err(Error::Path(number));
+        }
+    }
+    Ok(())
+}
+
 /// Tests whether a checksum is that of these bytes, or zero (git-config, "index.skipHash").
 fn is_checksum(checksum: &[u8], bytes: &[u8]) -> bool {
     checksum.iter().all(|b| *b == 0) || checksum == Sha1::digest(bytes).as_slice()
@@ -127,6 +141,13 @@ impl<A: Allocator + Copy> Index<A> {
         }
     }
 
+    /// Returns whether the entries make a tree: all are merged, and none is to be added later.
+    pub fn is_merged(&self) -> bool {
+        self.entries
+            .iter()
+            .all(|entry| entry.stage() == 0 && !entry.is_intended())
+    }
+
     /// Reads the bytes of an index file of version 2, 3 or 4.
     ///
     /// # Errors
@@ -135,10 +156,14 @@ impl<A: Allocator + Copy> Index<A> {
     /// - `Version` if the version is another one.
     /// - `Checksum` if the checksum is wrong, and not zero.
     /// - `Extension` if the index is split or sparse, or needs another extension.
+    /// - `Path` if a path is empty, or a part of it is empty, `.`, `..` or `.git`.
     /// - `OutOfMemory` if an allocation failed.
     pub fn parse(alloc: A, bytes: &[u8]) -> Result<Index<A>, Error>
         // The entries are those of the bytes, one after another, and as many as the header says.
         ensures entries { IfOk result (λ index. IsIndex bytes.now index.entries.items) }
+
+        // No path leads out of the working tree, or into the git folder.
+        ensures inside { IfOk result (λ index. are_inside index.entries.items ≡ true) }
     {
         if bytes.len() < HEADER + CHECKSUM {
             return Err(Error::TooShort);
@@ -151,6 +176,7 @@ impl<A: Allocator + Copy> Index<A> {
         let (entries, rest) = read_entries(alloc, version, count, behind(content, HEADER))?;
         let at = content.len().saturating_sub(rest.len());
         let root = read_extensions(rest, at, count)?;
+        check_paths(&entries)?;
         Ok(Index { entries, root })
     }
 }

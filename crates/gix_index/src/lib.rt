@@ -5,7 +5,8 @@
 //! - [`Change::of`] compares an entry with what the system says of its file, as git does before it reads
 //!   the file.
 //! - [`WorkTree::look`] compares an entry with its file, and reads the file if need be.
-//! - [`tree::first`] reads an entry of a tree, with which entries of the index are compared.
+//! - [`tree::first`] reads an entry of a tree, and [`first_difference`] compares the files of a commit
+//!   with the entries and their files.
 //! - [`Statuses`] is the trait by which files are reached.
 //!
 //! A split index and a sparse index are not supported. Filters are not run and line ends are not
@@ -14,23 +15,26 @@
 
 mod attributes;
 mod bytes;
+mod clean;
 mod compare;
 mod entry;
 mod error;
 mod files;
 mod index;
 mod look;
-mod numbers;
+mod mode;
 mod path;
 mod root;
 mod status;
 pub mod tree;
 
 pub use attributes::{Conversion, add_conversion, read_file};
+pub use clean::{Difference, Looked, are_sorted, first_difference};
 pub use compare::{Change, Checks};
 pub use entry::{Entry, Stat};
 pub use error::Error;
 pub use files::Statuses;
 pub use index::Index;
 pub use look::{Look, WorkTree};
+pub use mode::FileKind;
 pub use status::Status;

@@ -4,21 +4,13 @@ use crate::attributes::{Conversion, add_conversion, read_file};
 use crate::compare::{Change, Checks};
 use crate::entry::Entry;
 use crate::files::Statuses;
+use crate::mode::FileKind;
 use crate::status::Status;
 use gix_base::hash::ObjectId;
 use gix_base::object::Kind;
 use gix_object::object_id;
 use gix_odb::files::FileError;
 use std::alloc::{AllocError, Allocator, Global};
-
-/// The kinds of a mode: a folder, a file, a symbolic link, and the commit of a submodule.
-const FOLDER: u32 = 4;
-
-const FILE: u32 = 8;
-
-const LINK: u32 = 10;
-
-const SUBMODULE: u32 = 14;
 
 /// The name of a file of attributes.
 const ATTRIBUTES: &[u8] = b".gitattributes";
@@ -151,7 +143,7 @@ impl<F: Statuses + Copy + Drop, A: Allocator + Copy> WorkTree<F, A> {
     /// Returns whether a path is a folder, and no symbolic link.
     fn is_folder(&self, path: &[u8]) -> Result<bool, FileError> {
         match self.status(path)? {
-            Some(status) => Ok(status.mode / 4096 == FOLDER),
+            Some(status) => Ok(FileKind::of(status.mode) == FileKind::Folder),
             None => Ok(false),
         }
     }
@@ -240,7 +232,7 @@ impl<F: Statuses + Copy + Drop, A: Allocator + Copy> WorkTree<F, A> {
 
     /// Compares an entry with the content of its file.
     fn look_inside(&mut self, entry: &Entry<A>) -> Result<Look, FileError> {
-        let found = if entry.mode / 4096 == LINK {
+        let found = if FileKind::of(entry.mode) == FileKind::Link {
             self.link_id(&entry.path)?
         } else {
             self.file_id(&entry.path)?
@@ -266,7 +258,7 @@ impl<F: Statuses + Copy + Drop, A: Allocator + Copy> WorkTree<F, A> {
     /// Compares the entry of a submodule with its folder. A submodule that is not there has an empty
     /// folder, and is never changed.
     fn look_at_submodule(&self, path: &[u8], status: &Status) -> Result<Look, FileError> {
-        if status.mode / 4096 != FOLDER {
+        if FileKind::of(status.mode) != FileKind::Folder {
             return Ok(Look::Undecided);
         }
         let inside = self.path(path, b"/.git")?;
@@ -307,24 +299,24 @@ impl<F: Statuses + Copy + Drop, A: Allocator + Copy> WorkTree<F, A> {
     /// - `NotUtf8` if the path is not UTF-8.
     /// - `OutOfMemory` if an allocation failed.
     pub fn look(&mut self, entry: &Entry<A>) -> Result<Look, FileError> {
-        let kind = entry.mode / 4096;
+        let kind = FileKind::of(entry.mode);
         let Some(status) = self.file(&entry.path)? else {
-            return Ok(if kind == SUBMODULE {
+            return Ok(if kind == FileKind::Submodule {
                 Look::Undecided
             } else {
                 Look::Missing
             });
         };
-        if kind == SUBMODULE {
+        if kind == FileKind::Submodule {
             return self.look_at_submodule(&entry.path, &status);
         }
-        if status.mode / 4096 == FOLDER {
+        if FileKind::of(status.mode) == FileKind::Folder {
             return self.look_at_folder(&entry.path);
         }
         if entry.is_intended() {
             return Ok(Look::Changed);
         }
-        if (kind == LINK && !self.has_links) || (kind != FILE && kind != LINK) {
+        if kind != FileKind::File && (kind != FileKind::Link || !self.has_links) {
             return Ok(Look::Undecided);
         }
         if entry.stage() != 0 {
@@ -353,7 +345,7 @@ impl<F: Statuses + Copy + Drop, A: Allocator + Copy> WorkTree<F, A> {
             return Ok(false);
         }
         match self.file(&entry.path)? {
-            Some(status) => Ok(status.mode / 4096 != FILE),
+            Some(status) => Ok(FileKind::of(status.mode) != FileKind::File),
             None => Ok(true),
         }
     }

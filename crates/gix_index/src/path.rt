@@ -1,10 +1,12 @@
-//! Reads the name of an entry (gitformat-index, "Index entry").
+//! Reads the name of an entry, and says which paths an index may have (gitformat-index, "Index
+//! entry").
 
 ghost use Rattle.std.specs.Prelude.{◌≡◌, ◌+◌, ◌-◌, ◌≤◌, length, IfSome};
 ghost use Rattle.gix_index.specs.IndexEntry.{plain_rest, plain_length, short_rest, short_length, dropped};
+ghost use Rattle.gix_index.specs.IndexPaths.{is_part, is_inside};
 
 use crate::bytes::before_nul;
-use crate::numbers::{high_first, number_length};
+use gix_pack::numbers::distance;
 
 /// The name of an entry, as the bytes of the entry have it.
 #[derive(Clone, Copy)]
@@ -48,10 +50,9 @@ pub(crate) fn short_name(before: usize, head: usize, bytes: &[u8]) -> Option<Nam
     ensures within { IfSome result (λ n. n.len ≤ length bytes.now) }
 {
     let text = &bytes[head..];
-    let Some(digits) = number_length(text) else {
+    let Some((dropped, digits)) = distance(text) else {
         return None;
     };
-    let dropped = high_first(&text[..digits]);
     if dropped > before as u64 {
         return None;
     }
@@ -63,4 +64,23 @@ pub(crate) fn short_name(before: usize, head: usize, bytes: &[u8]) -> Option<Nam
         rest,
         len: head + digits + rest.len() + 1,
     })
+}
+
+/// Tests whether a part of a path, between its slashes, may be in an index.
+fn is_part(part: &[u8]) -> bool
+    ensures { result ≡ is_part part.now }
+{
+    !part.is_empty()
+        && part != b".".as_slice()
+        && part != b"..".as_slice()
+        && !part.eq_ignore_ascii_case(b".git")
+}
+
+/// Tests whether an index may have a path. Such a path leads neither out of the working tree nor into
+/// the git folder.
+#[tactic(auto, unfolding(crate::specs::IndexPaths::is_inside))]
+pub(crate) fn is_inside(path: &[u8]) -> bool
+    ensures { result ≡ is_inside path.now }
+{
+    path.split(|b| *b == b'/').all(is_part)
 }

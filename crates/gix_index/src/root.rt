@@ -1,5 +1,6 @@
 //! Reads the tree of the whole index from the cached trees (gitformat-index, "Cache tree").
 
+use crate::bytes::split;
 use gix_base::hash::ObjectId;
 
 /// Returns the number that decimal digits say; `None` if they say none that fits 32 bits.
@@ -17,12 +18,6 @@ fn number(digits: &[u8]) -> Option<u32> {
             .saturating_add(u64::from(*digit - b'0'));
     }
     u32::try_from(value).ok()
-}
-
-/// Returns the bytes before the first one of this value, and those after it.
-fn split(text: &[u8], at: u8) -> Option<(&[u8], &[u8])> {
-    let len = text.iter().position(|b| *b == at)?;
-    Some((text.get(..len)?, text.get(len.saturating_add(1)..)?))
 }
 
 /// Returns the tree of an index with so many entries, from the extension `TREE`; `None` if the

@@ -1,9 +1,12 @@
 //! Reads the entries of a tree (git-mktree; git-ls-tree).
 
+use crate::bytes::split;
+use crate::mode::FileKind;
 use gix_base::hash::ObjectId;
+use std::alloc::{Allocator, Global};
 
-/// The kind of a mode that is a folder.
-const FOLDER: u32 = 0o040000;
+/// The mode of a tree.
+pub const TREE: u32 = 0o040000;
 
 /// An entry of a tree.
 #[derive(Clone, Copy, Debug, PartialEq, Eq)]
@@ -19,8 +22,18 @@ pub struct TreeEntry<'t> {
 impl<'t> TreeEntry<'t> {
     /// Returns whether the entry is a tree itself.
     pub fn is_tree(&self) -> bool {
-        self.mode == FOLDER
+        self.mode == TREE
     }
+}
+
+/// A file of a commit, with its path from the top.
+#[derive(Debug, Drop)]
+pub struct Listed<A: Allocator = Global> {
+    /// The path. That of a tree has a slash at its end.
+    pub path: Vec<u8, A>,
+    /// The mode as an index has it; [`TREE`] of a tree.
+    pub mode: u32,
+    pub id: ObjectId,
 }
 
 /// Returns the number that octal digits say; `None` if they say none that fits 18 bits.
@@ -42,19 +55,13 @@ fn octal(digits: &[u8]) -> Option<u32> {
 
 /// Returns the mode that git reads for one in a tree.
 fn canonical(mode: u32) -> u32 {
-    match mode / 4096 {
-        8 if mode / 64 % 2 == 1 => 0o100755,
-        8 => 0o100644,
-        10 => 0o120000,
-        4 => FOLDER,
+    match FileKind::of(mode) {
+        FileKind::File if mode / 64 % 2 == 1 => 0o100755,
+        FileKind::File => 0o100644,
+        FileKind::Link => 0o120000,
+        FileKind::Folder => TREE,
         _ => 0o160000,
     }
-}
-
-/// Returns the bytes before the first one of this value, and those after it.
-fn split(text: &[u8], at: u8) -> Option<(&[u8], &[u8])> {
-    let len = text.iter().position(|b| *b == at)?;
-    Some((text.get(..len)?, text.get(len.saturating_add(1)..)?))
 }
 
 /// Returns the first entry in the content of a tree, and what comes after it; `None` if there is no

@@ -1,12 +1,13 @@
 //! Goes through a history as git does for merge bases (git's `paint_down_to_common`), to learn in
 //! which order it meets the common ancestors of two sides.
 
+use crate::queue::Queue;
 use crate::session::Session;
 use crate::stop::{Stop, not_read};
 use gix_revision::Seed;
 use gix_revision::hash::ObjectId;
 use std::alloc::Global;
-use std::collections::{BinaryHeap, HashMap};
+use std::collections::HashMap;
 
 /// Says from where a commit was reached.
 #[derive(Clone, Copy)]
@@ -66,22 +67,11 @@ struct Reached {
     is_met: bool,
 }
 
-/// A commit that waits. The greatest comes next.
-#[derive(Clone, Copy, PartialEq, Eq, PartialOrd, Ord)]
-struct Waiting {
-    time: i64,
-    /// A number that is smaller the later the commit began to wait.
-    before: u64,
-    id: ObjectId,
-}
-
 /// Goes through a history.
 #[derive(Drop)]
 struct Walk {
     reached: HashMap<ObjectId, Reached, Seed, Global>,
-    waiting: BinaryHeap<Waiting, Global>,
-    /// Tells how many began to wait.
-    count: u64,
+    waiting: Queue<ObjectId>,
     /// Tells how many wait that are not stale.
     fresh: usize,
     /// The common ancestors that were met.
@@ -143,12 +133,7 @@ impl Walk {
                 is_met: old.is_met,
             },
         )?;
-        self.waiting.push(Waiting {
-            time,
-            before: u64::MAX.saturating_sub(self.count),
-            id,
-        })?;
-        self.count = self.count.saturating_add(1);
+        self.waiting.push(time, id)?;
         Ok(())
     }
 
@@ -196,11 +181,11 @@ impl Walk {
             if self.fresh == 0 {
                 break;
             }
-            let Some(next) = self.waiting.pop() else {
+            let Some((_, id)) = self.waiting.pop() else {
                 break;
             };
-            let paint = self.meet(next.id)?;
-            self.paint_parents(session, next.id, paint)?;
+            let paint = self.meet(id)?;
+            self.paint_parents(session, id, paint)?;
         }
         Ok(())
     }
@@ -220,8 +205,7 @@ pub(crate) fn met(
 ) -> Result<Vec<ObjectId>, Stop> {
     let mut walk = Walk {
         reached: HashMap::with_hasher(session.alloc, session.repository.seed()),
-        waiting: BinaryHeap::new(session.alloc),
-        count: 0,
+        waiting: Queue::new(session.alloc),
         fresh: 0,
         met: Vec::new(session.alloc),
     };

@@ -4,21 +4,9 @@ use crate::names::commit_of;
 use crate::ranges::revision;
 use crate::session::Session;
 use crate::stop::{Stop, fatal, not_read};
-use gix_index::tree::{TreeEntry, first};
+use gix_index::tree::{Listed, TREE, TreeEntry, first};
 use gix_revision::hash::ObjectId;
 use gix_revision::object::Kind;
-
-/// The mode of a tree.
-const TREE: u32 = 0o040000;
-
-/// Is a file of a commit, or a tree on the way to files.
-#[derive(Drop)]
-pub(crate) struct Listed {
-    /// The path; that of a tree has a slash at its end.
-    pub(crate) path: Vec<u8>,
-    pub(crate) mode: u32,
-    pub(crate) id: ObjectId,
-}
 
 /// Returns the tree of the commit of `HEAD`.
 ///

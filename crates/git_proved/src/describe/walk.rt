@@ -4,13 +4,14 @@
 //! first. What is learned here ranks names for the question; it is no answer.
 
 use crate::describe::table::Table;
+use crate::queue::Queue;
 use crate::session::Session;
 use crate::stop::{Stop, not_read};
 use gix_revision::Seed;
 use gix_revision::graph::SourceCommit;
 use gix_revision::hash::ObjectId;
 use std::alloc::{AllocError, Global};
-use std::collections::{BinaryHeap, HashMap};
+use std::collections::HashMap;
 use std::mem::replace;
 
 /// Says what is walked.
@@ -38,14 +39,6 @@ struct Met {
     is_waiting: bool,
 }
 
-/// Is a commit that waits. The newest is the greatest, and of those with one date the first.
-#[derive(Clone, Copy, PartialEq, Eq, PartialOrd, Ord)]
-struct Waiting {
-    time: i64,
-    before: usize,
-    place: usize,
-}
-
 /// Is a walk.
 #[derive(Drop)]
 struct Walk {
@@ -53,9 +46,8 @@ struct Walk {
     search: Search,
     met: Vec<Met>,
     places: HashMap<ObjectId, usize, Seed>,
-    waiting: BinaryHeap<Waiting>,
-    /// Is how many commits were put among those that wait.
-    put: usize,
+    /// The places of the commits that wait.
+    waiting: Queue<usize>,
     candidates: Vec<Candidate>,
     seen: u32,
     /// Has the bit of the candidate whose count is completed.
@@ -80,8 +72,7 @@ impl Walk {
             search,
             met: Vec::new(alloc),
             places: HashMap::with_hasher(alloc, seed),
-            waiting: BinaryHeap::new(alloc),
-            put: 0,
+            waiting: Queue::new(alloc),
             candidates: Vec::new(alloc),
             seen: 0,
             wanted: 0,
@@ -99,13 +90,7 @@ impl Walk {
 
     /// Lets the commit at a place wait, behind those with its date.
     fn wait(&mut self, place: usize, time: i64) -> Result<(), AllocError> {
-        let before = usize::MAX.saturating_sub(self.put);
-        self.put = self.put.saturating_add(1);
-        self.waiting.push(Waiting {
-            time,
-            before,
-            place,
-        })?;
+        self.waiting.push(time, place)?;
         if self.marks_at(place) & self.wanted == 0 {
             self.lacking = self.lacking.saturating_add(1);
         }
@@ -150,33 +135,25 @@ impl Walk {
         Ok(())
     }
 
-    /// Returns whether the next commit that waits has the latest of dates.
-    fn is_latest_next(&self) -> bool {
-        match self.waiting.peek() {
-            Some(next) => next.time == i64::MAX,
-            None => false,
-        }
-    }
-
-    /// Returns the next commit; `None` if none waits.
+    /// Returns the date and the place of the next commit; `None` if none waits.
     ///
     /// # Errors
     ///
     /// `NotRead` if it and the one behind it have dates that only git tells apart.
-    fn next(&mut self) -> Result<Option<Waiting>, Stop> {
-        let Some(next) = self.waiting.pop() else {
+    fn next(&mut self) -> Result<Option<(i64, usize)>, Stop> {
+        let Some((time, place)) = self.waiting.pop() else {
             return Ok(None);
         };
-        if next.time == i64::MAX && self.is_latest_next() {
+        if time == i64::MAX && self.waiting.next_time() == Some(i64::MAX) {
             return Err(not_read(self.alloc, &[b"dates before 1970 are not read"]));
         }
-        if let Some(met) = self.met.get_mut(next.place) {
+        if let Some(met) = self.met.get_mut(place) {
             met.is_waiting = false;
         }
-        if self.marks_at(next.place) & self.wanted == 0 {
+        if self.marks_at(place) & self.wanted == 0 {
             self.lacking = self.lacking.saturating_sub(1);
         }
-        Ok(Some(next))
+        Ok(Some((time, place)))
     }
 
     /// Makes the commit at a place a candidate if it has a name. Returns whether there was room.
@@ -258,19 +235,19 @@ impl Walk {
     /// another one, which waits again then.
     fn run(&mut self, session: &mut Session<'_>, table: &Table) -> Result<(), Stop> {
         for _ in 0..u64::MAX {
-            let Some(next) = self.next()? else {
+            let Some((time, place)) = self.next()? else {
                 break;
             };
-            if !self.admit(next.place, table)? {
-                self.wait(next.place, next.time)?;
+            if !self.admit(place, table)? {
+                self.wait(place, time)?;
                 break;
             }
-            let marks = self.marks_at(next.place);
+            let marks = self.marks_at(place);
             self.count(marks);
-            if self.waiting.is_empty() && self.is_settled(marks) {
+            if self.waiting.next_time().is_none() && self.is_settled(marks) {
                 break;
             }
-            self.meet_parents(session, next.place)?;
+            self.meet_parents(session, place)?;
         }
         Ok(())
     }
@@ -301,14 +278,14 @@ impl Walk {
     fn complete(&mut self, session: &mut Session<'_>, number: usize) -> Result<(), Stop> {
         self.want(number);
         for _ in 0..u64::MAX {
-            let Some(next) = self.next()? else {
+            let Some((_, place)) = self.next()? else {
                 break;
             };
-            let marks = self.marks_at(next.place);
+            let marks = self.marks_at(place);
             if self.count_wanted(number, marks) {
                 break;
             }
-            self.meet_parents(session, next.place)?;
+            self.meet_parents(session, place)?;
         }
         Ok(())
     }

@@ -1,21 +1,13 @@
 //! Puts commits into git's order: of the commits that were met, the newest comes next, and of those
 //! with one date the one that was met first. A commit that comes next lets its parents be met.
 
+use crate::queue::Queue;
 use crate::session::Session;
 use crate::stop::Stop;
 use gix_revision::Seed;
 use gix_revision::hash::ObjectId;
 use std::alloc::{AllocError, Global};
-use std::collections::{BinaryHeap, HashMap};
-
-/// A commit that was met and did not come yet. The greatest comes next.
-#[derive(Clone, Copy, PartialEq, Eq, PartialOrd, Ord)]
-struct Waiting {
-    time: i64,
-    /// A number that is smaller the later the commit was met.
-    before: u64,
-    id: ObjectId,
-}
+use std::collections::HashMap;
 
 /// A commit that came.
 #[derive(Clone, Copy)]
@@ -44,7 +36,8 @@ pub(crate) struct Walk {
     within: Option<Ids>,
     is_first_parent: bool,
     met: Ids,
-    waiting: BinaryHeap<Waiting, Global>,
+    /// The commits that were met and did not come yet.
+    waiting: Queue<ObjectId>,
 }
 
 impl Walk {
@@ -65,7 +58,7 @@ impl Walk {
             within,
             is_first_parent,
             met: HashMap::with_hasher(session.alloc, session.repository.seed()),
-            waiting: BinaryHeap::new(session.alloc),
+            waiting: Queue::new(session.alloc),
         };
         walk.meet(session, starts)?;
         Ok(walk)
@@ -85,13 +78,8 @@ impl Walk {
         for id in ids {
             if self.is_new(id) {
                 let time = session.repository.entry(*id)?.time;
-                let before = u64::MAX.saturating_sub(self.met.len() as u64);
                 self.met.insert(*id, ())?;
-                self.waiting.push(Waiting {
-                    time,
-                    before,
-                    id: *id,
-                })?;
+                self.waiting.push(time, *id)?;
             }
         }
         Ok(())
@@ -116,8 +104,8 @@ impl Walk {
 
     /// Returns whether the commit that comes next is newer than a date.
     fn is_newer(&self, time: i64) -> bool {
-        match self.waiting.peek() {
-            Some(waiting) => waiting.time > time,
+        match self.waiting.next_time() {
+            Some(next) => next > time,
             None => false,
         }
     }
@@ -143,14 +131,11 @@ impl Walk {
     ///
     /// `Refused` if the commit or a parent of it is not read. git ends there, too.
     pub(crate) fn next(&mut self, session: &mut Session<'_>) -> Result<Option<Come>, Stop> {
-        let Some(waiting) = self.waiting.pop() else {
+        let Some((_, id)) = self.waiting.pop() else {
             return Ok(None);
         };
-        let parents = self.meet_parents(session, waiting.id)?;
-        Ok(Some(Come {
-            id: waiting.id,
-            parents,
-        }))
+        let parents = self.meet_parents(session, id)?;
+        Ok(Some(Come { id, parents }))
     }
 }
 

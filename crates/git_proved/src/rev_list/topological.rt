@@ -1,13 +1,14 @@
 //! Sorts a list of commits so that no commit comes before all of its children (git-rev-list,
 //! "Commit Ordering").
 
+use crate::queue::Queue;
 use crate::rev_list::order::Come;
 use crate::rev_list::wishes::Order;
 use crate::session::Session;
 use crate::stop::Stop;
 use gix_revision::hash::ObjectId;
 use std::alloc::{AllocError, Global};
-use std::collections::{BinaryHeap, HashMap};
+use std::collections::HashMap;
 
 /// The parents of each commit of a list that the list has, too: by places in the list.
 #[derive(Drop)]
@@ -79,23 +80,13 @@ fn links_of(session: &mut Session<'_>, list: &[Come]) -> Result<Links, Stop> {
     Ok(links)
 }
 
-/// A commit all of whose children came. The greatest comes next.
-#[derive(Clone, Copy, PartialEq, Eq, PartialOrd, Ord)]
-struct Ready {
-    time: i64,
-    /// A number that is smaller the later the commit became ready.
-    before: u64,
-    place: usize,
-}
-
 /// The commits all of whose children came.
 #[derive(Drop)]
 struct Front {
     /// Tells whether the newest comes next; else the last that became ready does.
     is_dated: bool,
-    dated: BinaryHeap<Ready, Global>,
+    dated: Queue<usize>,
     last: Vec<usize>,
-    count: u64,
 }
 
 impl Front {
@@ -105,13 +96,7 @@ impl Front {
             self.last.push(place)?;
             return Ok(());
         }
-        self.count = self.count.saturating_add(1);
-        self.dated.push(Ready {
-            time,
-            before: u64::MAX.saturating_sub(self.count),
-            place,
-        })?;
-        Ok(())
+        self.dated.push(time, place)
     }
 
     /// Takes the commit that comes next.
@@ -119,7 +104,8 @@ impl Front {
         if !self.is_dated {
             return self.last.pop();
         }
-        Some(self.dated.pop()?.place)
+        let (_, place) = self.dated.pop()?;
+        Some(place)
     }
 
     /// Adds the commits that have no children, which come in the order of the list.
@@ -186,9 +172,8 @@ pub(crate) fn sort(session: &mut Session<'_>, list: &[Come], order: Order) -> Re
     let mut children = count_children(session.alloc, &links)?;
     let mut front = Front {
         is_dated: order == Order::Dated,
-        dated: BinaryHeap::new(session.alloc),
+        dated: Queue::new(session.alloc),
         last: Vec::new(session.alloc),
-        count: 0,
     };
     front.begin(&links, &children)?;
     let mut sorted = Vec::new(session.alloc);

@@ -3,13 +3,12 @@
 use crate::session::Session;
 use crate::stop::{Stop, fatal, joined, not_read};
 use gix_discover::{PathKind, Places, Variable};
-use gix_index::{Checks, Conversion, Index, Statuses, WorkTree, add_conversion, read_file};
+use gix_index::{
+    Checks, Conversion, FileKind, Index, Statuses, WorkTree, add_conversion, read_file,
+};
 use gix_odb::System;
 use gix_odb::files::FileError;
 use std::io::Write;
-
-/// The kind of the mode of a file.
-const FILE: u32 = 8;
 
 /// Returns the end for a file that is not read.
 fn unread(session: &Session<'_>, path: &[u8], error: FileError) -> Stop {
@@ -73,7 +72,7 @@ pub(crate) fn read_index(session: &Session<'_>, top: &[u8]) -> Result<(Index, u3
         Ok(None) => return Ok((Index::empty(alloc), 0)),
         Err(error) => return Err(unread(session, &path, error)),
     };
-    if status.mode / 4096 != FILE {
+    if FileKind::of(status.mode) != FileKind::File {
         return Err(not_read(alloc, &[b"an index that is a symbolic link is not read"]));
     }
     let mut bytes = Vec::new(alloc);
