@@ -21,12 +21,12 @@
  *   allocates memory can return GIX_OUT_OF_MEMORY; the call can be repeated.
  *
  * POINTERS AND BUFFERS
- *   No pointer may be NULL, but that of an array with the length 0, and that of
- *   gix_history_free.
+ *   Two pointers may be NULL: that of an array with the length 0, and that of
+ *   gix_history_free. No other pointer may be NULL.
  *   An output must not overlap an input or another output. A bool must be 0 or
  *   1. The library copies what it keeps, and never returns a pointer into a
  *   history.
- *   A function that returns a list sets *count to the number of results and
+ *   A function that returns a list sets *count to the number of results. It
  *   writes the first of them to `out`, as many as there is room for. The rest
  *   of the buffer is unchanged. gix_history_describe does the same with *len
  *   and the bytes of its text, which has no terminating zero.
@@ -60,6 +60,32 @@
  *   generations. The history stays acyclic if the commits that are added later
  *   form no cycle. Its generations stay ordered if these commits have no
  *   generation number.
+ *
+ * PARTIAL HISTORIES
+ *   A new history is complete: it has the commits that were added, and no
+ *   others. (The commits of an opened file count as added.) A program that has
+ *   its commits in a store of its own need not add all of them. It makes the
+ *   history partial with gix_history_set_partial, and asks its question. If the
+ *   answer needs a commit that was not added, the function returns GIX_WANTS,
+ *   and gix_history_wanted writes the id of this commit. The program adds the
+ *   commit, and some of its ancestors if it likes. Then it asks again:
+ *
+ *     while ((code = gix_history_is_ancestor(history, &a, &b)) == GIX_WANTS)
+ *         add_next(history);   -- gix_history_wanted, gix_history_insert_object
+ *
+ *   The whole history has the commits that were added, and perhaps others. An
+ *   answer is right for the whole history, whatever others it has. Premises,
+ *   too, concern the whole history.
+ *
+ *   The functions that ask a question can return GIX_WANTS: those from
+ *   gix_history_merge_bases to gix_history_newest_first, gix_history_describe,
+ *   gix_history_resolve, gix_history_rev_parse, gix_history_list and
+ *   gix_history_count. The other functions know only the commits that were
+ *   added. So do abbreviated ids in revisions.
+ *
+ *   Questions about a partial history cache nothing, so each one walks anew.
+ *   Add many commits before the next one. A list or a count can need all
+ *   commits that the ids of its gix_span reach.
  */
 #ifndef GIX_REVISION_H
 #define GIX_REVISION_H
@@ -98,6 +124,7 @@ typedef enum gix_code {
     GIX_ALTERED = -9,       /* the id is not the hash of the commit's bytes */
     GIX_MISSHAPEN = -10,    /* the bytes are not a commit that can be read */
     GIX_NO_HOW = -11,       /* the size of a gix_how is not one that is known */
+    GIX_WANTS = -12,        /* the answer needs a commit that was not added */
     GIX_FAULT = 100         /* 101 to 127: the revision has fault 1 to 27 */
 } gix_code;
 
@@ -131,6 +158,8 @@ static inline const char *gix_strerror(int32_t code) {
         return "the bytes are not a commit that can be read";
     case GIX_NO_HOW:
         return "the size of the options is not known to the library";
+    case GIX_WANTS:
+        return "the answer needs a commit that was not added";
     case GIX_FAULT + 1:
         return "a second operator, or an operator without a revision";
     case GIX_FAULT + 2:
@@ -251,7 +280,7 @@ int32_t gix_history_new(uint64_t seed, gix_history **out);
  *
  * Returns:
  *   GIX_OK             *out is the new history.
- *   GIX_NO_GRAPH       The bytes are not such a file.
+ *   GIX_NO_GRAPH       The bytes are not such a file. gix_graph_fault says why.
  *   GIX_NO_LEVELS      The file is well-formed, but a commit has no level, or
  *                      a level that is not greater than its parents'.
  *   GIX_OUT_OF_MEMORY
@@ -259,6 +288,63 @@ int32_t gix_history_new(uint64_t seed, gix_history **out);
 GIX_MUST_USE
 int32_t gix_history_open(const uint8_t *bytes, size_t bytes_len, uint64_t seed,
                          gix_history **out);
+
+/* What can be wrong with the bytes of a commit-graph file; see
+ * gitformat-commit-graph(5). */
+enum {
+    GIX_GRAPH_TOO_SHORT = 1,    /* too short for its parts */
+    GIX_GRAPH_SIGNATURE = 2,    /* does not begin with CGPH */
+    GIX_GRAPH_VERSION = 3,      /* a version other than 1 */
+    GIX_GRAPH_HASH = 4,         /* ids that are not SHA-1 ids */
+    GIX_GRAPH_BASE_GRAPHS = 5,  /* not the lowest file of a chain */
+    GIX_GRAPH_NO_CHUNK_ID = 6,  /* a chunk has no chunk id */
+    GIX_GRAPH_REPEATED = 7,     /* two chunks with one chunk id */
+    GIX_GRAPH_CHUNK_PLACE = 8,  /* a chunk ends too early or too late */
+    GIX_GRAPH_TABLE_END = 9,    /* the table of contents has no end */
+    GIX_GRAPH_NO_FANOUT = 10,   /* no chunk OIDF */
+    GIX_GRAPH_NO_IDS = 11,      /* no chunk OIDL */
+    GIX_GRAPH_NO_ROWS = 12,     /* no chunk CDAT */
+    GIX_GRAPH_CHUNK_SIZE = 13,  /* a chunk of the wrong size */
+    GIX_GRAPH_FANOUT = 14,      /* the numbers of OIDF fall */
+    GIX_GRAPH_ID_ORDER = 15,    /* the ids do not rise */
+    GIX_GRAPH_ID_PLACE = 16,    /* an id is not where OIDF says */
+    GIX_GRAPH_PARENT = 17,      /* a parent that is no commit of the file */
+    GIX_GRAPH_EDGE_PARENT = 18, /* the same in EDGE */
+    GIX_GRAPH_EDGE_END = 19,    /* the last list in EDGE does not end */
+    GIX_GRAPH_EDGE_ORDER = 20   /* lists in EDGE overlap or are out of order */
+};
+
+/*
+ * Returns what is wrong with the bytes of a commit-graph file.
+ *
+ * The result is 0 if the bytes are well-formed; gix_history_open then does not
+ * return GIX_NO_GRAPH. Otherwise the result is one of the numbers above. If
+ * several things are wrong, it is the number of any of them.
+ */
+GIX_MUST_USE
+uint32_t gix_graph_fault(const uint8_t *bytes, size_t bytes_len);
+
+/*
+ * Makes a history partial if `partial` is true, and complete if it is false.
+ *
+ * A complete history has the commits that were added, and no others. A partial
+ * one may have others. See PARTIAL HISTORIES above.
+ */
+void gix_history_set_partial(gix_history *history, bool partial);
+
+/*
+ * Writes the id of the commit that a question wanted.
+ *
+ * The last call that returned GIX_WANTS needed this commit, and the history did
+ * not have it then. Calls before the last gix_history_set_partial do not count.
+ *
+ * Returns:
+ *   GIX_OK
+ *   GIX_NONE           No call has returned GIX_WANTS, or the history is
+ *                      complete.
+ */
+GIX_MUST_USE
+int32_t gix_history_wanted(gix_history *history, gix_id *out);
 
 /*
  * Frees a history that gix_history_new or gix_history_open has made.
@@ -300,7 +386,7 @@ int32_t gix_history_insert(gix_history *history, const gix_id *id,
  *   GIX_OK             `id` is the hash of the content. The commit has the
  *                      parents and the date that git reads from it.
  *   GIX_ALTERED        `id` is not the hash of the content.
- *   GIX_MISSHAPEN      The content does not begin with the line of a tree, a
+ *   GIX_MISSHAPEN      The content does not begin with the line of a tree. Or a
  *                      line of a parent is malformed, or the date is 2^63
  *                      seconds or more.
  *   GIX_ALREADY_THERE  The history has a commit with this id, and keeps it.
@@ -350,8 +436,8 @@ int32_t gix_history_commit(gix_history *history, const gix_id *id,
  * Returns how many hex digits of `id` are enough, like `git rev-parse --short`.
  *
  * It is the least number, from `least` on and from 4 to 40, such that no other
- * id of a commit of the history begins with these digits. git may print more of
- * them, because it looks at all objects.
+ * id of a commit of the history begins with these digits. git may print more
+ * digits, because it looks at all objects.
  */
 GIX_MUST_USE
 size_t gix_history_abbreviate(gix_history *history, const gix_id *id,
@@ -371,6 +457,7 @@ size_t gix_history_abbreviate(gix_history *history, const gix_id *id,
  * Returns:
  *   GIX_OK
  *   GIX_NONE           There is no merge base. *count is 0.
+ *   GIX_WANTS          A commit is wanted; only in a partial history.
  *   GIX_OUT_OF_MEMORY
  */
 GIX_MUST_USE
@@ -392,6 +479,7 @@ int32_t gix_history_merge_bases(gix_history *history, const gix_id *first,
  * Returns:
  *   GIX_OK
  *   GIX_NONE           There is no common ancestor.
+ *   GIX_WANTS          A commit is wanted; only in a partial history.
  *   GIX_OUT_OF_MEMORY
  */
 GIX_MUST_USE
@@ -412,6 +500,7 @@ int32_t gix_history_octopus(gix_history *history, const gix_id *first,
  * Returns:
  *   GIX_OK             It is reachable.
  *   GIX_NONE           It is not.
+ *   GIX_WANTS          A commit is wanted; only in a partial history.
  *   GIX_OUT_OF_MEMORY
  */
 GIX_MUST_USE
@@ -427,6 +516,7 @@ int32_t gix_history_is_ancestor(gix_history *history, const gix_id *ancestor,
  * Returns:
  *   1                  It does.
  *   0                  It does not.
+ *   GIX_WANTS          A commit is wanted; only in a partial history.
  *   GIX_OUT_OF_MEMORY
  */
 GIX_MUST_USE
@@ -444,6 +534,7 @@ int32_t gix_history_reaches(gix_history *history, const gix_id *from,
  *
  * Returns:
  *   GIX_OK
+ *   GIX_WANTS          A commit is wanted; only in a partial history.
  *   GIX_OUT_OF_MEMORY
  */
 GIX_MUST_USE
@@ -463,6 +554,7 @@ int32_t gix_history_independent(gix_history *history, const gix_id *ids,
  *
  * Returns:
  *   GIX_OK
+ *   GIX_WANTS          A commit is wanted; only in a partial history.
  *   GIX_OUT_OF_MEMORY
  */
 GIX_MUST_USE
@@ -479,6 +571,7 @@ int32_t gix_history_ahead_behind(gix_history *history, const gix_id *ours,
  *
  * Returns:
  *   GIX_OK
+ *   GIX_WANTS          A commit is wanted; only in a partial history.
  *   GIX_OUT_OF_MEMORY
  */
 GIX_MUST_USE
@@ -550,9 +643,9 @@ typedef struct {
  * how->first_parent only first parents count as parents. Which of several
  * equally near names is chosen is not promised.
  *
- * Premises: none for the above. With older parents, and if at most
- * how->max_candidates and at most 32 ancestors have names, *depth is the least
- * such number of all named ancestors.
+ * Premises: none for the above. With older parents *depth is the least such
+ * number of all named ancestors, if at most how->max_candidates and at most 32
+ * ancestors have names.
  *
  * Each call walks the history anew. What other queries have cached is kept.
  *
@@ -564,6 +657,7 @@ typedef struct {
  *                      how->max_candidates is not 0.
  *   GIX_NO_HOW         how->size is not sizeof(gix_how).
  *   GIX_TOO_MANY       `commit` reaches 2^32 commits or more.
+ *   GIX_WANTS          A commit is wanted; only in a partial history.
  *   GIX_OUT_OF_MEMORY
  */
 GIX_MUST_USE
@@ -643,6 +737,7 @@ int32_t gix_history_unname(gix_history *history, const uint8_t *name,
  *   GIX_OK             *out is the set. *fault is unchanged.
  *   GIX_FAULT + n      Fault n. *fault says which part of the text is wrong.
  *                      *out is unchanged.
+ *   GIX_WANTS          A commit is wanted; only in a partial history.
  *   GIX_OUT_OF_MEMORY
  */
 GIX_MUST_USE
@@ -662,6 +757,7 @@ int32_t gix_history_resolve(gix_history *history, const uint8_t *text,
  *   GIX_OK             *out is the set. *fault is unchanged.
  *   GIX_FAULT + n      Fault n. *fault says which part of the text is wrong.
  *                      *out is unchanged.
+ *   GIX_WANTS          A commit is wanted; only in a partial history.
  *   GIX_OUT_OF_MEMORY
  */
 GIX_MUST_USE
@@ -677,6 +773,7 @@ int32_t gix_history_rev_parse(gix_history *history, const uint8_t *text,
  * Returns:
  *   GIX_OK
  *   GIX_NO_KIND        span->kind is not one of the six kinds.
+ *   GIX_WANTS          A commit is wanted; only in a partial history.
  *   GIX_OUT_OF_MEMORY
  */
 GIX_MUST_USE
@@ -690,6 +787,7 @@ int32_t gix_history_list(gix_history *history, const gix_span *span,
  * Returns:
  *   GIX_OK
  *   GIX_NO_KIND        span->kind is not one of the six kinds.
+ *   GIX_WANTS          A commit is wanted; only in a partial history.
  *   GIX_OUT_OF_MEMORY
  */
 GIX_MUST_USE

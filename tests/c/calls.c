@@ -95,6 +95,116 @@ static void newest(gix_history *history) {
     EXPECT(gix_history_newest_first(history, ids, 0, out, 4, &count) == GIX_OK && count == 0);
 }
 
+/* Puts in the commit of the criss-cross that a question wanted, and expects that it was not there. */
+static void give(gix_history *history) {
+    gix_id wanted = id_of(0xEE);
+    EXPECT(gix_history_wanted(history, &wanted) == GIX_OK);
+    switch (wanted.bytes[0]) {
+    case 0x11:
+        EXPECT(put(history, 0x11, 0, 0, 1) == GIX_OK);
+        break;
+    case 0x22:
+    case 0x33:
+        EXPECT(put(history, wanted.bytes[0], 0x11, 0, 2) == GIX_OK);
+        break;
+    case 0x44:
+    case 0x55:
+        EXPECT(put(history, wanted.bytes[0], 0x22, 0x33, wanted.bytes[0] & 0xF) == GIX_OK);
+        break;
+    default:
+        EXPECT(wanted.bytes[0] == 0x66 && put(history, 0x66, 0, 0, 6) == GIX_OK);
+    }
+}
+
+/* A partial history wants one commit after another, until it has an answer. Outputs are unchanged before. */
+static void partial(void) {
+    gix_history *history = NULL;
+    gix_id one = id_of(0x11), two = id_of(0x22), four = id_of(0x44), five = id_of(0x55), six = id_of(0x66);
+    gix_id out[3], wanted = id_of(0xEE);
+    size_t count = 99, ahead = 99, behind = 99;
+    int32_t code;
+    EXPECT(gix_history_new(0, &history) == GIX_OK);
+    EXPECT(gix_history_wanted(history, &wanted) == GIX_NONE && is_id(&wanted, 0xEE));
+    EXPECT(gix_history_reaches(history, &four, &four) == 0);
+    gix_history_set_partial(history, true);
+    EXPECT(gix_history_wanted(history, &wanted) == GIX_NONE && is_id(&wanted, 0xEE));
+    EXPECT(gix_history_reaches(history, &four, &four) == GIX_WANTS);
+    EXPECT(gix_history_wanted(history, &wanted) == GIX_OK && is_id(&wanted, 0x44));
+    while ((code = gix_history_is_ancestor(history, &two, &four)) == GIX_WANTS)
+        give(history);
+    EXPECT(code == GIX_OK && gix_history_len(history) < 5);
+    while ((code = gix_history_merge_bases(history, &four, &five, 1, out, 3, &count)) == GIX_WANTS) {
+        EXPECT(count == 99);
+        give(history);
+    }
+    EXPECT(code == GIX_OK && count == 2 && is_id(&out[0], 0x22) && is_id(&out[1], 0x33));
+    while ((code = gix_history_octopus(history, &four, &six, 1, out)) == GIX_WANTS)
+        give(history);
+    EXPECT(code == GIX_NONE && is_id(&out[0], 0x22));
+    while ((code = gix_history_ahead_behind(history, &five, &one, &ahead, &behind)) == GIX_WANTS)
+        give(history);
+    EXPECT(code == GIX_OK && ahead == 3 && behind == 0 && gix_history_len(history) == 6);
+    gix_history_set_partial(history, false);
+    EXPECT(gix_history_wanted(history, &wanted) == GIX_NONE);
+    EXPECT(gix_history_merge_bases(history, &four, &five, 1, out, 3, &count) == GIX_OK && count == 2);
+    gix_history_free(history);
+}
+
+/* The same for descriptions, revisions, lists and counts. */
+static void partial_texts(void) {
+    gix_history *history = NULL;
+    gix_id two = id_of(0x22), three = id_of(0x33), five = id_of(0x55), six = id_of(0x66), ids[2], out[3];
+    gix_name name;
+    gix_how how = GIX_HOW_INIT;
+    gix_span span = {6, six, six};
+    gix_fault fault = {99, 99, 99};
+    uint8_t text[20];
+    size_t len = 99, count = 99;
+    uint32_t depth = 99;
+    int32_t code;
+    name.id = two;
+    name.text = text_of("v2");
+    name.text_len = 2;
+    EXPECT(gix_history_new(0, &history) == GIX_OK);
+    gix_history_set_partial(history, true);
+    EXPECT(gix_history_name(history, text_of("main"), 4, &five) == GIX_OK);
+    while ((code = gix_history_rev_parse(history, text_of("main~1"), 6, 0, 0, &span, &fault)) == GIX_WANTS) {
+        EXPECT(span.kind == 6 && fault.number == 99);
+        give(history);
+    }
+    EXPECT(code == GIX_OK && span.kind == GIX_INCLUDE && is_id(&span.first, 0x22));
+    while ((code = gix_history_resolve(history, text_of("main~3"), 6, 0, 0, &span, &fault)) == GIX_WANTS)
+        give(history);
+    EXPECT(code == GIX_FAULT + 24 && fault.number == 24 && is_id(&span.first, 0x22) && gix_history_len(history) == 3);
+    while ((code = gix_history_describe(history, &five, &name, 1, &how, text, sizeof text, &len, &depth)) == GIX_WANTS) {
+        EXPECT(len == 99 && depth == 99);
+        give(history);
+    }
+    EXPECT(code == GIX_OK && len == 13 && memcmp(text, "v2-2-g5555555", len) == 0 && depth == 2);
+    ids[0] = six;
+    ids[1] = three;
+    while ((code = gix_history_newest_first(history, ids, 2, out, 3, &count)) == GIX_WANTS)
+        give(history);
+    EXPECT(code == GIX_OK && count == 2 && is_id(&out[0], 0x66) && is_id(&out[1], 0x33));
+    while ((code = gix_history_independent(history, ids, 2, out, 3, &count)) == GIX_WANTS)
+        give(history);
+    EXPECT(code == GIX_OK && count == 2);
+    span.first = id_of(0x44);
+    while ((code = gix_history_count(history, &span, &count)) == GIX_WANTS) {
+        EXPECT(count == 2);
+        give(history);
+    }
+    EXPECT(code == GIX_OK && count == 4);
+    EXPECT(gix_history_list(history, &span, NULL, 0, out, 3, &count) == GIX_OK && count == 3 && is_id(&out[0], 0x11));
+    span.kind = 6;
+    EXPECT(gix_history_count(history, &span, &count) == GIX_NO_KIND);
+    span.kind = GIX_INCLUDE;
+    span.first = id_of(0x99);
+    EXPECT(gix_history_list(history, &span, NULL, 0, out, 3, &count) == GIX_WANTS && count == 3);
+    EXPECT(gix_history_wanted(history, out) == GIX_OK && is_id(&out[0], 0x99));
+    gix_history_free(history);
+}
+
 /* A history by rounds: what is missing is put in until nothing is. */
 static void rounds(void) {
     gix_history *history = NULL;
@@ -274,7 +384,7 @@ static void codes(void) {
     EXPECT(strcmp(gix_strerror(GIX_NO_COMMIT), "the history does not have the commit") == 0);
     EXPECT(strcmp(gix_strerror(GIX_FAULT + 14), "a brace is never closed") == 0);
     for (int32_t code = -20; code < 130; code++) {
-        int known = code == -1 || code == -2 || (code >= -11 && code <= -4) || code == 0 || code == 1 || (code > 100 && code < 128);
+        int known = code == -1 || code == -2 || (code >= -12 && code <= -4) || code == 0 || code == 1 || (code > 100 && code < 128);
         EXPECT((strcmp(gix_strerror(code), "unknown code") != 0) == known);
     }
 }
@@ -324,6 +434,7 @@ static void empty(void) {
     size_t count = 99;
     uint32_t depth = 99;
     EXPECT(gix_history_open(NULL, 0, 0, &history) == GIX_NO_GRAPH);
+    EXPECT(gix_graph_fault(NULL, 0) == GIX_GRAPH_TOO_SHORT);
     EXPECT(gix_history_new(0, &history) == GIX_OK);
     EXPECT(gix_history_insert(history, &one, NULL, 0, 1, false, 0) == GIX_OK);
     EXPECT(gix_history_merge_bases(history, &one, NULL, 0, NULL, 0, &count) == GIX_OK && count == 1);
@@ -353,7 +464,13 @@ static void opened(void) {
         EXPECT(gix_history_open(file, len, 0, &history) == GIX_NO_GRAPH);
     file[ROWS_OF_FIVE + 36 * 3 + 23] = 5;
     EXPECT(gix_history_open(file, sizeof file, 0, &history) == GIX_NO_GRAPH);
+    EXPECT(gix_graph_fault(file, sizeof file) == GIX_GRAPH_PARENT);
+    file[7] = 1;
+    EXPECT(gix_graph_fault(file, sizeof file) == GIX_GRAPH_BASE_GRAPHS);
+    file[0] = 'c';
+    EXPECT(gix_graph_fault(file, sizeof file) == GIX_GRAPH_SIGNATURE);
     write_file(file);
+    EXPECT(gix_graph_fault(file, sizeof file) == 0);
     write_number(file + ROWS_OF_FIVE + 36 * 3 + 28, 2 << 2);
     EXPECT(gix_history_open(file, sizeof file, 0, &history) == GIX_NO_LEVELS && history == NULL);
 
@@ -391,6 +508,8 @@ int main(void) {
     newest(history);
     commits(history);
     names(history);
+    partial();
+    partial_texts();
     rounds();
     late_parent(history);
     descriptions(history);

@@ -121,6 +121,34 @@ static void opened(long turn) {
     gix_history_free(history);
 }
 
+/* A partial history, which wants two commits. */
+static void partial(long turn) {
+    gix_history *history = NULL;
+    gix_id one = id_of(0x11), two = id_of(0x22), out[2];
+    gix_name name = {one, text_of("v1"), 2};
+    gix_how how = GIX_HOW_INIT;
+    gix_span span;
+    gix_fault fault;
+    uint8_t text[32];
+    size_t count = 0;
+    uint32_t depth = 0;
+    UNTIL(GIX_OK, gix_history_new(0, &history));
+    gix_history_set_partial(history, true);
+    UNTIL(GIX_OK, gix_history_name(history, text_of("main"), 4, &two));
+    UNTIL(GIX_WANTS, gix_history_rev_parse(history, text_of("main~1"), 6, 0, 0, &span, &fault));
+    EXPECT(gix_history_wanted(history, out) == GIX_OK && is_id(out, 0x22));
+    UNTIL(GIX_OK, put(history, 0x22, 0x11, 0, 2));
+    UNTIL(GIX_WANTS, gix_history_merge_bases(history, &one, &two, 1, out, 2, &count));
+    EXPECT(gix_history_wanted(history, out) == GIX_OK && is_id(out, 0x11));
+    UNTIL(GIX_OK, put(history, 0x11, 0, 0, 1));
+    UNTIL(GIX_OK, gix_history_merge_bases(history, &one, &two, 1, out, 2, &count));
+    EXPECT(count == 1 && is_id(out, 0x11));
+    UNTIL(GIX_OK, gix_history_describe(history, &two, &name, 1, &how, text, sizeof text, &count, &depth));
+    UNTIL(GIX_OK, gix_history_rev_parse(history, text_of("main~1"), 6, 0, 0, &span, &fault));
+    EXPECT(is_id(&span.first, 0x11));
+    gix_history_free(history);
+}
+
 int main(void) {
     long turn = -1, before;
     do {
@@ -132,6 +160,7 @@ int main(void) {
         calls(history, turn);
         gix_history_free(history);
         opened(turn);
+        partial(turn);
         EXPECT(live == 0);
     } while (refused > before);
     left = -1;

@@ -55,9 +55,9 @@ these commits have no generation number.
 """
 
 from ._errors import AlreadyThere, Altered, Fault, Misshapen, NoCommit, NoGraph, NoKind, NoLevels, NotRead, NotThere
-from ._errors import Refused, TooMany, UnknownCode
+from ._errors import Refused, TooMany, UnknownCode, Wants
 from ._history import Commit, Description, History, Kind, Names, Span
-from ._library import Id, Text, library_version
+from ._library import Id, Text, graph_fault, library_version
 from ._repository import Reference, Repository
 
 __version__ = "1.0.0"
@@ -86,6 +86,8 @@ __all__ = [
     "Text",
     "TooMany",
     "UnknownCode",
+    "Wants",
+    "graph_fault",
     "library_version",
 ]
 

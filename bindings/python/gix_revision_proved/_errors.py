@@ -39,6 +39,10 @@ class Misshapen(Refused):
     """The content is not a commit that can be read."""
 
 
+class Wants(Refused):
+    """The answer needs a commit that was not added; `wanted` has its id."""
+
+
 class Fault(Refused):
     """The revision has a fault, with a number from 1 to 27.
 
@@ -85,6 +89,7 @@ _REFUSALS = {
     -8: NoLevels,
     -9: Altered,
     -10: Misshapen,
+    -12: Wants,
 }
 
 

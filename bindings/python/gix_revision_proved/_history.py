@@ -11,7 +11,7 @@ from typing import NamedTuple, NoReturn
 
 from ._errors import Fault, answered
 from ._library import Id, Owner, RawCommit, RawFault, RawHow, RawId, RawSpan, Size, Text
-from ._library import hex_of, hexes_of, many, names_of, number, one, size, text_of
+from ._library import bytes_of, hex_of, hexes_of, many, names_of, number, one, size, text_of
 
 # In the class History, `list` is a method.
 IdList = list[str]
@@ -95,9 +95,10 @@ class History:
     def open(cls, file: bytes | bytearray | memoryview | mmap.mmap) -> History:
         """Makes a history of the commits in git's commit-graph file.
 
-        The bytes are copied. `insert` adds newer commits. Raises NoGraph or NoLevels.
+        The bytes are copied. `insert` adds newer commits. Raises NoGraph, of which `graph_fault`
+        says more, or NoLevels.
         """
-        data = file if isinstance(file, bytes) else bytes(memoryview(file))
+        data = bytes_of(file)
         history = cls.__new__(cls)
         history._owner = Owner("open", data, len(data))
         return history
@@ -185,6 +186,35 @@ class History:
         """
         raw = one(id)
         return hex_of(raw)[: self._owner.call("abbreviate", raw, size(least))]
+
+    def set_partial(self, partial: bool = True) -> None:
+        """Makes the history partial, or complete again.
+
+        A partial history may have commits that were not added. A question that needs such a commit
+        raises Wants, and an answer is right whatever else the history has.
+
+        >>> history = History()
+        >>> history.set_partial()
+        >>> history.insert("22" * 20, ["11" * 20], 2)
+        >>> history.is_ancestor("11" * 20, "22" * 20)
+        Traceback (most recent call last):
+        ...
+        gix_revision_proved.Wants: The answer needs a commit that was not added; `wanted` has its id.
+        >>> history.wanted()
+        '1111111111111111111111111111111111111111'
+        >>> history.insert("11" * 20, [], 1)
+        >>> history.is_ancestor("11" * 20, "22" * 20)
+        True
+        """
+        self._owner.call("set_partial", bool(partial))
+
+    def wanted(self) -> str | None:
+        """Returns the commit that the last question that raised Wants needed.
+
+        It is None if none did since the history was made partial, or if the history is complete.
+        """
+        out = RawId()
+        return hex_of(out) if self._call("wanted", out) else None
 
     def merge_bases(self, first: Id, others: Sequence[Id]) -> IdList:
         """Returns the merge bases of `first` and a merge of `others`, like `git merge-base --all`.

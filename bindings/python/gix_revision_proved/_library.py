@@ -3,6 +3,7 @@
 from __future__ import annotations
 
 import ctypes
+import mmap
 import operator
 import os
 import threading
@@ -62,6 +63,7 @@ _PARAMETERS: dict[str, tuple[object, ...]] = {
     "insert": (Handle, _Ids, _Ids, Size, ctypes.c_int64, ctypes.c_bool, ctypes.c_uint32),
     "insert_object": (Handle, _Ids, _Bytes, Size),
     "commit": (Handle, _Ids, ctypes.POINTER(RawCommit), _Ids, Size),
+    "wanted": (Handle, _Ids),
     "merge_bases": (Handle, _Ids, _Ids, Size, _Ids, Size, _Count),
     "octopus": (Handle, _Ids, _Ids, Size, _Ids),
     "is_ancestor": (Handle, _Ids, _Ids),
@@ -100,8 +102,10 @@ def _load() -> ctypes.CDLL:
         function = getattr(library, f"gix_history_{name}")
         function.restype, function.argtypes = ctypes.c_int32, types
     library.gix_history_free.restype, library.gix_history_free.argtypes = None, (Handle,)
+    library.gix_history_set_partial.restype, library.gix_history_set_partial.argtypes = None, (Handle, ctypes.c_bool)
     library.gix_history_len.restype, library.gix_history_len.argtypes = Size, (Handle,)
     library.gix_history_abbreviate.restype, library.gix_history_abbreviate.argtypes = Size, (Handle, _Ids, Size)
+    library.gix_graph_fault.restype, library.gix_graph_fault.argtypes = ctypes.c_uint32, (ctypes.c_char_p, Size)
     library.gix_version.restype, library.gix_version.argtypes = ctypes.c_uint32, ()
     return library
 
@@ -148,6 +152,22 @@ class Owner:
         # Nothing else refers to it any more, so no call is under way.
         if getattr(self, "_at", None):
             self._free(self._at)
+
+
+def bytes_of(file: bytes | bytearray | memoryview | mmap.mmap) -> bytes:
+    """Returns the bytes of a file, a copy unless they are `bytes` already."""
+    return file if isinstance(file, bytes) else bytes(memoryview(file))
+
+
+def graph_fault(file: bytes | bytearray | memoryview | mmap.mmap) -> int:
+    """Returns the number of one thing that is wrong with a commit-graph file, from 1 to 20.
+
+    The names GIX_GRAPH_.. in gix_revision.h say what it is. It is 0 if the file is well-formed, so
+    that `History.open` does not raise NoGraph.
+    """
+    data = bytes_of(file)
+    found: int = _library.gix_graph_fault(data, len(data))
+    return found
 
 
 def library_version() -> tuple[int, int, int]:

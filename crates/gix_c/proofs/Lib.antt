@@ -8,3 +8,4 @@ pub mod Named
 pub mod Parts
 pub mod Printed
 pub mod Undescribed
+pub mod Wholes

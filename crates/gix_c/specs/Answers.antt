@@ -73,10 +73,14 @@ pub record HasIndependent (h : History) (ids : List ObjectId) (old new : List (L
   pub order : SomeOf ids left
   pub written : IsWritten (map bytes_in left) old new count
 
--- Exactly those of ids that the history has, each once, by falling generation number, then falling
--- time, then rising id, are counted and written (git-rev-list, "--topo-order").
-pub record HasNewestFirst (h : History) (ids : List ObjectId) (old new : List (List ℕ)) (count : ℕ) : Type 0 where
-  pub found : List ObjectId
+-- The list found has exactly those of ids that the history has, each once, by falling generation
+-- number, then falling time, then rising id (git-rev-list, "--topo-order").
+pub record AreNewest (h : History) (ids found : List ObjectId) : Type 0 where
   pub order : IsInOrder h found
   pub same : (c : ObjectId) → IsTrue (is_one_of found c) ↔ (IsTrue (is_one_of ids c) × Has h c)
+
+-- Those of ids that the history has, newest first, are counted and written.
+pub record HasNewestFirst (h : History) (ids : List ObjectId) (old new : List (List ℕ)) (count : ℕ) : Type 0 where
+  pub found : List ObjectId
+  pub newest : AreNewest h ids found
   pub written : IsWritten (map bytes_in found) old new count

@@ -8,10 +8,11 @@ use Rattle.gix_revwalk.specs.Graph.{held_at}
 use Rattle.gix_revwalk.specs.History.{entry_at, is_one_of}
 use Rattle.gix_c.specs.Behind.{commits_in}
 use Rattle.gix_c.specs.Noted.{Remembers}
+use Rattle.gix_c.specs.declared.extent.Extent.TheVariants.{Complete}
 use Rattle.gix_c.specs.declared.handle.Handle.{Handle}
 use Rattle.gix_c.specs.declared.history.History.{History}
 
--- The history v has exactly the commits of the file. Its graph holds none of them yet, its noted
+-- The history v is complete and has exactly the commits of the file. Its graph holds none of them yet, its noted
 -- parents are right, and abbreviated object names stand for the ids of those commits alone.
 pub record IsMadeOf (file : List ℕ) (v : History) : Type 0 where
   pub commits : commits_in v ≡ history_in file
@@ -19,6 +20,7 @@ pub record IsMadeOf (file : List ℕ) (v : History) : Type 0 where
   pub noted : Remembers (commits_in v) v.named.items
   pub ids : (id : ObjectId) → is_one_of v.table.ids.keys id ≡ is_some (entry_at (history_in file) id)
   pub levelled : IsLevelled (history_in file)
+  pub extent : v.extent ≡ Complete
 
 -- There is a handle, and its history is that of a commit-graph file in which each commit has a
 -- level and each of its parents a lesser one.

@@ -1,19 +1,21 @@
 //! C functions for merge bases.
 
 ghost use Rattle.std.specs.Prelude.{◌≡◌, ◌∷◌, ⊤, None, [], map, IsTrue};
-ghost use Rattle.gix_revwalk.specs.History.{Has, IsAncestor, same_id};
+ghost use Rattle.gix_revwalk.specs.History.{Has, History as Commits, IsAncestor, same_id};
 ghost use Rattle.gix_merge_base.specs.Bases.{AreBases};
 ghost use Rattle.gix_merge_base.specs.Octopus.{IsOctopusBase};
 ghost use Rattle.gix_merge_base.specs.Premises.{IsAcyclicFrom, GenerationsNeverRiseFrom};
 ghost use Rattle.gix_c.specs.Answers.{ByCode, ByYes, HasBases, HasIndependent, HasOctopusBase, id_of};
 ghost use Rattle.gix_c.specs.Behind.{commits_of};
+ghost use Rattle.gix_c.specs.Partial.{IsUnanswered, whole_of};
 
 use crate::handle::Handle;
 use crate::ids::{bytes_of, bytes_of_each, ids_of, write, write_found};
 use crate::status::{NONE, OK, OUT_OF_MEMORY};
+use gix_history::questions::{self, Independent, MergeBases, Octopus};
 use gix_revision::hash::ObjectId;
-use gix_revision::merge_base::{self, is_ancestor, merge_base, octopus, reduce};
 use std::alloc::Global;
+use std::marker::Brand;
 
 /// Writes the merge bases of `first` and a hypothetical merge of `others`.
 ///
@@ -29,15 +31,18 @@ pub extern "C" fn gix_history_merge_bases(
     out: &mut [[u8; 20]],
     count: &mut usize,
 ) -> i32
-    ensures bases { IsAcyclicFrom (commits_of history.old) (id_of first.now ∷ map id_of others.now)
-        → GenerationsNeverRiseFrom (commits_of history.old) (id_of first.now ∷ map id_of others.now)
+    ghost beyond: { Commits }
+    ensures bases { IsAcyclicFrom (whole_of history.old beyond) (id_of first.now ∷ map id_of others.now)
+        → GenerationsNeverRiseFrom (whole_of history.old beyond) (id_of first.now ∷ map id_of others.now)
         → ByCode result
-        (HasBases (commits_of history.old) (id_of first.now) (map id_of others.now) out.old out.new count.new)
-        (AreBases (commits_of history.old) (id_of first.now) (map id_of others.now) [])
+        (HasBases (whole_of history.old beyond) (id_of first.now) (map id_of others.now) out.old out.new count.new)
+        (AreBases (whole_of history.old beyond) (id_of first.now) (map id_of others.now) [])
         ⊤ }
     ensures none { ByCode result ⊤ ((out.new ≡ out.old) × (count.new ≡ 0)) ⊤ }
-    ensures refused { ByCode result ⊤ ⊤
-        ((result ≡ OUT_OF_MEMORY) × (out.new ≡ out.old) × (count.new ≡ count.old)) }
+    ensures refused { ByCode result ⊤ ⊤ (IsUnanswered result history.old.value history.new.value
+        × (out.new ≡ out.old) × (count.new ≡ count.old)) }
+    ensures extent { ByCode result (history.new.value.extent ≡ history.old.value.extent)
+        (history.new.value.extent ≡ history.old.value.extent) ⊤ }
     ensures commits { commits_of history.new ≡ commits_of history.old }
     ensures named { history.new.value.named ≡ history.old.value.named }
     ensures table { history.new.value.table ≡ history.old.value.table }
@@ -45,12 +50,14 @@ pub extern "C" fn gix_history_merge_bases(
     let Ok(others) = ids_of(alloc, others) else {
         return OUT_OF_MEMORY;
     };
-    let first = ObjectId(*first);
-    let found = match merge_base(alloc, first, &others, &mut history.get_mut().graph) {
+    let question = MergeBases {
+        alloc,
+        first: ObjectId(*first),
+        others: &others,
+    };
+    let found = match history.get_mut().answer::<Brand, _>(alloc, &question) {
         Ok(found) => found,
-        // A source in memory does not fail.
-        Err(merge_base::Error::Source(_)) => unreachable!(),
-        Err(merge_base::Error::OutOfMemory) => return OUT_OF_MEMORY,
+        Err(code) => return code,
     };
     match write_found(alloc, &found, out, count) {
         Ok(()) => {}
@@ -75,14 +82,17 @@ pub extern "C" fn gix_history_octopus(
     others: &[[u8; 20]],
     out: &mut [u8; 20],
 ) -> i32
-    ensures base { IsAcyclicFrom (commits_of history.old) (id_of first.now ∷ map id_of others.now)
-        → GenerationsNeverRiseFrom (commits_of history.old) (id_of first.now ∷ map id_of others.now)
+    ghost beyond: { Commits }
+    ensures base { IsAcyclicFrom (whole_of history.old beyond) (id_of first.now ∷ map id_of others.now)
+        → GenerationsNeverRiseFrom (whole_of history.old beyond) (id_of first.now ∷ map id_of others.now)
         → ByCode result
-        (HasOctopusBase (commits_of history.old) (id_of first.now) (map id_of others.now) out.new)
-        (IsOctopusBase (commits_of history.old) (id_of first.now) (map id_of others.now) None)
+        (HasOctopusBase (whole_of history.old beyond) (id_of first.now) (map id_of others.now) out.new)
+        (IsOctopusBase (whole_of history.old beyond) (id_of first.now) (map id_of others.now) None)
         ⊤ }
     ensures kept { ByCode result ⊤ (out.new ≡ out.old) (out.new ≡ out.old) }
-    ensures refused { ByCode result ⊤ ⊤ (result ≡ OUT_OF_MEMORY) }
+    ensures refused { ByCode result ⊤ ⊤ (IsUnanswered result history.old.value history.new.value) }
+    ensures extent { ByCode result (history.new.value.extent ≡ history.old.value.extent)
+        (history.new.value.extent ≡ history.old.value.extent) ⊤ }
     ensures commits { commits_of history.new ≡ commits_of history.old }
     ensures named { history.new.value.named ≡ history.old.value.named }
     ensures table { history.new.value.table ≡ history.old.value.table }
@@ -90,12 +100,14 @@ pub extern "C" fn gix_history_octopus(
     let Ok(others) = ids_of(alloc, others) else {
         return OUT_OF_MEMORY;
     };
-    let first = ObjectId(*first);
-    let found = match octopus(alloc, first, &others, &mut history.get_mut().graph) {
+    let question = Octopus {
+        alloc,
+        first: ObjectId(*first),
+        others: &others,
+    };
+    let found = match history.get_mut().answer::<Brand, _>(alloc, &question) {
         Ok(found) => found,
-        // A source in memory does not fail.
-        Err(merge_base::Error::Source(_)) => unreachable!(),
-        Err(merge_base::Error::OutOfMemory) => return OUT_OF_MEMORY,
+        Err(code) => return code,
     };
     match found {
         Some(id) => {
@@ -120,34 +132,38 @@ pub extern "C" fn gix_history_is_ancestor(
     ancestor: &[u8; 20],
     of: &[u8; 20],
 ) -> i32
-    ensures ancestor { GenerationsNeverRiseFrom (commits_of history.old) (id_of of.now ∷ [])
+    ghost beyond: { Commits }
+    ensures ancestor { GenerationsNeverRiseFrom (whole_of history.old beyond) (id_of of.now ∷ [])
         → ByCode result
-        (IsAncestor (commits_of history.old) (id_of of.now) (id_of ancestor.now))
-        (¬ IsAncestor (commits_of history.old) (id_of of.now) (id_of ancestor.now))
+        (IsAncestor (whole_of history.old beyond) (id_of of.now) (id_of ancestor.now))
+        (¬ IsAncestor (whole_of history.old beyond) (id_of of.now) (id_of ancestor.now))
         ⊤ }
 
     // Without any premise.
     ensures reached { ByCode result
-        (IsAncestor (commits_of history.old) (id_of of.now) (id_of ancestor.now)) ⊤ ⊤ }
+        (IsAncestor (whole_of history.old beyond) (id_of of.now) (id_of ancestor.now)) ⊤ ⊤ }
 
     // If both are the same id.
     ensures same { IsTrue (same_id (id_of ancestor.now) (id_of of.now))
-        → ByCode result (Has (commits_of history.old) (id_of of.now))
-        (¬ Has (commits_of history.old) (id_of of.now)) ⊤ }
+        → ByCode result (Has (whole_of history.old beyond) (id_of of.now))
+        (¬ Has (whole_of history.old beyond) (id_of of.now)) ⊤ }
 
-    ensures refused { ByCode result ⊤ ⊤ (result ≡ OUT_OF_MEMORY) }
+    ensures refused { ByCode result ⊤ ⊤ (IsUnanswered result history.old.value history.new.value) }
+    ensures extent { ByCode result (history.new.value.extent ≡ history.old.value.extent)
+        (history.new.value.extent ≡ history.old.value.extent) ⊤ }
     ensures commits { commits_of history.new ≡ commits_of history.old }
     ensures named { history.new.value.named ≡ history.old.value.named }
     ensures table { history.new.value.table ≡ history.old.value.table }
 {
-    let ancestor = ObjectId(*ancestor);
-    let of = ObjectId(*of);
-    match is_ancestor(alloc, ancestor, of, &mut history.get_mut().graph) {
+    let question = questions::IsAncestor {
+        alloc,
+        ancestor: ObjectId(*ancestor),
+        of: ObjectId(*of),
+    };
+    match history.get_mut().answer::<Brand, _>(alloc, &question) {
         Ok(true) => OK,
         Ok(false) => NONE,
-        // A source in memory does not fail.
-        Err(merge_base::Error::Source(_)) => unreachable!(),
-        Err(merge_base::Error::OutOfMemory) => OUT_OF_MEMORY,
+        Err(code) => code,
     }
 }
 
@@ -165,29 +181,34 @@ pub extern "C" fn gix_history_reaches(
     from: &[u8; 20],
     ancestor: &[u8; 20],
 ) -> i32
-    ensures ancestor { GenerationsNeverRiseFrom (commits_of history.old) (id_of from.now ∷ [])
+    ghost beyond: { Commits }
+    ensures ancestor { GenerationsNeverRiseFrom (whole_of history.old beyond) (id_of from.now ∷ [])
         → ByYes result
-        (IsAncestor (commits_of history.old) (id_of from.now) (id_of ancestor.now))
-        (¬ IsAncestor (commits_of history.old) (id_of from.now) (id_of ancestor.now))
+        (IsAncestor (whole_of history.old beyond) (id_of from.now) (id_of ancestor.now))
+        (¬ IsAncestor (whole_of history.old beyond) (id_of from.now) (id_of ancestor.now))
         ⊤ }
 
     // Without any premise.
     ensures reached { ByYes result
-        (IsAncestor (commits_of history.old) (id_of from.now) (id_of ancestor.now)) ⊤ ⊤ }
+        (IsAncestor (whole_of history.old beyond) (id_of from.now) (id_of ancestor.now)) ⊤ ⊤ }
 
-    ensures refused { ByYes result ⊤ ⊤ (result ≡ OUT_OF_MEMORY) }
+    ensures refused { ByYes result ⊤ ⊤ (IsUnanswered result history.old.value history.new.value) }
+    ensures extent { ByYes result (history.new.value.extent ≡ history.old.value.extent)
+        (history.new.value.extent ≡ history.old.value.extent) ⊤ }
     ensures commits { commits_of history.new ≡ commits_of history.old }
     ensures named { history.new.value.named ≡ history.old.value.named }
     ensures table { history.new.value.table ≡ history.old.value.table }
 {
     let ancestor = ObjectId(*ancestor);
-    let from = ObjectId(*from);
-    match is_ancestor(alloc, ancestor, from, &mut history.get_mut().graph) {
+    let question = questions::IsAncestor {
+        alloc,
+        ancestor,
+        of: ObjectId(*from),
+    };
+    match history.get_mut().answer::<Brand, _>(alloc, &question) {
         Ok(true) => 1,
         Ok(false) => 0,
-        // A source in memory does not fail.
-        Err(merge_base::Error::Source(_)) => unreachable!(),
-        Err(merge_base::Error::OutOfMemory) => OUT_OF_MEMORY,
+        Err(code) => code,
     }
 }
 
@@ -206,12 +227,14 @@ pub extern "C" fn gix_history_independent(
     out: &mut [[u8; 20]],
     count: &mut usize,
 ) -> i32
-    ensures independent { IsAcyclicFrom (commits_of history.old) (map id_of ids.now)
-        → GenerationsNeverRiseFrom (commits_of history.old) (map id_of ids.now)
+    ghost beyond: { Commits }
+    ensures independent { IsAcyclicFrom (whole_of history.old beyond) (map id_of ids.now)
+        → GenerationsNeverRiseFrom (whole_of history.old beyond) (map id_of ids.now)
         → ByCode result
-        (HasIndependent (commits_of history.old) (map id_of ids.now) out.old out.new count.new) ⊥ ⊤ }
-    ensures refused { ByCode result ⊤ ⊥
-        ((result ≡ OUT_OF_MEMORY) × (out.new ≡ out.old) × (count.new ≡ count.old)) }
+        (HasIndependent (whole_of history.old beyond) (map id_of ids.now) out.old out.new count.new) ⊥ ⊤ }
+    ensures refused { ByCode result ⊤ ⊥ (IsUnanswered result history.old.value history.new.value
+        × (out.new ≡ out.old) × (count.new ≡ count.old)) }
+    ensures extent { ByCode result (history.new.value.extent ≡ history.old.value.extent) ⊥ ⊤ }
     ensures commits { commits_of history.new ≡ commits_of history.old }
     ensures named { history.new.value.named ≡ history.old.value.named }
     ensures table { history.new.value.table ≡ history.old.value.table }
@@ -219,11 +242,10 @@ pub extern "C" fn gix_history_independent(
     let Ok(ids) = ids_of(alloc, ids) else {
         return OUT_OF_MEMORY;
     };
-    let left = match reduce(alloc, &ids, &mut history.get_mut().graph) {
+    let question = Independent { alloc, ids: &ids };
+    let left = match history.get_mut().answer::<Brand, _>(alloc, &question) {
         Ok(left) => left,
-        // A source in memory does not fail.
-        Err(merge_base::Error::Source(_)) => unreachable!(),
-        Err(merge_base::Error::OutOfMemory) => return OUT_OF_MEMORY,
+        Err(code) => return code,
     };
     let Ok(bytes) = bytes_of_each(alloc, &left) else {
         return OUT_OF_MEMORY;

@@ -1,17 +1,20 @@
 //! C functions that count commits.
 
 ghost use Rattle.std.specs.Prelude.{◌≡◌, ◌∷◌, ◌⊎◌, [], ⊤, None};
+ghost use Rattle.gix_revwalk.specs.History.{History as Commits};
 ghost use Rattle.gix_merge_base.specs.Premises.{GenerationsNeverRiseFrom};
 ghost use Rattle.gix_c.specs.Answers.{ByCode, id_of};
 ghost use Rattle.gix_c.specs.Behind.{commits_of};
+ghost use Rattle.gix_c.specs.Partial.{IsUnanswered, whole_of};
 ghost use Rattle.gix_c.specs.Spans.{spec_at, HasCount, HasSides, HasSidesAtMost};
 
 use crate::handle::Handle;
 use crate::revisions::{Span, spec_of};
-use crate::status::{NO_KIND, OK, OUT_OF_MEMORY};
-use gix_resolve::{ListError, ahead_behind, count_commits};
+use crate::status::{NO_KIND, OK};
+use gix_history::questions::{AheadBehind, CountCommits};
 use gix_revision::hash::ObjectId;
 use std::alloc::Global;
+use std::marker::Brand;
 
 /// Counts the commits that `ours` reaches and `theirs` does not, and those the other way round.
 ///
@@ -27,27 +30,30 @@ pub extern "C" fn gix_history_ahead_behind(
     ahead: &mut usize,
     behind: &mut usize,
 ) -> i32
-    ensures sides { GenerationsNeverRiseFrom (commits_of history.old) (id_of ours.now ∷ id_of theirs.now ∷ [])
+    ghost beyond: { Commits }
+    ensures sides { GenerationsNeverRiseFrom (whole_of history.old beyond) (id_of ours.now ∷ id_of theirs.now ∷ [])
         → ByCode result
-        (HasSides (commits_of history.old) (id_of ours.now) (id_of theirs.now) ahead.new behind.new) ⊥ ⊤ }
+        (HasSides (whole_of history.old beyond) (id_of ours.now) (id_of theirs.now) ahead.new behind.new) ⊥ ⊤ }
 
     // Without any premise.
     ensures most { ByCode result
-        (HasSidesAtMost (commits_of history.old) (id_of ours.now) (id_of theirs.now) ahead.new behind.new) ⊥ ⊤ }
+        (HasSidesAtMost (whole_of history.old beyond) (id_of ours.now) (id_of theirs.now) ahead.new behind.new) ⊥ ⊤ }
 
-    ensures refused { ByCode result ⊤ ⊥
-        ((result ≡ OUT_OF_MEMORY) × (ahead.new ≡ ahead.old) × (behind.new ≡ behind.old)) }
+    ensures refused { ByCode result ⊤ ⊥ (IsUnanswered result history.old.value history.new.value
+        × (ahead.new ≡ ahead.old) × (behind.new ≡ behind.old)) }
+    ensures extent { ByCode result (history.new.value.extent ≡ history.old.value.extent) ⊥ ⊤ }
     ensures commits { commits_of history.new ≡ commits_of history.old }
     ensures named { history.new.value.named ≡ history.old.value.named }
     ensures table { history.new.value.table ≡ history.old.value.table }
 {
-    let ours = ObjectId(*ours);
-    let theirs = ObjectId(*theirs);
-    let counts = match ahead_behind(alloc, ours, theirs, &mut history.get_mut().graph) {
+    let question = AheadBehind {
+        alloc,
+        ours: ObjectId(*ours),
+        theirs: ObjectId(*theirs),
+    };
+    let counts = match history.get_mut().answer::<Brand, _>(alloc, &question) {
         Ok(counts) => counts,
-        // A source in memory does not fail.
-        Err(ListError::Source) => unreachable!(),
-        Err(ListError::OutOfMemory) => return OUT_OF_MEMORY,
+        Err(code) => return code,
     };
     *ahead = counts.0;
     *behind = counts.1;
@@ -62,10 +68,14 @@ pub extern "C" fn gix_history_count(
     span: &Span,
     count: &mut usize,
 ) -> i32
-    ensures size { ByCode result (HasCount (commits_of history.old) span.now count.new) ⊥
+    ghost beyond: { Commits }
+    ensures size { ByCode result (HasCount (whole_of history.old beyond) span.now count.new) ⊥
         (count.new ≡ count.old) }
     ensures kind { result ≡ NO_KIND → spec_at span.now ≡ None }
-    ensures refused { ByCode result ⊤ ⊥ ((result ≡ NO_KIND) ⊎ (result ≡ OUT_OF_MEMORY)) }
+    ensures refused { ByCode result ⊤ ⊥
+        ((result ≡ NO_KIND) ⊎ IsUnanswered result history.old.value history.new.value) }
+    ensures extent { ByCode result (history.new.value.extent ≡ history.old.value.extent) ⊥
+        (result ≡ NO_KIND → history.new.value.extent ≡ history.old.value.extent) }
     ensures commits { commits_of history.new ≡ commits_of history.old }
     ensures named { history.new.value.named ≡ history.old.value.named }
     ensures table { history.new.value.table ≡ history.old.value.table }
@@ -73,11 +83,10 @@ pub extern "C" fn gix_history_count(
     let Some(spec) = spec_of(span) else {
         return NO_KIND;
     };
-    let found = match count_commits(alloc, &spec, &mut history.get_mut().graph) {
+    let question = CountCommits { alloc, spec };
+    let found = match history.get_mut().answer::<Brand, _>(alloc, &question) {
         Ok(found) => found,
-        // A source in memory does not fail.
-        Err(ListError::Source) => unreachable!(),
-        Err(ListError::OutOfMemory) => return OUT_OF_MEMORY,
+        Err(code) => return code,
     };
     *count = found;
     OK

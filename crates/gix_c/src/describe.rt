@@ -1,27 +1,26 @@
 //! C function that describes a commit.
 
-ghost use Rattle.std.specs.Prelude.{◌≡◌, ◌≢◌, ◌^◌, ◌⊎◌, ⊤, ℕ, IfOk, OnErr, OnOk, None};
+ghost use Rattle.std.specs.Prelude.{◌≡◌, ◌≢◌, ◌^◌, ◌⊎◌, ⊤, ℕ, IfOk, IsTrue, OnErr, OnOk, None};
 ghost use Rattle.gix_base.specs.declared.hash.ObjectId.{ObjectId};
 ghost use Rattle.gix_revwalk.specs.Followed.{followed};
-ghost use Rattle.gix_revwalk.specs.History.{Has, IsAncestor};
+ghost use Rattle.gix_revwalk.specs.History.{Has, History as Commits, IsAncestor};
 ghost use Rattle.gix_revwalk.specs.Sizes.{AtLeast};
 ghost use Rattle.gix_describe.specs.Described.{name_at};
 ghost use Rattle.gix_describe.specs.FormatText.{format_bytes};
 ghost use Rattle.gix_describe.specs.Outcomes.{names_of, description_of};
 ghost use Rattle.gix_c.specs.Answers.{ByCode, id_of};
-ghost use Rattle.gix_c.specs.Behind.{commits_of};
 ghost use Rattle.gix_c.specs.Descriptions.{AreOptions, HasDescription, IsDescribedSo, IsPrinted, IsText, first_of, names_given, named_by, printed_text};
+ghost use Rattle.gix_c.specs.Partial.{Wants, is_partial, whole_of};
 
 use crate::handle::Handle;
-use crate::status::{NO_COMMIT, NO_HOW, NONE, OK, OUT_OF_MEMORY, TOO_MANY};
+use crate::status::{NO_COMMIT, NO_HOW, NONE, OK, OUT_OF_MEMORY, TOO_MANY, WANTS};
 use gix_revision::Seed;
-use gix_revision::describe::{Format, Names, Options, Outcome, describe};
-use gix_revision::error::Message;
-use gix_revision::graph::Graph;
+use gix_revision::describe::{Format, Names, Options, Outcome};
 use gix_revision::hash::ObjectId;
 use std::alloc::{AllocError, Global};
 use std::borrow::CowSlice;
 use std::collections::HashMap;
+use std::marker::Brand;
 
 /// A tag or ref, by the id of its commit and its text.
 #[repr(C)]
@@ -154,44 +153,41 @@ pub extern "C" fn gix_history_describe(
     len: &mut usize,
     depth: &mut u32,
 ) -> i32
+    ghost beyond: { Commits }
     ensures described { ByCode result
-        (HasDescription (commits_of history.old) (id_of commit.now) (names_given names.now) how.now
+        (HasDescription (whole_of history.old beyond) (id_of commit.now) (names_given names.now) how.now
         out.old out.new len.new depth.new)
-        (IsDescribedSo (commits_of history.old) (id_of commit.now) (names_given names.now) how.now None)
+        (IsDescribedSo (whole_of history.old beyond) (id_of commit.now) (names_given names.now) how.now None)
         ⊤ }
     ensures unwritten { ByCode result ⊤
         ((out.new ≡ out.old) × (len.new ≡ len.old) × (depth.new ≡ depth.old))
         ((out.new ≡ out.old) × (len.new ≡ len.old) × (depth.new ≡ depth.old)) }
-    ensures no_commit { result ≡ NO_COMMIT → ¬ Has (commits_of history.old) (id_of commit.now) }
+    ensures no_commit { result ≡ NO_COMMIT → ¬ Has (whole_of history.old beyond) (id_of commit.now) }
     ensures too_many { result ≡ TOO_MANY → AtLeast (2 ^ 32)
-        (IsAncestor (followed how.now.first_parent (commits_of history.old)) (id_of commit.now)) }
+        (IsAncestor (followed how.now.first_parent (whole_of history.old beyond)) (id_of commit.now)) }
     ensures no_how { result ≡ NO_HOW → how.now.size ≢ 32 }
-    ensures refused { ByCode result ⊤ ⊤ ((result ≡ NO_HOW)
-        ⊎ ((result ≡ NO_COMMIT) ⊎ ((result ≡ TOO_MANY) ⊎ (result ≡ OUT_OF_MEMORY)))) }
-    ensures kept { history.new.value ≡ history.old.value }
+    ensures wants { result ≡ WANTS → IsTrue (is_partial history.old.value.extent)
+        × Wants history.old.value history.new.value }
+    ensures refused { ByCode result ⊤ ⊤ ((result ≡ NO_HOW) ⊎ ((result ≡ NO_COMMIT)
+        ⊎ ((result ≡ TOO_MANY) ⊎ ((result ≡ WANTS) ⊎ (result ≡ OUT_OF_MEMORY))))) }
+    ensures kept { result ≢ WANTS → history.new.value ≡ history.old.value }
+    ensures graph { history.new.value.graph ≡ history.old.value.graph }
+    ensures named { history.new.value.named ≡ history.old.value.named }
+    ensures table { history.new.value.table ≡ history.old.value.table }
 {
     if how.size != HOW_SIZE as usize {
         return NO_HOW;
     }
-    let graph = &history.get_mut().graph;
-    let seed = graph.seed();
-    let Ok(options) = options_of(alloc, seed, names, how) else {
+    let history = history.get_mut();
+    let Ok(options) = options_of(alloc, history.graph.seed(), names, how) else {
         return OUT_OF_MEMORY;
     };
-    let mut marks = Graph::with_seed(alloc, graph.source(), seed);
-    let found = match describe(alloc, &ObjectId(*commit), &mut marks, options) {
-        Ok(found) => found,
-        // A source in memory does not fail.
-        Err(Message::ParentsOf(_)) => unreachable!(),
-        Err(Message::MissingStart(_)) => return NO_COMMIT,
-        Err(Message::CounterFull) => return TOO_MANY,
-        Err(Message::OutOfMemory) => return OUT_OF_MEMORY,
-    };
-    match found {
-        Some(outcome) => match printed(alloc, outcome, how, out, len, depth) {
+    match history.describe::<Brand>(alloc, ObjectId(*commit), options) {
+        Ok(Some(outcome)) => match printed(alloc, outcome, how, out, len, depth) {
             Ok(()) => OK,
             Err(_) => OUT_OF_MEMORY,
         },
-        None => NONE,
+        Ok(None) => NONE,
+        Err(code) => code,
     }
 }

@@ -12,7 +12,7 @@ use bstr::ByteSlice;
 #[repr(C)]
 #[derive(Clone, Copy)]
 pub struct FaultPlace {
-    number: u8,
+    pub(crate) number: u8,
     start: usize,
     length: usize,
 }

@@ -5,16 +5,21 @@
 #![tactic(auto)]
 
 mod abbreviate;
+mod ask;
 mod bases;
 mod commits;
 mod counts;
 mod describe;
+mod described;
 mod digits;
+mod extent;
 mod faults;
 mod file;
+mod graph_fault;
 mod handle;
 mod history;
 mod ids;
+pub mod laws;
 mod life;
 mod loose;
 mod missing;
@@ -22,7 +27,10 @@ mod names;
 mod newest;
 mod object;
 mod open;
+mod partial;
 mod place;
+mod questions;
+mod resolved;
 mod revisions;
 mod status;
 mod version;

@@ -54,6 +54,7 @@ pub(crate) fn insert_commit(history: &mut Handle, id: ObjectId, commit: SourceCo
         ⊎ (history.new.value.table.ids.keys ≡ history.old.value.table.ids.keys)) }
     ensures held { history.new.value.graph.held ≡ history.old.value.graph.held }
     ensures noted { IsNoted history.old → IsNoted history.new }
+    ensures extent { history.new.value.extent ≡ history.old.value.extent }
 {
     let history = history.get_mut();
     if history.add_id(id).is_err() {
@@ -92,6 +93,7 @@ pub extern "C" fn gix_history_insert(
         ⊎ (history.new.value.table.ids.keys ≡ history.old.value.table.ids.keys)) }
     ensures held { history.new.value.graph.held ≡ history.old.value.graph.held }
     ensures noted { IsNoted history.old → IsNoted history.new }
+    ensures extent { history.new.value.extent ≡ history.old.value.extent }
 {
     let Ok(parents) = ids_of(alloc, parents) else {
         return OUT_OF_MEMORY;

@@ -76,6 +76,7 @@ fn sift(alloc: Global, history: &mut History) -> Result<(), AllocError>
     ensures refused { OnErr result (history.new.named ≡ history.old.named) }
     ensures graph { history.new.graph ≡ history.old.graph }
     ensures table { history.new.table ≡ history.old.table }
+    ensures extent { history.new.extent ≡ history.old.extent }
 {
     let found = lacked(alloc, &history.named, history.graph.source())?;
     let set = set_of(alloc, found)?;
@@ -128,6 +129,7 @@ pub extern "C" fn gix_history_missing(
     ensures commits { commits_of history.new ≡ commits_of history.old }
     ensures noted { IsNoted history.old → IsNoted history.new }
     ensures table { history.new.value.table ≡ history.old.value.table }
+    ensures extent { history.new.value.extent ≡ history.old.value.extent }
 {
     let after = after.first().map(|id| ObjectId(*id));
     let history = history.get_mut();

@@ -23,6 +23,7 @@ pub extern "C" fn gix_history_name(
     ensures ids { history.new.value.table.ids ≡ history.old.value.table.ids }
     ensures graph { history.new.value.graph ≡ history.old.value.graph }
     ensures named { history.new.value.named ≡ history.old.value.named }
+    ensures extent { history.new.value.extent ≡ history.old.value.extent }
 {
     let Ok(name) = name.to_vec(alloc) else {
         return OUT_OF_MEMORY;
@@ -44,6 +45,7 @@ pub extern "C" fn gix_history_unname(history: &mut Handle, name: &[u8]) -> i32
     ensures ids { history.new.value.table.ids ≡ history.old.value.table.ids }
     ensures graph { history.new.value.graph ≡ history.old.value.graph }
     ensures named { history.new.value.named ≡ history.old.value.named }
+    ensures extent { history.new.value.extent ≡ history.old.value.extent }
 {
     match history.get_mut().table.names.remove(name) {
         Some(_) => OK,

@@ -1,14 +1,17 @@
 //! C function that sorts commits.
 
 ghost use Rattle.std.specs.Prelude.{◌≡◌, ⊤, map};
+ghost use Rattle.gix_revwalk.specs.History.{History as Commits};
 ghost use Rattle.gix_c.specs.Answers.{ByCode, HasNewestFirst, id_of};
 ghost use Rattle.gix_c.specs.Behind.{commits_of};
+ghost use Rattle.gix_c.specs.Partial.{IsUnanswered, whole_of};
 
 use crate::handle::Handle;
 use crate::ids::{bytes_of_each, ids_of, write};
+use crate::questions::NewestFirst;
 use crate::status::{OK, OUT_OF_MEMORY};
-use gix_resolve::{ListError, newest_first};
 use std::alloc::Global;
+use std::marker::Brand;
 
 /// Sorts those of `ids` that the history has, each once.
 ///
@@ -21,10 +24,12 @@ pub extern "C" fn gix_history_newest_first(
     out: &mut [[u8; 20]],
     count: &mut usize,
 ) -> i32
+    ghost beyond: { Commits }
     ensures newest { ByCode result
-        (HasNewestFirst (commits_of history.old) (map id_of ids.now) out.old out.new count.new) ⊥ ⊤ }
-    ensures refused { ByCode result ⊤ ⊥
-        ((result ≡ OUT_OF_MEMORY) × (out.new ≡ out.old) × (count.new ≡ count.old)) }
+        (HasNewestFirst (whole_of history.old beyond) (map id_of ids.now) out.old out.new count.new) ⊥ ⊤ }
+    ensures refused { ByCode result ⊤ ⊥ (IsUnanswered result history.old.value history.new.value
+        × (out.new ≡ out.old) × (count.new ≡ count.old)) }
+    ensures extent { ByCode result (history.new.value.extent ≡ history.old.value.extent) ⊥ ⊤ }
     ensures commits { commits_of history.new ≡ commits_of history.old }
     ensures named { history.new.value.named ≡ history.old.value.named }
     ensures table { history.new.value.table ≡ history.old.value.table }
@@ -32,11 +37,10 @@ pub extern "C" fn gix_history_newest_first(
     let Ok(ids) = ids_of(alloc, ids) else {
         return OUT_OF_MEMORY;
     };
-    let found = match newest_first(alloc, &ids, &mut history.get_mut().graph) {
+    let question = NewestFirst { alloc, ids: &ids };
+    let found = match history.get_mut().answer::<Brand, _>(alloc, &question) {
         Ok(found) => found,
-        // A source in memory does not fail.
-        Err(ListError::Source) => unreachable!(),
-        Err(ListError::OutOfMemory) => return OUT_OF_MEMORY,
+        Err(code) => return code,
     };
     let Ok(bytes) = bytes_of_each(alloc, &found) else {
         return OUT_OF_MEMORY;

@@ -43,6 +43,7 @@ pub extern "C" fn gix_history_insert_object(
         ⊎ (history.new.value.table.ids.keys ≡ history.old.value.table.ids.keys)) }
     ensures held { history.new.value.graph.held ≡ history.old.value.graph.held }
     ensures noted { IsNoted history.old → IsNoted history.new }
+    ensures extent { history.new.value.extent ≡ history.old.value.extent }
 {
     let id = ObjectId(*id);
     match read(alloc, id, content) {

@@ -2,22 +2,25 @@
 
 ghost use Rattle.std.specs.Prelude.{◌≡◌, ◌⊎◌, ⊤, None, Some, slice_get};
 ghost use Rattle.std.specs.Option.{option_map};
+ghost use Rattle.gix_revwalk.specs.History.{History as Commits};
 ghost use Rattle.gix_resolve.specs.Resolved.{Resolved};
 ghost use Rattle.gix_resolve.specs.RevParse.{RevParsed};
 ghost use Rattle.gix_c.specs.Answers.{ByCode, ByFault, id_of};
 ghost use Rattle.gix_c.specs.Behind.{commits_of, known_in};
+ghost use Rattle.gix_c.specs.Partial.{IsUnanswered, whole_of};
 ghost use Rattle.gix_c.specs.Spans.{spec_at, HasFault, HasSpec, HasPage};
 
-use crate::faults::{FaultPlace, fault_place};
+use crate::faults::FaultPlace;
 use crate::handle::Handle;
 use crate::ids::{bytes_of, bytes_of_each, write};
+use crate::questions::Page;
+use crate::resolved::Reading;
 use crate::status::{FAULT, NO_KIND, OK, OUT_OF_MEMORY};
-use gix_resolve::{ListError, page, resolve, rev_parse};
 use gix_revision::date::Time;
 use gix_revision::hash::ObjectId;
 use gix_revision::spec::Spec;
-use gix_revision::spec::parse::Error;
 use std::alloc::Global;
+use std::marker::Brand;
 
 /// A revision range or set, by its kind and ids. The second id counts only for `RANGE` and `MERGE`.
 #[repr(C)]
@@ -40,7 +43,7 @@ const ONLY_PARENTS: u32 = 4;
 
 const WITHOUT_PARENTS: u32 = 5;
 
-fn span_of(spec: Spec) -> Span
+pub(crate) fn span_of(spec: Spec) -> Span
     ensures { spec_at result ≡ Some spec }
 {
     let (kind, first, second) = match spec {
@@ -96,36 +99,33 @@ pub extern "C" fn gix_history_resolve(
     out: &mut Span,
     fault: &mut FaultPlace,
 ) -> i32
+    ghost beyond: { Commits }
     ensures spec { ByFault result
         (HasSpec (Resolved text.now (record { seconds = seconds; offset = offset })
-        (known_in history.old.value) (commits_of history.old)) out.new)
+        (known_in history.old.value) (whole_of history.old beyond)) out.new)
         (HasFault (Resolved text.now (record { seconds = seconds; offset = offset })
-        (known_in history.old.value) (commits_of history.old)) text.now fault.new result)
-        (result ≡ OUT_OF_MEMORY) }
+        (known_in history.old.value) (whole_of history.old beyond)) text.now fault.new result)
+        (IsUnanswered result history.old.value history.new.value) }
     ensures kept { ByFault result ⊤ (out.new ≡ out.old) (out.new ≡ out.old) }
     ensures faultless { ByFault result (fault.new ≡ fault.old) ⊤ (fault.new ≡ fault.old) }
+    ensures extent { ByFault result (history.new.value.extent ≡ history.old.value.extent)
+        (history.new.value.extent ≡ history.old.value.extent) ⊤ }
     ensures commits { commits_of history.new ≡ commits_of history.old }
     ensures named { history.new.value.named ≡ history.old.value.named }
     ensures table { history.new.value.table ≡ history.old.value.table }
 {
-    let history = history.get_mut();
     let now = Time { seconds, offset };
-    match resolve(alloc, alloc, text, now, &history.table, &mut history.graph) {
-        Ok(spec) => {
-            *out = span_of(spec);
+    match history.get_mut().read::<Brand>(alloc, text, now, false) {
+        Ok(Reading::Set(span)) => {
+            *out = span;
             OK
         }
-        Err(Error::OutOfMemory) => OUT_OF_MEMORY,
-        Err(
-            Error::Refused {
-                fault: found,
-                input,
-                ..
-            },
-        ) => {
-            *fault = fault_place(text, found.number(), input);
-            FAULT + i32::from(found.number())
+        Ok(Reading::Fault(place)) => {
+            *fault = place;
+            FAULT + i32::from(place.number)
         }
+        Ok(Reading::OutOfMemory) => OUT_OF_MEMORY,
+        Err(code) => code,
     }
 }
 
@@ -142,36 +142,33 @@ pub extern "C" fn gix_history_rev_parse(
     out: &mut Span,
     fault: &mut FaultPlace,
 ) -> i32
+    ghost beyond: { Commits }
     ensures spec { ByFault result
         (HasSpec (RevParsed text.now (record { seconds = seconds; offset = offset })
-        (known_in history.old.value) (commits_of history.old)) out.new)
+        (known_in history.old.value) (whole_of history.old beyond)) out.new)
         (HasFault (RevParsed text.now (record { seconds = seconds; offset = offset })
-        (known_in history.old.value) (commits_of history.old)) text.now fault.new result)
-        (result ≡ OUT_OF_MEMORY) }
+        (known_in history.old.value) (whole_of history.old beyond)) text.now fault.new result)
+        (IsUnanswered result history.old.value history.new.value) }
     ensures kept { ByFault result ⊤ (out.new ≡ out.old) (out.new ≡ out.old) }
     ensures faultless { ByFault result (fault.new ≡ fault.old) ⊤ (fault.new ≡ fault.old) }
+    ensures extent { ByFault result (history.new.value.extent ≡ history.old.value.extent)
+        (history.new.value.extent ≡ history.old.value.extent) ⊤ }
     ensures commits { commits_of history.new ≡ commits_of history.old }
     ensures named { history.new.value.named ≡ history.old.value.named }
     ensures table { history.new.value.table ≡ history.old.value.table }
 {
-    let history = history.get_mut();
     let now = Time { seconds, offset };
-    match rev_parse(alloc, alloc, text, now, &history.table, &mut history.graph) {
-        Ok(spec) => {
-            *out = span_of(spec);
+    match history.get_mut().read::<Brand>(alloc, text, now, true) {
+        Ok(Reading::Set(span)) => {
+            *out = span;
             OK
         }
-        Err(Error::OutOfMemory) => OUT_OF_MEMORY,
-        Err(
-            Error::Refused {
-                fault: found,
-                input,
-                ..
-            },
-        ) => {
-            *fault = fault_place(text, found.number(), input);
-            FAULT + i32::from(found.number())
+        Ok(Reading::Fault(place)) => {
+            *fault = place;
+            FAULT + i32::from(place.number)
         }
+        Ok(Reading::OutOfMemory) => OUT_OF_MEMORY,
+        Err(code) => code,
     }
 }
 
@@ -187,10 +184,14 @@ pub extern "C" fn gix_history_list(
     out: &mut [[u8; 20]],
     count: &mut usize,
 ) -> i32
-    ensures page { ByCode result (HasPage (commits_of history.old) span.now
+    ghost beyond: { Commits }
+    ensures page { ByCode result (HasPage (whole_of history.old beyond) span.now
         (option_map id_of (slice_get after.now 0)) out.old out.new count.new) ⊥ ⊤ }
     ensures unwritten { ByCode result ⊤ ⊤ ((out.new ≡ out.old) × (count.new ≡ count.old)) }
-    ensures refused { ByCode result ⊤ ⊥ ((result ≡ NO_KIND) ⊎ (result ≡ OUT_OF_MEMORY)) }
+    ensures refused { ByCode result ⊤ ⊥
+        ((result ≡ NO_KIND) ⊎ IsUnanswered result history.old.value history.new.value) }
+    ensures extent { ByCode result (history.new.value.extent ≡ history.old.value.extent) ⊥
+        (result ≡ NO_KIND → history.new.value.extent ≡ history.old.value.extent) }
     ensures kind { result ≡ NO_KIND → spec_at span.now ≡ None }
     ensures commits { commits_of history.new ≡ commits_of history.old }
     ensures named { history.new.value.named ≡ history.old.value.named }
@@ -199,18 +200,19 @@ pub extern "C" fn gix_history_list(
     let Some(spec) = spec_of(span) else {
         return NO_KIND;
     };
-    let after = after.first().map(|id| ObjectId(*id));
-    let graph = &mut history.get_mut().graph;
-    match page(alloc, &spec, graph, after, out.len()) {
-        Ok(ids) => {
-            let Ok(bytes) = bytes_of_each(alloc, &ids) else {
-                return OUT_OF_MEMORY;
-            };
-            write(&bytes, out, count);
-            OK
-        }
-        // A source in memory does not fail.
-        Err(ListError::Source) => unreachable!(),
-        Err(ListError::OutOfMemory) => OUT_OF_MEMORY,
-    }
+    let question = Page {
+        alloc,
+        spec,
+        after: after.first().map(|id| ObjectId(*id)),
+        limit: out.len(),
+    };
+    let ids = match history.get_mut().answer::<Brand, _>(alloc, &question) {
+        Ok(ids) => ids,
+        Err(code) => return code,
+    };
+    let Ok(bytes) = bytes_of_each(alloc, &ids) else {
+        return OUT_OF_MEMORY;
+    };
+    write(&bytes, out, count);
+    OK
 }

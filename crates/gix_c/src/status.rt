@@ -24,5 +24,7 @@ pub const ALTERED: i32 = -9;
 pub const MISSHAPEN: i32 = -10;
 /// The size of the options is not one that this library knows.
 pub const NO_HOW: i32 = -11;
+/// The question needs a commit that was not put into a partial history.
+pub const WANTS: i32 = -12;
 /// A revision was refused. The code is this one plus the number of the fault, from 1 to 27.
 pub const FAULT: i32 = 100;

@@ -10,7 +10,7 @@ import unittest
 
 import gix_revision_proved
 from gix_revision_proved import AlreadyThere, Altered, Commit, Description, Fault, History, Kind, Misshapen, Names
-from gix_revision_proved import NoCommit, NoGraph, NoKind, NoLevels, Span
+from gix_revision_proved import NoCommit, NoGraph, NoKind, NoLevels, Span, graph_fault
 
 # A commit as git stores it, on the parent 11 11 .., and its id.
 CONTENT = b"""\
@@ -192,6 +192,7 @@ class Calls(unittest.TestCase):
             History.open(os.devnull)
         with self.assertRaises(NoGraph):
             History.open(file[:-1])
+        self.assertEqual([graph_fault(it) for it in (file, bytearray(file[1:]), b"")], [0, 2, 1])
         with self.assertRaises(NoGraph):
             History.open(b"")
         with self.assertRaises(NoLevels):

@@ -18,6 +18,7 @@ pub const GIX_NO_LEVELS: i32 = -8;
 pub const GIX_ALTERED: i32 = -9;
 pub const GIX_MISSHAPEN: i32 = -10;
 pub const GIX_NO_HOW: i32 = -11;
+pub const GIX_WANTS: i32 = -12;
 pub const GIX_FAULT: i32 = 100;
 
 pub const GIX_INCLUDE: u32 = 0;
@@ -94,6 +95,9 @@ extern "C" {
         seed: u64,
         out: *mut *mut gix_history,
     ) -> i32;
+    pub fn gix_graph_fault(bytes: *const u8, bytes_len: usize) -> u32;
+    pub fn gix_history_set_partial(history: *mut gix_history, partial: bool);
+    pub fn gix_history_wanted(history: *mut gix_history, out: *mut gix_id) -> i32;
     pub fn gix_history_free(history: *mut gix_history);
     pub fn gix_history_insert(
         history: *mut gix_history,

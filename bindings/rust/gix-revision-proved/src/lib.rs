@@ -149,6 +149,8 @@ pub enum Error {
     Altered,
     /// The content is not a commit that can be read.
     Misshapen,
+    /// The answer needs a commit that was not added. [`History::wanted`] has its id.
+    Wants,
     /// The revision has a fault, with a number from 1 to 27. The part of the text that it names
     /// begins at the byte `start` and has `length` bytes. If the text has these bytes at several
     /// places, `start` is the last one.
@@ -176,6 +178,7 @@ impl fmt::Display for Error {
             }
             Error::Altered => f.write_str("the id of the commit is not the hash of its content"),
             Error::Misshapen => f.write_str("the content is not a commit that can be read"),
+            Error::Wants => f.write_str("the answer needs a commit that was not added"),
             Error::Unknown(code) => write!(f, "the library returned the unknown code {code}"),
             Error::Fault {
                 number,
@@ -203,6 +206,7 @@ fn answered(code: i32) -> Result<bool, Error> {
         sys::GIX_NO_LEVELS => Err(Error::NoLevels),
         sys::GIX_ALTERED => Err(Error::Altered),
         sys::GIX_MISSHAPEN => Err(Error::Misshapen),
+        sys::GIX_WANTS => Err(Error::Wants),
         sys::GIX_OUT_OF_MEMORY => Err(Error::OutOfMemory),
         _ => Err(Error::Unknown(code)),
     }
@@ -329,6 +333,14 @@ pub fn library_version() -> (u32, u32, u32) {
     (version / 10000, version / 100 % 100, version % 100)
 }
 
+/// Returns the number of one thing that is wrong with a commit-graph file, from 1 to 20.
+///
+/// The names `GIX_GRAPH_..` in `gix_revision.h` say what it is. It is 0 if the file is well-formed,
+/// so that [`History::open`] does not return [`Error::NoGraph`].
+pub fn graph_fault(bytes: &[u8]) -> u32 {
+    unsafe { sys::gix_graph_fault(bytes.as_ptr(), bytes.len()) }
+}
+
 /// Returns a random seed for the hash tables of a history.
 fn random_seed() -> u64 {
     RandomState::new().build_hasher().finish()
@@ -367,7 +379,7 @@ impl History {
     ///
     /// # Errors
     ///
-    /// [`Error::NoGraph`] and [`Error::NoLevels`].
+    /// [`Error::NoGraph`], of which [`graph_fault`] says more, and [`Error::NoLevels`].
     pub fn open(bytes: &[u8]) -> Result<History, Error> {
         let mut at = ptr::null_mut();
         answered(unsafe {
@@ -424,6 +436,38 @@ impl History {
             sys::gix_history_insert_object(self.at(), id.raw(), content.as_ptr(), content.len())
         })?;
         Ok(())
+    }
+
+    /// Makes the history partial, or complete again.
+    ///
+    /// A partial history may have commits that were not added. A question that needs such a commit
+    /// fails with [`Error::Wants`], and an answer is right whatever else the history has.
+    ///
+    /// ```
+    /// use gix_revision_proved::{Error, History, Id};
+    ///
+    /// let mut history = History::new()?;
+    /// let (old, new) = (Id([0x11; 20]), Id([0x22; 20]));
+    /// history.set_partial(true);
+    /// history.insert(new, &[old], 2, None)?;
+    /// assert_eq!(history.is_ancestor(old, new), Err(Error::Wants));
+    /// assert_eq!(history.wanted()?, Some(old));
+    /// history.insert(old, &[], 1, None)?;
+    /// assert_eq!(history.is_ancestor(old, new), Ok(true));
+    /// # Ok::<(), Error>(())
+    /// ```
+    pub fn set_partial(&mut self, partial: bool) {
+        unsafe { sys::gix_history_set_partial(self.at(), partial) }
+    }
+
+    /// Returns the commit that the last question that failed with [`Error::Wants`] needed.
+    ///
+    /// It is `None` if none did since the history was made partial, or if the history is complete.
+    pub fn wanted(&mut self) -> Result<Option<Id>, Error> {
+        let mut out = Id([0; 20]);
+        let at = ptr::from_mut(&mut out).cast();
+        let found = answered(unsafe { sys::gix_history_wanted(self.at(), at) })?;
+        Ok(found.then_some(out))
     }
 
     /// Returns the number of commits.

@@ -1,6 +1,6 @@
 //! Each call over a criss-cross, and a history that another thread uses.
 
-use gix_revision_proved::{library_version, Commit, Error, History, How, Id, Span};
+use gix_revision_proved::{graph_fault, library_version, Commit, Error, History, How, Id, Span};
 
 const fn id(byte: u8) -> Id {
     Id([byte; 20])
@@ -72,6 +72,7 @@ fn bytes_that_are_no_file_are_refused() {
     let mut file = file();
     assert_eq!(History::open(&file[1..]).err(), Some(Error::NoGraph));
     assert_eq!(History::open(&[]).err(), Some(Error::NoGraph));
+    assert_eq!([graph_fault(&file), graph_fault(&file[1..]), graph_fault(&[])], [0, 2, 1]);
     file[1180 + 31] = 0;
     assert_eq!(History::open(&file).err(), Some(Error::NoLevels));
 }

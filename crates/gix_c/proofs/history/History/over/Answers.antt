@@ -18,4 +18,5 @@ returns c =
           (noted-closed (history_in c.args.file) c.with.result.named.items levelled.closed made.named);
       ids = λ id. ap (λ (s : BTreeSet ObjectId). is_one_of s.keys id) made.ids ∙ c.in_ok-ids.ensures id;
       levelled = levelled;
+      extent = made.extent;
     }

@@ -1,0 +1,103 @@
+//! Describes commits of complete and partial histories.
+
+ghost use Rattle.std.specs.Prelude.{◌≡◌, ◌⊎◌, ◌++◌, IfErr, IfOk, IsTrue, OnOk};
+ghost use Rattle.gix_describe.specs.Outcomes.{Describes, Keeps};
+ghost use Rattle.gix_c.specs.Behind.{commits_in};
+ghost use Rattle.gix_c.specs.Descriptions.{IsUndescribed};
+ghost use Rattle.gix_c.specs.Partial.{Wants, is_partial, whole_in};
+
+use crate::extent::Extent;
+use crate::history::History;
+use crate::status::{NO_COMMIT, OUT_OF_MEMORY, TOO_MANY, WANTS};
+use gix_history::{Beyond, Partial};
+use gix_revision::commit_graph::Commits;
+use gix_revision::describe::{Options, Outcome, describe};
+use gix_revision::error::Message;
+use gix_revision::graph::Graph;
+use gix_revision::hash::ObjectId;
+use std::alloc::Global;
+
+impl History {
+    /// Describes a commit over the commits that were put in, as if there were no others. Returns a
+    /// code if it cannot.
+    fn describe_complete<'a>(
+        &self,
+        alloc: Global,
+        commit: ObjectId,
+        options: Options<'a>,
+    ) -> Result<Option<Outcome<'a>>, i32>
+        ensures described { IfOk result (Describes (commits_in self.now) commit options.entry) }
+        ensures kept { IfOk result (Keeps commit options.entry) }
+        ensures refused { IfErr result
+            (IsUndescribed (commits_in self.now) commit options.entry.first_parent) }
+    {
+        let mut marks = Graph::with_seed(alloc, self.graph.source(), self.graph.seed());
+        match describe(alloc, &commit, &mut marks, options) {
+            Ok(found) => Ok(found),
+            Err(Message::MissingStart(_)) => Err(NO_COMMIT),
+            Err(Message::CounterFull) => Err(TOO_MANY),
+            // A source in memory does not fail.
+            Err(Message::ParentsOf(_) | Message::OutOfMemory) => Err(OUT_OF_MEMORY),
+        }
+    }
+
+    /// Describes a commit over the commits that were put in, whatever lies beyond them. Returns a
+    /// code if it cannot.
+    fn describe_partial<'a, K: Beyond>(
+        &mut self,
+        alloc: Global,
+        commit: ObjectId,
+        options: Options<'a>,
+    ) -> Result<Option<Outcome<'a>>, i32>
+        ensures described { IfOk result
+            (Describes (commits_in self.old ++ K.beyond) commit options.entry) }
+        ensures kept { IfOk result (Keeps commit options.entry) }
+        ensures refused { IfErr result (λ code. ((code ≡ WANTS) × Wants self.old self.new)
+            ⊎ (IsUndescribed (commits_in self.old ++ K.beyond) commit options.entry.first_parent code
+            × (self.new ≡ self.old))) }
+        ensures same { OnOk result (self.new ≡ self.old) }
+        ensures graph { self.new.graph ≡ self.old.graph }
+        ensures named { self.new.named ≡ self.old.named }
+        ensures table { self.new.table ≡ self.old.table }
+    {
+        let source = Partial::<&Commits<Global>, K>::new(self.graph.source());
+        let mut marks = Graph::with_seed(alloc, source, self.graph.seed());
+        let error = match describe(alloc, &commit, &mut marks, options) {
+            Ok(found) => return Ok(found),
+            Err(error) => error,
+        };
+        let wanted = marks.source().wanted;
+        drop(marks);
+        match error {
+            Message::MissingStart(_) => Err(NO_COMMIT),
+            Message::CounterFull => Err(TOO_MANY),
+            Message::OutOfMemory => Err(OUT_OF_MEMORY),
+            Message::ParentsOf(_) => Err(self.want(alloc, wanted)),
+        }
+    }
+
+    /// Describes a commit, or returns a code. If a commit is wanted, the history notes which.
+    pub(crate) fn describe<'a, K: Beyond>(
+        &mut self,
+        alloc: Global,
+        commit: ObjectId,
+        options: Options<'a>,
+    ) -> Result<Option<Outcome<'a>>, i32>
+        ensures described { IfOk result
+            (Describes (whole_in self.old K.beyond) commit options.entry) }
+        ensures kept { IfOk result (Keeps commit options.entry) }
+        ensures refused { IfErr result (λ code. ((code ≡ WANTS)
+            × IsTrue (is_partial self.old.extent) × Wants self.old self.new)
+            ⊎ (IsUndescribed (whole_in self.old K.beyond) commit options.entry.first_parent code
+            × (self.new ≡ self.old))) }
+        ensures same { OnOk result (self.new ≡ self.old) }
+        ensures graph { self.new.graph ≡ self.old.graph }
+        ensures named { self.new.named ≡ self.old.named }
+        ensures table { self.new.table ≡ self.old.table }
+    {
+        match self.extent {
+            Extent::Complete => self.describe_complete(alloc, commit, options),
+            Extent::Partial(_) => self.describe_partial::<K>(alloc, commit, options),
+        }
+    }
+}
