@@ -178,14 +178,21 @@ fn is_described(alloc: Global, ids: &Ids, graph: &mut Graph<LevelledGraph, u32>)
     }
 }
 
+/// Tests the answers about these commits.
+fn answers(alloc: Global, ids: &Ids, source: LevelledGraph) -> bool {
+    keys_fall(&source);
+    let mut graph = Graph::new(alloc, source);
+    let has_bases = has_all_bases(alloc, ids, &mut graph);
+    let mut marks = Graph::new(alloc, graph.into_source());
+    has_bases && is_described(alloc, ids, &mut marks)
+}
+
 fn are_answered(alloc: Global) -> Option<bool> {
     let source = levelled(alloc)?;
-    keys_fall(&source);
-    let ids = ids_in(&source)?;
-    let mut graph = Graph::new(alloc, source);
-    let has_bases = has_all_bases(alloc, &ids, &mut graph);
-    let mut marks = Graph::new(alloc, graph.into_source());
-    Some(has_bases && is_described(alloc, &ids, &mut marks))
+    match ids_in(&source) {
+        Some(ids) => Some(answers(alloc, &ids, source)),
+        None => None,
+    }
 }
 
 /// A commit that the file does not have.
@@ -221,12 +228,16 @@ fn meet_at<S: Find>(
     }
 }
 
+/// Returns the id of the octopus merge.
+fn merge_in(alloc: Global) -> Option<ObjectId> {
+    Some(ids_in(&levelled(alloc)?)?.merge)
+}
+
 /// Tests whether the octopus merge is the base of its newer child and itself.
 fn is_joined(alloc: Global) -> Option<bool> {
-    let file = levelled(alloc)?;
-    let merge = file.graph().id(4)?;
+    let merge = merge_in(alloc)?;
     let newer = newer_than(alloc, merge)?;
-    let file = Some(file);
+    let file = levelled(alloc);
     let mut graph = Graph::new(alloc, Joined { file, newer });
     Some(meet_at(alloc, NEWER, merge, &mut graph, &[merge]))
 }
@@ -272,19 +283,25 @@ fn grows_on(alloc: Global, merge: ObjectId, graph: &mut GrowingGraph) -> bool {
         && meet_at(alloc, NEWER, LATE, graph, &[LATE])
 }
 
+/// Makes a graph that takes commits, over a file or without one.
+fn growing(alloc: Global, file: Option<LevelledGraph>) -> GrowingGraph {
+    Graph::new(alloc, Commits::new(alloc, file))
+}
+
 fn grows(alloc: Global) -> Option<bool> {
-    let file = levelled(alloc)?;
-    let merge = file.graph().id(4)?;
-    let mut graph: GrowingGraph = Graph::new(alloc, Commits::new(alloc, Some(file)));
-    Some(grows_on(alloc, merge, &mut graph))
+    let merge = merge_in(alloc)?;
+    Some(grows_on(alloc, merge, &mut growing(alloc, levelled(alloc))))
 }
 
 /// Tests whether a history without a file takes commits.
+fn takes(alloc: Global, graph: &mut GrowingGraph) -> bool {
+    is_put(alloc, LATE, NEWER, graph)
+        && is_put(alloc, NEWER, ObjectId([3; 20]), graph)
+        && meet_at(alloc, LATE, NEWER, graph, &[NEWER])
+}
+
 fn grows_from_nothing(alloc: Global) -> bool {
-    let mut graph: GrowingGraph = Graph::new(alloc, Commits::new(alloc, None));
-    is_put(alloc, LATE, NEWER, &mut graph)
-        && is_put(alloc, NEWER, ObjectId([3; 20]), &mut graph)
-        && meet_at(alloc, LATE, NEWER, &mut graph, &[NEWER])
+    takes(alloc, &mut growing(alloc, None))
 }
 
 #[test]

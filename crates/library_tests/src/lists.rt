@@ -108,7 +108,7 @@ fn listed<S: Find, A: Allocator + Copy>(
 }
 
 /// A list, the look-up that fails, and the query that then fails.
-const FAILURES: [(&[Question], u64, Option<usize>); 11] = [
+static FAILURES: [(&[Question], u64, Option<usize>); 11] = [
     (&[], 0, None),
     (&SAME, 0, Some(0)),
     (&SAME, 1, Some(0)),

@@ -1,260 +1,282 @@
-//! Answers the questions of the tables as texts.
+//! Answers the questions of the tables as texts, and compares them.
 
-use crate::tables::Ask;
+use crate::questions::{Ask, Row};
+use crate::texts::Text;
 use gix_base::hash::ObjectId;
 use gix_odb::files::Folders;
-use gix_ref::{AtDate, Error, Listing, References, Target};
-use std::alloc::{AllocError, AllocFailed, Allocator};
-use std::io::Write;
-
-/// Says why there is no answer.
-#[derive(Clone, Copy)]
-pub(crate) enum NoAnswer {
-    Failed(Error),
-    OutOfMemory,
-}
-
-impl From<Error> for NoAnswer {
-    fn from(error: Error) -> NoAnswer {
-        NoAnswer::Failed(error)
-    }
-}
-
-impl From<AllocError> for NoAnswer {
-    fn from(_e: AllocError) -> NoAnswer {
-        NoAnswer::OutOfMemory
-    }
-}
-
-impl<T: Drop> From<AllocFailed<T>> for NoAnswer {
-    fn from(_e: AllocFailed<T>) -> NoAnswer {
-        NoAnswer::OutOfMemory
-    }
-}
-
-/// Adds the digits of an id.
-fn push_id<A: Allocator>(to: &mut Vec<u8, A>, id: ObjectId) -> Result<(), NoAnswer> {
-    match write!(to, "{id}") {
-        Ok(()) => Ok(()),
-        Err(_) => Err(NoAnswer::OutOfMemory),
-    }
-}
+use gix_ref::{AtDate, Error, Listed, References, Skipped, Target};
+use std::alloc::Allocator;
+use std::io::ErrorKind;
 
 /// Adds a blank and the digits of an id, if there is one.
-fn push_peeled<A: Allocator>(
-    to: &mut Vec<u8, A>,
-    peeled: Option<ObjectId>,
-) -> Result<(), NoAnswer> {
+fn add_peeled<A: Allocator>(to: &mut Text<A>, peeled: Option<ObjectId>) {
     if let Some(id) = peeled {
-        to.push(b' ')?;
-        push_id(to, id)?;
-    }
-    Ok(())
-}
-
-/// Adds the digits of an id, if there is one.
-fn push_found<A: Allocator>(to: &mut Vec<u8, A>, found: Option<ObjectId>) -> Result<(), NoAnswer> {
-    match found {
-        Some(id) => push_id(to, id),
-        None => Ok(()),
+        to.add(b" ");
+        to.add_id(id);
     }
 }
 
-/// Adds the lines of a list.
-fn push_list<A: Allocator>(to: &mut Vec<u8, A>, list: &Listing<A>) -> Result<(), NoAnswer> {
-    for listed in list.references.iter() {
-        to.extend_from_slice(&listed.name)?;
-        to.push(b' ')?;
-        push_id(to, listed.id)?;
-        push_peeled(to, listed.peeled)?;
-        if listed.is_symbolic {
-            to.extend_from_slice(b" ref")?;
-        }
-        to.push(b'\n')?;
+/// Adds a name, a blank and the digits of an id.
+fn add_named<A: Allocator>(to: &mut Text<A>, name: &[u8], id: ObjectId) {
+    to.add(name);
+    to.add(b" ");
+    to.add_id(id);
+}
+
+/// Adds the lines of listed references.
+fn add_listed<A: Allocator>(to: &mut Text<A>, listed: &[Listed<A>]) {
+    for one in listed {
+        add_named(to, &one.name, one.id);
+        add_peeled(to, one.peeled);
+        to.add(if one.is_symbolic { b" ref\n" } else { b"\n" });
     }
-    for skipped in list.skipped.iter() {
-        to.extend_from_slice(&skipped.name)?;
-        let why = skipped.why;
-        if write!(to, " {why:?}\n").is_err() {
-            return Err(NoAnswer::OutOfMemory);
-        }
+}
+
+/// Adds the lines of skipped references.
+fn add_skipped<A: Allocator>(to: &mut Text<A>, skipped: &[Skipped<A>]) {
+    for one in skipped {
+        to.add(&one.name);
+        to.add_why(one.why);
+        to.add(b"\n");
     }
-    Ok(())
 }
 
 /// Answers by the rules of short names.
-fn push_short<F: Folders + Drop, A: Allocator + Copy>(
+fn add_short<F: Folders + Drop, A: Allocator + Copy>(
     references: &mut References<F, A>,
     name: &[u8],
-    to: &mut Vec<u8, A>,
-) -> Result<(), NoAnswer> {
-    if let Some(named) = references.short(name)? {
-        to.extend_from_slice(&named.name)?;
-        to.push(b' ')?;
-        to.extend_from_slice(&named.reference.name)?;
-        to.push(b' ')?;
-        push_id(to, named.reference.id)?;
-        if named.is_ambiguous {
-            to.extend_from_slice(b" ambiguous")?;
-        }
+    to: &mut Text<A>,
+) -> Result<(), Error> {
+    if let Some(found) = references.short(name)? {
+        to.add(&found.name);
+        to.add(b" ");
+        add_named(to, &found.reference.name, found.reference.id);
+        to.add(if found.is_ambiguous {
+            b" ambiguous"
+        } else {
+            b""
+        });
     }
     for passed in references.passed_over() {
-        let why = passed.why;
-        if write!(to, " {why:?}").is_err() {
-            return Err(NoAnswer::OutOfMemory);
-        }
+        to.add_why(passed.why);
     }
     Ok(())
 }
 
 /// Answers with the shortest name that no other rule reads, if files and a list say the same.
-fn push_strict<F: Folders + Drop, A: Allocator + Copy>(
+fn add_strict<F: Folders + Drop, A: Allocator + Copy>(
     references: &mut References<F, A>,
     name: &[u8],
-    to: &mut Vec<u8, A>,
-) -> Result<(), NoAnswer> {
+    to: &mut Text<A>,
+) -> Result<(), Error> {
     let by_files = references.shortest(name, true)?;
     references.list_once()?;
     if references.shortest(name, true)? == by_files {
-        to.extend_from_slice(by_files)?;
+        to.add(by_files);
     }
     Ok(())
 }
 
-/// Answers what a reference says.
-fn push_said<F: Folders + Drop, A: Allocator + Copy>(
+/// Answers with the shortest name that no rule before it reads.
+fn add_loose<F: Folders + Drop, A: Allocator + Copy>(
     references: &mut References<F, A>,
     name: &[u8],
-    to: &mut Vec<u8, A>,
-) -> Result<(), NoAnswer> {
+    to: &mut Text<A>,
+) -> Result<(), Error> {
+    to.add(references.shortest(name, false)?);
+    Ok(())
+}
+
+/// Answers what a reference says.
+fn add_said<F: Folders + Drop, A: Allocator + Copy>(
+    references: &mut References<F, A>,
+    name: &[u8],
+    to: &mut Text<A>,
+) -> Result<(), Error> {
     match references.find(name)? {
         Some(Target::Id { id, peeled }) => {
-            push_id(to, id)?;
-            push_peeled(to, peeled)
+            to.add_id(id);
+            add_peeled(to, peeled);
         }
         Some(Target::Symbolic(next)) => {
-            to.extend_from_slice(b"ref: ")?;
-            to.extend_from_slice(&next)?;
-            Ok(())
+            to.add(b"ref: ");
+            to.add(&next);
         }
-        None => Ok(()),
+        None => {}
     }
+    Ok(())
 }
 
 /// Answers where a reference leads.
-fn push_followed<F: Folders + Drop, A: Allocator + Copy>(
+fn add_followed<F: Folders + Drop, A: Allocator + Copy>(
     references: &mut References<F, A>,
     name: &[u8],
-    to: &mut Vec<u8, A>,
-) -> Result<(), NoAnswer> {
+    to: &mut Text<A>,
+) -> Result<(), Error> {
     if let Some(reference) = references.follow(name)? {
-        to.extend_from_slice(&reference.name)?;
-        to.push(b' ')?;
-        push_id(to, reference.id)?;
+        add_named(to, &reference.name, reference.id);
     }
     Ok(())
 }
 
 /// Answers which reference has a reflog, and what its newest entry says.
-fn push_logged<F: Folders + Drop, A: Allocator + Copy>(
+fn add_logged<F: Folders + Drop, A: Allocator + Copy>(
     references: &mut References<F, A>,
     name: &[u8],
-    to: &mut Vec<u8, A>,
-) -> Result<(), NoAnswer> {
+    to: &mut Text<A>,
+) -> Result<(), Error> {
     if let Some(logged) = references.short_logged(name)? {
-        to.extend_from_slice(&logged.name)?;
-        to.push(b' ')?;
-        push_id(to, logged.reflog.nth(0).unwrap_or(logged.id))?;
+        add_named(to, &logged.name, logged.reflog.nth(0).unwrap_or(logged.id));
     }
     Ok(())
 }
 
 /// Answers what a reflog says of a number.
-fn push_nth<F: Folders + Drop, A: Allocator + Copy>(
+fn add_nth<F: Folders + Drop, A: Allocator + Copy>(
     references: &mut References<F, A>,
-    name: &[u8],
-    number: usize,
-    to: &mut Vec<u8, A>,
-) -> Result<(), NoAnswer> {
-    match references.reflog(name)? {
-        Some(reflog) => push_found(to, reflog.nth(number)),
-        None => Ok(()),
+    row: &Row,
+    to: &mut Text<A>,
+) -> Result<(), Error> {
+    if let Some(reflog) = references.reflog(&row.name)? {
+        if let Some(id) = reflog.nth(row.number) {
+            to.add_id(id);
+        }
+    }
+    Ok(())
+}
+
+/// Returns what a reflog says of a date.
+fn dated<F: Folders + Drop, A: Allocator + Copy>(
+    references: &mut References<F, A>,
+    row: &Row,
+) -> Result<Option<AtDate>, Error> {
+    match references.reflog(&row.name)? {
+        Some(reflog) => Ok(reflog.at(row.number as u64)),
+        None => Ok(None),
     }
 }
 
-/// Answers what a reflog says of a date.
-fn push_at<F: Folders + Drop, A: Allocator + Copy>(
+/// Answers which id a reference had at a date.
+fn add_at<F: Folders + Drop, A: Allocator + Copy>(
     references: &mut References<F, A>,
-    name: &[u8],
-    seconds: u64,
-    to: &mut Vec<u8, A>,
-) -> Result<(), NoAnswer> {
-    let Some(reflog) = references.reflog(name)? else {
-        return Ok(());
-    };
-    match reflog.at(seconds) {
-        Some(AtDate::Id(id) | AtDate::Before(id, _)) => push_id(to, id),
-        Some(AtDate::Now) => match references.follow(name)? {
-            Some(reference) => push_id(to, reference.id),
-            None => Ok(()),
-        },
-        None => Ok(()),
+    row: &Row,
+    to: &mut Text<A>,
+) -> Result<(), Error> {
+    match dated(references, row)? {
+        Some(AtDate::Id(id) | AtDate::Before(id, _)) => to.add_id(id),
+        Some(AtDate::Now) => {
+            if let Some(reference) = references.follow(&row.name)? {
+                to.add_id(reference.id);
+            }
+        }
+        None => {}
     }
+    Ok(())
 }
 
 /// Answers what was checked out before.
-fn push_before<F: Folders + Drop, A: Allocator + Copy>(
+fn add_before<F: Folders + Drop, A: Allocator + Copy>(
     references: &mut References<F, A>,
-    name: &[u8],
-    number: usize,
-    to: &mut Vec<u8, A>,
-) -> Result<(), NoAnswer> {
-    if let Some(reflog) = references.reflog(name)? {
-        to.extend_from_slice(reflog.checked_out_before(number).unwrap_or(b""))?;
+    row: &Row,
+    to: &mut Text<A>,
+) -> Result<(), Error> {
+    if let Some(reflog) = references.reflog(&row.name)? {
+        to.add(reflog.checked_out_before(row.number).unwrap_or(b""));
     }
     Ok(())
 }
 
 /// Answers which references there are.
-fn push_all<F: Folders + Drop, A: Allocator + Copy>(
+fn add_all<F: Folders + Drop, A: Allocator + Copy>(
     references: &mut References<F, A>,
     name: &[u8],
-    to: &mut Vec<u8, A>,
-) -> Result<(), NoAnswer> {
+    to: &mut Text<A>,
+) -> Result<(), Error> {
     let list = references.all(name)?;
-    push_list(to, &list)
+    add_listed(to, &list.references);
+    add_skipped(to, &list.skipped);
+    Ok(())
 }
 
 /// Answers what is checked out in linked worktrees.
-fn push_heads<F: Folders + Drop, A: Allocator + Copy>(
+fn add_heads<F: Folders + Drop, A: Allocator + Copy>(
     references: &mut References<F, A>,
-    to: &mut Vec<u8, A>,
-) -> Result<(), NoAnswer> {
+    to: &mut Text<A>,
+) -> Result<(), Error> {
     let heads = references.worktree_heads()?;
     for id in heads.iter() {
-        push_id(to, *id)?;
+        to.add_id(*id);
     }
     Ok(())
 }
 
-/// Answers a question about a name.
-pub(crate) fn push_answer<F: Folders + Drop, A: Allocator + Copy>(
+/// Answers the question of a row.
+fn add_answer<F: Folders + Drop, A: Allocator + Copy>(
     references: &mut References<F, A>,
-    ask: Ask,
-    name: &[u8],
-    to: &mut Vec<u8, A>,
-) -> Result<(), NoAnswer> {
-    match ask {
-        Ask::Short => push_short(references, name, to),
-        Ask::Find => push_said(references, name, to),
-        Ask::Follow => push_followed(references, name, to),
-        Ask::Strict => push_strict(references, name, to),
-        Ask::Loose => Ok(to.extend_from_slice(references.shortest(name, false)?)?),
-        Ask::Nth(number) => push_nth(references, name, number, to),
-        Ask::At(seconds) => push_at(references, name, seconds, to),
-        Ask::Before(number) => push_before(references, name, number, to),
-        Ask::Logged => push_logged(references, name, to),
-        Ask::All => push_all(references, name, to),
-        Ask::Heads => push_heads(references, to),
+    row: &Row,
+    to: &mut Text<A>,
+) -> Result<(), Error> {
+    match row.ask {
+        Ask::Short => add_short(references, &row.name, to),
+        Ask::Find => add_said(references, &row.name, to),
+        Ask::Follow => add_followed(references, &row.name, to),
+        Ask::Strict => add_strict(references, &row.name, to),
+        Ask::Loose => add_loose(references, &row.name, to),
+        Ask::Nth => add_nth(references, row, to),
+        Ask::At => add_at(references, row, to),
+        Ask::Before => add_before(references, row, to),
+        Ask::Logged => add_logged(references, &row.name, to),
+        Ask::All => add_all(references, &row.name, to),
+        Ask::Heads => add_heads(references, to),
     }
+}
+
+/// Says what came of a question.
+#[derive(Clone, Copy, PartialEq, Eq)]
+pub(crate) enum Outcome {
+    Right,
+    Wrong,
+    /// The call on a file failed that was to fail, or the allocation.
+    Failed,
+}
+
+/// Returns the text for an error that an answer of the tables names.
+fn error_text(error: Error) -> &'static str {
+    match error {
+        Error::Broken(_) => "broken",
+        Error::TooDeep(_) => "too deep",
+        Error::NotUtf8(_) => "not UTF-8",
+        Error::Damaged(_) => "damaged",
+        Error::Failed(..) | Error::OutOfMemory => "failed",
+    }
+}
+
+/// Tests whether an answer is the one of a row.
+fn is_of(answer: &[u8], row: &Row) -> Outcome {
+    if answer == row.answer.as_slice() {
+        Outcome::Right
+    } else {
+        Outcome::Wrong
+    }
+}
+
+/// Compares an answer with that of a row.
+fn outcome_of<A: Allocator>(came: Result<(), Error>, text: &Text<A>, row: &Row) -> Outcome {
+    match (came, text.whole()) {
+        (Ok(()), Some(answer)) => is_of(answer, row),
+        (Ok(()), None) => Outcome::Failed,
+        (Err(Error::Failed(_, ErrorKind::Other) | Error::OutOfMemory), _) => Outcome::Failed,
+        (Err(error), _) => is_of(error_text(error).as_bytes(), row),
+    }
+}
+
+/// Asks the question of a row, and compares the answer with git's.
+pub(crate) fn asked<F: Folders + Drop, A: Allocator + Copy>(
+    alloc: A,
+    references: &mut References<F, A>,
+    row: &Row,
+) -> Outcome {
+    let mut text = Text::new(alloc);
+    let came = add_answer(references, row, &mut text);
+    outcome_of(came, &text, row)
 }

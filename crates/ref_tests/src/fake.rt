@@ -2,15 +2,16 @@
 
 ghost use Rattle.std.specs.Prelude.{◌≤◌, length, IfOk};
 
-use crate::tables::FILES;
+use crate::files::Written;
 use gix_odb::files::{FileError, Folders, Opened};
 use std::alloc::Allocator;
 use std::cell::Cell;
 use std::io::ErrorKind;
 
-/// The files of the tables. The call with the number `fails` fails.
+/// The files of a repository. The call with the number `fails` fails.
 #[derive(Clone, Copy, Drop)]
 pub(crate) struct Fake<'a> {
+    pub(crate) files: &'a [Written],
     pub(crate) calls: &'a Cell<u64>,
     pub(crate) fails: u64,
 }
@@ -18,7 +19,7 @@ pub(crate) struct Fake<'a> {
 /// An open file of these.
 #[derive(Clone, Copy, Drop)]
 pub(crate) struct Held<'a> {
-    bytes: &'static [u8],
+    bytes: &'a [u8],
     fake: Fake<'a>,
 }
 
@@ -45,19 +46,19 @@ fn below<'p>(path: &'p [u8], folder: &[u8]) -> Option<&'p [u8]> {
 }
 
 /// Returns the bytes of the file with a path.
-fn bytes_at(path: &[u8]) -> Option<&'static [u8]> {
-    for file in &FILES {
-        if file.path == path {
-            return Some(file.bytes);
+fn bytes_at<'a>(files: &'a [Written], path: &[u8]) -> Option<&'a [u8]> {
+    for file in files {
+        if file.path.as_slice() == path {
+            return Some(&file.bytes);
         }
     }
     None
 }
 
 /// Tests whether there is a folder with a path.
-fn is_folder(path: &[u8]) -> bool {
-    for file in &FILES {
-        if below(file.path, path).is_some() {
+fn is_folder(files: &[Written], path: &[u8]) -> bool {
+    for file in files {
+        if below(&file.path, path).is_some() {
             return true;
         }
     }
@@ -95,9 +96,9 @@ impl<'a> Folders for Fake<'a> {
         if str::from_utf8(path).is_err() {
             return Err(FileError::NotUtf8);
         }
-        match bytes_at(path) {
+        match bytes_at(self.files, path) {
             Some(bytes) => Ok(Some(Held { bytes, fake: *self })),
-            None if is_folder(path) => Err(FileError::Failed(ErrorKind::IsADirectory)),
+            None if is_folder(self.files, path) => Err(FileError::Failed(ErrorKind::IsADirectory)),
             None => Ok(None),
         }
     }
@@ -108,8 +109,8 @@ impl<'a> Folders for Fake<'a> {
             return Err(FileError::NotUtf8);
         }
         let mut last = b"".as_slice();
-        for file in &FILES {
-            let name = first_part(below(file.path, path).unwrap_or(b""));
+        for file in self.files {
+            let name = first_part(below(&file.path, path).unwrap_or(b""));
             if name != last {
                 names.extend_from_slice(name)?;
                 names.push(0)?;

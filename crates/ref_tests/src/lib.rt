@@ -6,10 +6,16 @@ mod answers;
 #[cfg(test)]
 mod fake;
 #[cfg(test)]
+mod files;
+#[cfg(test)]
+mod moving;
+#[cfg(test)]
 mod packed;
 #[cfg(test)]
 mod packed_rows;
 #[cfg(test)]
+mod questions;
+#[cfg(test)]
 mod rows;
 #[cfg(test)]
-mod tables;
+mod texts;

@@ -2,13 +2,13 @@
 
 ghost use Rattle.std.specs.Prelude.{◌≤◌, length, IfOk};
 
-use crate::answers::{NoAnswer, push_answer};
-use crate::packed_rows::{DANGEROUS, PACKED_ROWS, PackedRow};
-use crate::tables::{Ask, DAMAGED, WHOLE};
+use crate::answers::{Outcome, asked};
+use crate::packed_rows::{DAMAGED, DANGEROUS, PACKED, WHOLE};
+use crate::questions::{Ask, row_of};
+use crate::texts::written_out;
 use gix_odb::files::{FileError, Folders, Opened};
 use gix_ref::{Error, References};
-use std::alloc::{Allocator, Global};
-use std::io::Write;
+use std::alloc::{AllocError, Allocator, Global};
 use std::test::Fail;
 
 /// A folder with only a file `packed-refs`.
@@ -62,16 +62,6 @@ fn found_in(alloc: Global, bytes: &[u8]) -> Option<bool> {
     }
 }
 
-/// Returns the number of the first file of which this is not the outcome, or how many there are.
-fn first_other(alloc: Global, files: &[&'static [u8]], outcome: Option<bool>) -> usize {
-    for (number, bytes) in files.iter().enumerate() {
-        if found_in(alloc, bytes) != outcome {
-            return number;
-        }
-    }
-    files.len()
-}
-
 /// Tests whether the references of a file are not listed, since the file counts as damaged.
 fn is_unlisted(alloc: Global, bytes: &[u8]) -> bool {
     match References::open(alloc, OnlyPacked(bytes), b"r", b"r") {
@@ -80,32 +70,92 @@ fn is_unlisted(alloc: Global, bytes: &[u8]) -> bool {
     }
 }
 
-/// Returns the number of the first file of which references are listed, or how many there are.
-fn first_listed(alloc: Global, files: &[&'static [u8]]) -> usize {
-    for (number, bytes) in files.iter().enumerate() {
-        if !is_unlisted(alloc, bytes) {
-            return number;
-        }
-    }
-    files.len()
+/// What git says of a file.
+#[derive(Clone, Copy)]
+enum Kind {
+    Damaged,
+    /// It finds `refs/heads/a`.
+    Whole,
+    /// It finds `refs/heads/a`, and lists no reference.
+    Dangerous,
 }
 
-/// Tests whether a file says of a name what git says.
-fn is_right(alloc: Global, row: &PackedRow) -> Result<bool, NoAnswer> {
-    let mut references = References::open(alloc, OnlyPacked(row.bytes), b"r", b"r")?;
-    let mut answer = Vec::new(alloc);
-    push_answer(&mut references, Ask::Find, row.name, &mut answer)?;
-    Ok(answer.as_slice() == row.answer)
+/// Tests whether a file is of a kind.
+fn is_of(alloc: Global, bytes: &[u8], kind: Kind) -> bool {
+    match kind {
+        Kind::Damaged => found_in(alloc, bytes).is_none(),
+        Kind::Whole => found_in(alloc, bytes) == Some(true),
+        Kind::Dangerous => found_in(alloc, bytes) == Some(true) && is_unlisted(alloc, bytes),
+    }
 }
 
-/// Returns the number of the first row with another answer than git's, or the number of rows.
-fn first_wrong(alloc: Global) -> usize {
-    for (number, row) in PACKED_ROWS.iter().enumerate() {
-        if !matches!(is_right(alloc, row), Ok(true)) {
-            return number;
+/// Tests whether the file of a row is of a kind.
+fn row_is_of(alloc: Global, row: &str, kind: Kind) -> Result<bool, AllocError> {
+    match row.split_once(" => ") {
+        Some((_, file)) => Ok(is_of(alloc, &written_out(alloc, file)?, kind)),
+        None => Ok(false),
+    }
+}
+
+/// Returns the first row whose file is of another kind.
+fn first_other(
+    alloc: Global,
+    rows: &'static str,
+    kind: Kind,
+) -> Result<Option<&'static str>, AllocError> {
+    for row in rows.lines() {
+        if !row_is_of(alloc, row, kind)? {
+            return Ok(Some(row));
         }
     }
-    PACKED_ROWS.len()
+    Ok(None)
+}
+
+type OfPacked<'a> = References<OnlyPacked<'a>, Global>;
+
+/// Tests whether a file says of a name what a row says.
+fn is_right(alloc: Global, references: &mut OfPacked<'_>, row: &str) -> bool {
+    match &row_of(alloc, Ask::Find, row) {
+        Some(row) => asked(alloc, references, row) == Outcome::Right,
+        None => false,
+    }
+}
+
+/// Returns the first row of which a file says something else.
+fn first_wrong_of(
+    alloc: Global,
+    references: &mut OfPacked<'_>,
+    rows: &'static str,
+) -> Option<&'static str> {
+    for row in rows.lines() {
+        if !is_right(alloc, references, row) {
+            return Some(row);
+        }
+    }
+    None
+}
+
+/// Returns the first row of which a file says something else, or the file if it is not opened.
+fn first_wrong_in(
+    alloc: Global,
+    (file, rows): (&'static str, &'static str),
+) -> Result<Option<&'static str>, AllocError> {
+    let bytes = written_out(alloc, file)?;
+    match &mut References::open(alloc, OnlyPacked(&bytes), b"r", b"r") {
+        Ok(references) => Ok(first_wrong_of(alloc, references, rows)),
+        Err(_) => Ok(Some(file)),
+    }
+}
+
+/// Returns the first row of all files with another answer than git's.
+fn first_wrong(alloc: Global) -> Result<Option<&'static str>, AllocError> {
+    for table in &PACKED {
+        let wrong = first_wrong_in(alloc, *table)?;
+        if wrong.is_some() {
+            return Ok(wrong);
+        }
+    }
+    Ok(None)
 }
 
 /// The numbers of a file with sorted names are less than this one.
@@ -114,39 +164,32 @@ const MANY: u32 = 2000;
 /// The numbers of a file with names that fall are less than this one.
 const FEW: u32 = 200;
 
-/// Adds the name of a number.
-fn push_name(to: &mut Vec<u8>, number: u32) -> Result<(), NoAnswer> {
-    match write!(to, "refs/heads/n{number:04}") {
-        Ok(()) => Ok(()),
-        Err(_) => Err(NoAnswer::OutOfMemory),
-    }
+/// Returns the line of a number, and after each third one a line `^ID`. The digits of an id are
+/// those of the number.
+fn line_of(alloc: Global, number: u32) -> Result<String, AllocError> {
+    let peeled = MANY.saturating_sub(number);
+    Ok(if number % 3 == 0 {
+        format!(in alloc; "{number:040} refs/heads/n{number:04}\n^{peeled:040}\n")?
+    } else {
+        format!(in alloc; "{number:040} refs/heads/n{number:04}\n")?
+    })
 }
 
-/// Adds the id of a number. Its digits are those of the number.
-fn push_digits(to: &mut Vec<u8>, number: u32) -> Result<(), NoAnswer> {
-    match write!(to, "{number:040}") {
-        Ok(()) => Ok(()),
-        Err(_) => Err(NoAnswer::OutOfMemory),
-    }
-}
-
-/// Adds the line of a number, and behind each third one a line `^ID`.
-fn push_line(to: &mut Vec<u8>, number: u32) -> Result<(), NoAnswer> {
-    push_digits(to, number)?;
-    to.push(b' ')?;
-    push_name(to, number)?;
-    to.push(b'\n')?;
-    if number % 3 == 0 {
-        to.push(b'^')?;
-        push_digits(to, MANY.saturating_sub(number))?;
-        to.push(b'\n')?;
-    }
-    Ok(())
+/// Returns the row of a number in a file with the even numbers.
+fn row_of_number(alloc: Global, number: u32) -> Result<String, AllocError> {
+    let peeled = MANY.saturating_sub(number);
+    Ok(if number % 2 == 1 {
+        format!(in alloc; "refs/heads/n{number:04} => nothing")?
+    } else if number % 3 == 0 {
+        format!(in alloc; "refs/heads/n{number:04} => {number:040} {peeled:040}")?
+    } else {
+        format!(in alloc; "refs/heads/n{number:04} => {number:040}")?
+    })
 }
 
 /// Returns a file with the even numbers before `end`. They fall if it has no header.
-fn file_of_numbers(alloc: Global, header: &[u8], end: u32) -> Result<Vec<u8>, NoAnswer> {
-    let mut bytes = header.to_vec(alloc)?;
+fn file_of_numbers(alloc: Global, header: &str, end: u32) -> Result<Vec<u8>, AllocError> {
+    let mut bytes = header.as_bytes().to_vec(alloc)?;
     for i in 0..end {
         let number = if header.is_empty() {
             end.saturating_sub(i).saturating_sub(1)
@@ -154,83 +197,70 @@ fn file_of_numbers(alloc: Global, header: &[u8], end: u32) -> Result<Vec<u8>, No
             i
         };
         if number % 2 == 0 {
-            push_line(&mut bytes, number)?;
+            bytes.extend_from_slice(line_of(alloc, number)?.as_bytes())?;
         }
     }
     Ok(bytes)
 }
 
-/// Returns what a file with the even numbers says of a number.
-fn answer_of(alloc: Global, number: u32) -> Result<Vec<u8>, NoAnswer> {
-    let mut answer = Vec::new(alloc);
-    if number % 2 == 0 {
-        push_digits(&mut answer, number)?;
-        if number % 3 == 0 {
-            answer.push(b' ')?;
-            push_digits(&mut answer, MANY.saturating_sub(number))?;
-        }
-    }
-    Ok(answer)
-}
-
-/// Returns the first number of which a file with the even numbers before `end` does not say what it
+/// Returns the first number before `end` of which a file with the even numbers does not say what it
 /// should; `end` if there is none.
-fn first_wrong_number(alloc: Global, header: &[u8], end: u32) -> Result<u32, NoAnswer> {
-    let bytes = file_of_numbers(alloc, header, end)?;
-    let mut references = References::open(alloc, OnlyPacked(&bytes), b"r", b"r")?;
+fn first_wrong_number(
+    alloc: Global,
+    references: &mut OfPacked<'_>,
+    end: u32,
+) -> Result<u32, AllocError> {
     for number in 0..end {
-        let mut name = Vec::new(alloc);
-        push_name(&mut name, number)?;
-        let mut answer = Vec::new(alloc);
-        push_answer(&mut references, Ask::Find, &name, &mut answer)?;
-        if answer != answer_of(alloc, number)? {
+        if !is_right(alloc, references, &row_of_number(alloc, number)?) {
             return Ok(number);
         }
     }
     Ok(end)
 }
 
+/// Returns the first such number of a file with the even numbers before `end`; `None` if it is not
+/// opened.
+fn first_wrong_before(alloc: Global, header: &str, end: u32) -> Result<Option<u32>, AllocError> {
+    let bytes = file_of_numbers(alloc, header, end)?;
+    match &mut References::open(alloc, OnlyPacked(&bytes), b"r", b"r") {
+        Ok(references) => Ok(Some(first_wrong_number(alloc, references, end)?)),
+        Err(_) => Ok(None),
+    }
+}
+
 #[test]
 fn refuses_damaged_files(rt: HostRuntime) -> Result<(), Fail> {
-    let other = first_other(rt.alloc(), &DAMAGED, None);
-    assert!(rt; other == DAMAGED.len());
+    assert_eq!(rt; first_other(rt.alloc(), DAMAGED, Kind::Damaged)?, None);
     Ok(())
 }
 
 #[test]
 fn finds_in_whole_files(rt: HostRuntime) -> Result<(), Fail> {
-    let other = first_other(rt.alloc(), &WHOLE, Some(true));
-    assert!(rt; other == WHOLE.len());
+    assert_eq!(rt; first_other(rt.alloc(), WHOLE, Kind::Whole)?, None);
     Ok(())
 }
 
 #[test]
 fn lists_no_dangerous_names(rt: HostRuntime) -> Result<(), Fail> {
-    let other = first_other(rt.alloc(), &DANGEROUS, Some(true));
-    assert!(rt; other == DANGEROUS.len());
-    let listed = first_listed(rt.alloc(), &DANGEROUS);
-    assert!(rt; listed == DANGEROUS.len());
+    assert_eq!(rt; first_other(rt.alloc(), DANGEROUS, Kind::Dangerous)?, None);
     Ok(())
 }
 
 #[test]
 fn finds_each_name(rt: HostRuntime) -> Result<(), Fail> {
-    let wrong = first_wrong(rt.alloc());
-    assert!(rt; wrong == PACKED_ROWS.len());
+    assert_eq!(rt; first_wrong(rt.alloc())?, None);
     Ok(())
 }
 
 #[test]
 fn finds_many_sorted_names(rt: HostRuntime) -> Result<(), Fail> {
-    let header = b"# pack-refs with: peeled fully-peeled sorted \n";
-    let wrong = first_wrong_number(rt.alloc(), header, MANY);
-    assert!(rt; matches!(wrong, Ok(MANY)));
+    let header = "# pack-refs with: peeled fully-peeled sorted \n";
+    assert_eq!(rt; first_wrong_before(rt.alloc(), header, MANY)?, Some(MANY));
     Ok(())
 }
 
 #[test]
 fn finds_many_names_that_fall(rt: HostRuntime) -> Result<(), Fail> {
-    let wrong = first_wrong_number(rt.alloc(), b"", FEW);
-    assert!(rt; matches!(wrong, Ok(FEW)));
+    assert_eq!(rt; first_wrong_before(rt.alloc(), "", FEW)?, Some(FEW));
     Ok(())
 }

@@ -1,186 +1,153 @@
-//! Has files `packed-refs`, names, and what git 2.39.5 says of each name.
+//! Has files `packed-refs`, names, and what git 2.39.5 says of each name. A bar is a line feed.
+
+/// Files, and rows in the form of `questions` about references in them.
+pub(crate) static PACKED: [(&str, &str); 7] = [
+    (UNSORTED, OF_UNSORTED),
+    (BEGINNINGS, OF_BEGINNINGS),
+    (PEELED, OF_PEELED),
+    (SINGLE, OF_SINGLE),
+    (HEADER, "refs/heads/a => nothing"),
+    ("", "refs/heads/a => nothing"),
+    (RETURNS, OF_RETURNS),
+];
 
 /// The names of this file are not sorted, and no header says that they are.
-const UNSORTED: &[u8] =
-    b"1111111111111111111111111111111111111111 refs/heads/c\n2222222222222222222222222222222222222222 refs/heads/a\n^3333333333333333333333333333333333333333\n4444444444444444444444444444444444444444 refs/heads/b\n";
+const UNSORTED: &str = "\
+    1111111111111111111111111111111111111111 refs/heads/c|\
+    2222222222222222222222222222222222222222 refs/heads/a|\
+    ^3333333333333333333333333333333333333333|\
+    4444444444444444444444444444444444444444 refs/heads/b|";
+
+const OF_UNSORTED: &str = "\
+refs/heads/a => 2222222222222222222222222222222222222222 3333333333333333333333333333333333333333
+refs/heads/b => 4444444444444444444444444444444444444444
+refs/heads/c => 1111111111111111111111111111111111111111
+refs/heads/d => nothing
+";
 
 /// The names of this file are beginnings of one another.
-const BEGINNINGS: &[u8] =
-    b"# pack-refs with: peeled fully-peeled sorted \n1111111111111111111111111111111111111111 refs/heads/a\n2222222222222222222222222222222222222222 refs/heads/a-b\n3333333333333333333333333333333333333333 refs/heads/a/b\n4444444444444444444444444444444444444444 refs/heads/a0\n5555555555555555555555555555555555555555 refs/heads/ab\n";
+const BEGINNINGS: &str = "\
+    # pack-refs with: peeled fully-peeled sorted |\
+    1111111111111111111111111111111111111111 refs/heads/a|\
+    2222222222222222222222222222222222222222 refs/heads/a-b|\
+    3333333333333333333333333333333333333333 refs/heads/a/b|\
+    4444444444444444444444444444444444444444 refs/heads/a0|\
+    5555555555555555555555555555555555555555 refs/heads/ab|";
+
+const OF_BEGINNINGS: &str = "\
+refs/heads/a => 1111111111111111111111111111111111111111
+refs/heads/a-b => 2222222222222222222222222222222222222222
+refs/heads/a/b => 3333333333333333333333333333333333333333
+refs/heads/a0 => 4444444444444444444444444444444444444444
+refs/heads/ab => 5555555555555555555555555555555555555555
+refs/heads/A => nothing
+refs/heads/a- => nothing
+refs/heads/a-a => nothing
+refs/heads/a-c => nothing
+refs/heads/a/a => nothing
+refs/heads/a/b/c => nothing
+refs/heads/b => nothing
+";
 
 /// This file has lines `^ID` in between.
-const PEELED: &[u8] =
-    b"# pack-refs with: peeled fully-peeled sorted \n1111111111111111111111111111111111111111 refs/heads/a\n2222222222222222222222222222222222222222 refs/tags/a\n^3333333333333333333333333333333333333333\n4444444444444444444444444444444444444444 refs/tags/b\n^5555555555555555555555555555555555555555\n1111111111111111111111111111111111111111 refs/tags/c\n";
+const PEELED: &str = "\
+    # pack-refs with: peeled fully-peeled sorted |\
+    1111111111111111111111111111111111111111 refs/heads/a|\
+    2222222222222222222222222222222222222222 refs/tags/a|\
+    ^3333333333333333333333333333333333333333|\
+    4444444444444444444444444444444444444444 refs/tags/b|\
+    ^5555555555555555555555555555555555555555|\
+    1111111111111111111111111111111111111111 refs/tags/c|";
+
+const OF_PEELED: &str = "\
+refs/heads/a => 1111111111111111111111111111111111111111
+refs/tags/a => 2222222222222222222222222222222222222222 3333333333333333333333333333333333333333
+refs/tags/b => 4444444444444444444444444444444444444444 5555555555555555555555555555555555555555
+refs/tags/c => 1111111111111111111111111111111111111111
+refs/tags/d => nothing
+";
 
 /// This file has one line.
-const SINGLE: &[u8] = b"1111111111111111111111111111111111111111 refs/heads/m\n";
+const SINGLE: &str = "1111111111111111111111111111111111111111 refs/heads/m|";
+
+const OF_SINGLE: &str = "\
+refs/heads/m => 1111111111111111111111111111111111111111
+refs/heads/l => nothing
+refs/heads/n => nothing
+";
 
 /// This file has only a header.
-const HEADER: &[u8] = b"# pack-refs with: peeled fully-peeled sorted \n";
-
-/// This file has no bytes.
-const NOTHING: &[u8] = b"";
+const HEADER: &str = "# pack-refs with: peeled fully-peeled sorted |";
 
 /// The lines of this file end with a carriage return, which belongs to the name.
-const RETURNS: &[u8] =
-    b"# pack-refs with: peeled fully-peeled sorted \r\n1111111111111111111111111111111111111111 refs/heads/a\r\n2222222222222222222222222222222222222222 refs/heads/b\r\n";
+const RETURNS: &str = "\
+    # pack-refs with: peeled fully-peeled sorted \r|\
+    1111111111111111111111111111111111111111 refs/heads/a\r|\
+    2222222222222222222222222222222222222222 refs/heads/b\r|";
 
-/// A name, and what a file `packed-refs` says of it.
-pub(crate) struct PackedRow {
-    pub(crate) bytes: &'static [u8],
-    pub(crate) name: &'static [u8],
-    pub(crate) answer: &'static [u8],
-}
+const OF_RETURNS: &str = "\
+refs/heads/a => nothing
+refs/heads/b => nothing
+";
 
-/// The rows.
-pub(crate) static PACKED_ROWS: [PackedRow; 28] = [
-    PackedRow {
-        bytes: UNSORTED,
-        name: b"refs/heads/a",
-        answer: b"2222222222222222222222222222222222222222 3333333333333333333333333333333333333333",
-    },
-    PackedRow {
-        bytes: UNSORTED,
-        name: b"refs/heads/b",
-        answer: b"4444444444444444444444444444444444444444",
-    },
-    PackedRow {
-        bytes: UNSORTED,
-        name: b"refs/heads/c",
-        answer: b"1111111111111111111111111111111111111111",
-    },
-    PackedRow {
-        bytes: UNSORTED,
-        name: b"refs/heads/d",
-        answer: b"",
-    },
-    PackedRow {
-        bytes: BEGINNINGS,
-        name: b"refs/heads/a",
-        answer: b"1111111111111111111111111111111111111111",
-    },
-    PackedRow {
-        bytes: BEGINNINGS,
-        name: b"refs/heads/a-b",
-        answer: b"2222222222222222222222222222222222222222",
-    },
-    PackedRow {
-        bytes: BEGINNINGS,
-        name: b"refs/heads/a/b",
-        answer: b"3333333333333333333333333333333333333333",
-    },
-    PackedRow {
-        bytes: BEGINNINGS,
-        name: b"refs/heads/a0",
-        answer: b"4444444444444444444444444444444444444444",
-    },
-    PackedRow {
-        bytes: BEGINNINGS,
-        name: b"refs/heads/ab",
-        answer: b"5555555555555555555555555555555555555555",
-    },
-    PackedRow {
-        bytes: BEGINNINGS,
-        name: b"refs/heads/A",
-        answer: b"",
-    },
-    PackedRow {
-        bytes: BEGINNINGS,
-        name: b"refs/heads/a-",
-        answer: b"",
-    },
-    PackedRow {
-        bytes: BEGINNINGS,
-        name: b"refs/heads/a-a",
-        answer: b"",
-    },
-    PackedRow {
-        bytes: BEGINNINGS,
-        name: b"refs/heads/a-c",
-        answer: b"",
-    },
-    PackedRow {
-        bytes: BEGINNINGS,
-        name: b"refs/heads/a/a",
-        answer: b"",
-    },
-    PackedRow {
-        bytes: BEGINNINGS,
-        name: b"refs/heads/a/b/c",
-        answer: b"",
-    },
-    PackedRow {
-        bytes: BEGINNINGS,
-        name: b"refs/heads/b",
-        answer: b"",
-    },
-    PackedRow {
-        bytes: PEELED,
-        name: b"refs/heads/a",
-        answer: b"1111111111111111111111111111111111111111",
-    },
-    PackedRow {
-        bytes: PEELED,
-        name: b"refs/tags/a",
-        answer: b"2222222222222222222222222222222222222222 3333333333333333333333333333333333333333",
-    },
-    PackedRow {
-        bytes: PEELED,
-        name: b"refs/tags/b",
-        answer: b"4444444444444444444444444444444444444444 5555555555555555555555555555555555555555",
-    },
-    PackedRow {
-        bytes: PEELED,
-        name: b"refs/tags/c",
-        answer: b"1111111111111111111111111111111111111111",
-    },
-    PackedRow {
-        bytes: PEELED,
-        name: b"refs/tags/d",
-        answer: b"",
-    },
-    PackedRow {
-        bytes: SINGLE,
-        name: b"refs/heads/m",
-        answer: b"1111111111111111111111111111111111111111",
-    },
-    PackedRow {
-        bytes: SINGLE,
-        name: b"refs/heads/l",
-        answer: b"",
-    },
-    PackedRow {
-        bytes: SINGLE,
-        name: b"refs/heads/n",
-        answer: b"",
-    },
-    PackedRow {
-        bytes: HEADER,
-        name: b"refs/heads/a",
-        answer: b"",
-    },
-    PackedRow {
-        bytes: NOTHING,
-        name: b"refs/heads/a",
-        answer: b"",
-    },
-    PackedRow {
-        bytes: RETURNS,
-        name: b"refs/heads/a",
-        answer: b"",
-    },
-    PackedRow {
-        bytes: RETURNS,
-        name: b"refs/heads/b",
-        answer: b"",
-    },
-];
+/// Files that git refuses, or in which it finds no name or not the first, each after the reason.
+pub(crate) const DAMAGED: &str = "\
+a comment behind the header => # pack-refs with: peeled fully-peeled sorted |\
+    # x|\
+    56a6051ca2b02b04ef92d5150c9ef600403cb1de refs/heads/a|
+another comment => # x|56a6051ca2b02b04ef92d5150c9ef600403cb1de refs/heads/a|
+junk behind a reference => 56a6051ca2b02b04ef92d5150c9ef600403cb1de refs/heads/a|\
+    junk|\
+    56a6051ca2b02b04ef92d5150c9ef600403cb1de refs/heads/b|
+junk in front => junk|56a6051ca2b02b04ef92d5150c9ef600403cb1de refs/heads/a|
+no line feed at the end => 56a6051ca2b02b04ef92d5150c9ef600403cb1de refs/heads/a
+an id of 39 digits => 56a6051ca2b02b04ef92d5150c9ef600403cb1de refs/heads/a|\
+    56a6051ca2b02b04ef92d5150c9ef600403cb1d refs/heads/b|
+an id of 41 digits => 56a6051ca2b02b04ef92d5150c9ef600403cb1de refs/heads/a|\
+    56a6051ca2b02b04ef92d5150c9ef600403cb1de0 refs/heads/b|
+a letter that is no digit => 56a6051ca2b02b04ef92d5150c9ef600403cb1de refs/heads/a|\
+    g6a6051ca2b02b04ef92d5150c9ef600403cb1de refs/heads/b|
+no name => 56a6051ca2b02b04ef92d5150c9ef600403cb1de refs/heads/a|\
+    56a6051ca2b02b04ef92d5150c9ef600403cb1de |\
+    56a6051ca2b02b04ef92d5150c9ef600403cb1de refs/heads/b|
+`^` in front => ^56a6051ca2b02b04ef92d5150c9ef600403cb1de|\
+    56a6051ca2b02b04ef92d5150c9ef600403cb1de refs/heads/a|
+two lines of `^` => 56a6051ca2b02b04ef92d5150c9ef600403cb1de refs/heads/a|\
+    ^56a6051ca2b02b04ef92d5150c9ef600403cb1de|\
+    ^56a6051ca2b02b04ef92d5150c9ef600403cb1de|
+39 digits behind `^` => 56a6051ca2b02b04ef92d5150c9ef600403cb1de refs/heads/a|\
+    ^56a6051ca2b02b04ef92d5150c9ef600403cb1d|
+an empty line => 56a6051ca2b02b04ef92d5150c9ef600403cb1de refs/heads/a||
+not sorted => # pack-refs with: peeled fully-peeled sorted |\
+    56a6051ca2b02b04ef92d5150c9ef600403cb1de refs/heads/b|\
+    56a6051ca2b02b04ef92d5150c9ef600403cb1de refs/heads/a|
+twice => # pack-refs with: peeled fully-peeled sorted |\
+    56a6051ca2b02b04ef92d5150c9ef600403cb1de refs/heads/a|\
+    56a6051ca2b02b04ef92d5150c9ef600403cb1de refs/heads/a|
+";
 
-/// Files `packed-refs` in which git finds `refs/heads/a`, but of which it lists no reference.
-pub(crate) static DANGEROUS: [&[u8]; 5] = [
-    b"1111111111111111111111111111111111111111 refs/heads/a\n2222222222222222222222222222222222222222 refs/heads/../b\n",
-    b"1111111111111111111111111111111111111111 refs/heads/a\n2222222222222222222222222222222222222222 refs/heads/./b\n",
-    b"1111111111111111111111111111111111111111 refs/heads/a\n2222222222222222222222222222222222222222 refs/heads//b\n",
-    b"1111111111111111111111111111111111111111 refs/heads/a\n2222222222222222222222222222222222222222 refs/heads/b/\n",
-    b"1111111111111111111111111111111111111111 refs/heads/a\n2222222222222222222222222222222222222222 refs/heads/b/..\n",
-];
+/// Files in which git finds `refs/heads/a`, each after what is special.
+pub(crate) const WHOLE: &str = "\
+no header => 56a6051ca2b02b04ef92d5150c9ef600403cb1de refs/heads/b|\
+    56a6051ca2b02b04ef92d5150c9ef600403cb1de refs/heads/a|
+capital letters => 56A6051CA2B02B04EF92D5150C9EF600403CB1DE refs/heads/a|
+an object behind `^` => # pack-refs with: peeled fully-peeled sorted |\
+    56a6051ca2b02b04ef92d5150c9ef600403cb1de refs/heads/a|\
+    ^56a6051ca2b02b04ef92d5150c9ef600403cb1de|\
+    56a6051ca2b02b04ef92d5150c9ef600403cb1de refs/heads/b|
+";
+
+/// Files in which git finds `refs/heads/a`, but of which it lists no reference, each after the name
+/// that is the reason.
+pub(crate) const DANGEROUS: &str = "\
+refs/heads/../b => 1111111111111111111111111111111111111111 refs/heads/a|\
+    2222222222222222222222222222222222222222 refs/heads/../b|
+refs/heads/./b => 1111111111111111111111111111111111111111 refs/heads/a|\
+    2222222222222222222222222222222222222222 refs/heads/./b|
+refs/heads//b => 1111111111111111111111111111111111111111 refs/heads/a|\
+    2222222222222222222222222222222222222222 refs/heads//b|
+refs/heads/b/ => 1111111111111111111111111111111111111111 refs/heads/a|\
+    2222222222222222222222222222222222222222 refs/heads/b/|
+refs/heads/b/.. => 1111111111111111111111111111111111111111 refs/heads/a|\
+    2222222222222222222222222222222222222222 refs/heads/b/..|
+";

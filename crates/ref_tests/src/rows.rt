@@ -1,68 +1,20 @@
 //! Asks the questions of the tables, also while a call or an allocation fails.
 
-use crate::answers::{NoAnswer, push_answer};
+use crate::answers::{Outcome, asked};
 use crate::fake::Fake;
-use crate::tables::{ROWS, Row};
+use crate::files::{Written, files};
+use crate::questions::{Ask, Row, TABLES, row_of};
 use gix_odb::files::Folders;
-use gix_ref::{Error, References};
+use gix_ref::References;
 use refusing::Refusing;
-use std::alloc::{Allocator, Global};
+use std::alloc::{AllocError, Allocator, Global};
 use std::cell::Cell;
-use std::io::ErrorKind;
 use std::test::Fail;
-
-/// Says what came of a question.
-#[derive(Clone, Copy, PartialEq, Eq)]
-enum Outcome {
-    Right,
-    Wrong,
-    /// The call on a file failed that was to fail, or the allocation.
-    Failed,
-}
-
-/// Returns the text for an error that an answer of the tables names.
-fn error_text(error: Error) -> &'static [u8] {
-    match error {
-        Error::Broken(_) => b"broken",
-        Error::TooDeep(_) => b"too deep",
-        Error::NotUtf8(_) => b"not UTF-8",
-        Error::Damaged(_) => b"damaged",
-        Error::Failed(..) | Error::OutOfMemory => b"failed",
-    }
-}
-
-/// Compares an error with the answer of a row.
-fn outcome_of(error: Error, row: &Row) -> Outcome {
-    match error {
-        Error::Failed(_, ErrorKind::Other) | Error::OutOfMemory => Outcome::Failed,
-        error if error_text(error) == row.answer => Outcome::Right,
-        _ => Outcome::Wrong,
-    }
-}
-
-/// Asks a question, and compares the answer with git's.
-fn asked<F: Folders + Drop, A: Allocator + Copy>(
-    alloc: A,
-    references: &mut References<F, A>,
-    row: &Row,
-) -> Outcome {
-    let mut text = Vec::new(alloc);
-    match push_answer(references, row.ask, row.name, &mut text) {
-        Ok(()) if text.as_slice() == row.answer => Outcome::Right,
-        Ok(()) => Outcome::Wrong,
-        Err(NoAnswer::Failed(error)) => outcome_of(error, row),
-        Err(NoAnswer::OutOfMemory) => Outcome::Failed,
-    }
-}
 
 /// Asks a question, and once more if it failed: a failure leaves nothing behind.
 fn asked_twice<F: Folders + Drop, A: Allocator + Copy>(alloc: A, files: F, row: &Row) -> Outcome {
-    let git_dir = if row.linked {
-        b"r/worktrees/w".as_slice()
-    } else {
-        b"r".as_slice()
-    };
-    let Ok(mut references) = References::open(alloc, files, git_dir, b"r") else {
+    let git_dir = if row.is_linked { "r/worktrees/w" } else { "r" };
+    let Ok(mut references) = References::open(alloc, files, git_dir.as_bytes(), b"r") else {
         return Outcome::Failed;
     };
     match asked(alloc, &mut references, row) {
@@ -71,79 +23,121 @@ fn asked_twice<F: Folders + Drop, A: Allocator + Copy>(alloc: A, files: F, row: 
     }
 }
 
-/// Returns how many calls on files a question makes, each of which fails in turn; 0 if a wrong
-/// answer comes.
-fn failed_calls(alloc: Global, row: &Row) -> u64 {
+/// Tests whether a question is answered as git answers it, while no call fails.
+fn is_right(alloc: Global, files: &[Written], row: &Row) -> bool {
+    let calls = Cell::new(0u64);
+    let files = Fake {
+        files,
+        calls: &calls,
+        fails: u64::MAX,
+    };
+    asked_twice(alloc, files, row) == Outcome::Right
+}
+
+/// Tests whether no wrong answer comes while each call on files that a question makes fails in
+/// turn.
+fn survives_calls(alloc: Global, files: &[Written], row: &Row) -> bool {
     for fails in 0..10_000u64 {
         let calls = Cell::new(0u64);
         let files = Fake {
+            files,
             calls: &calls,
             fails,
         };
         if asked_twice(alloc, files, row) == Outcome::Wrong {
-            return 0;
+            return false;
         }
         if calls.get() <= fails {
-            return fails.saturating_add(1);
+            return true;
         }
     }
-    0
+    false
 }
 
-/// Returns how many allocations a question makes, each of which fails in turn, in the same way.
-fn failed_allocations(alloc: Global, row: &Row) -> u64 {
+/// Tests whether no wrong answer comes while each allocation that a question makes fails in turn.
+fn survives_allocations(alloc: Global, files: &[Written], row: &Row) -> bool {
     for before in 0..10_000u64 {
         let calls = Cell::new(0u64);
         let files = Fake {
+            files,
             calls: &calls,
             fails: u64::MAX,
         };
         let memory = Refusing::new(alloc, before);
         if asked_twice(&memory, files, row) == Outcome::Wrong {
-            return 0;
+            return false;
         }
         if !memory.has_refused() {
-            return before.saturating_add(1);
+            return true;
         }
     }
-    0
+    false
 }
 
-/// Returns the number of the first row with another answer than git's, or the number of rows.
-fn first_wrong(alloc: Global) -> usize {
-    for (number, row) in ROWS.iter().enumerate() {
-        let calls = Cell::new(0u64);
-        let files = Fake {
-            calls: &calls,
-            fails: u64::MAX,
+/// What is tested of a row.
+#[derive(Clone, Copy)]
+enum Tested {
+    /// The answer.
+    Answer,
+    /// The answers while each call and each allocation fails, if the row says so.
+    Failures,
+}
+
+/// Tests a row.
+fn holds(alloc: Global, files: &[Written], row: &Row, tested: Tested) -> bool {
+    match tested {
+        Tested::Answer => is_right(alloc, files, row),
+        Tested::Failures => {
+            !row.fails
+                || survives_calls(alloc, files, row) && survives_allocations(alloc, files, row)
+        }
+    }
+}
+
+/// Returns the first row of a table that does not hold.
+fn first_wrong_of(
+    alloc: Global,
+    files: &[Written],
+    (ask, rows): (Ask, &'static str),
+    tested: Tested,
+) -> Option<&'static str> {
+    for row in rows.lines() {
+        let holds = match &row_of(alloc, ask, row) {
+            Some(row) => holds(alloc, files, row, tested),
+            None => false,
         };
-        if asked_twice(alloc, files, row) != Outcome::Right {
-            return number;
+        if !holds {
+            return Some(row);
         }
     }
-    ROWS.len()
+    None
 }
 
-/// Returns the number of the first row that fails wrongly, or the number of rows.
-fn first_wrong_failure(alloc: Global) -> usize {
-    for (number, row) in ROWS.iter().enumerate() {
-        if row.fails && (failed_calls(alloc, row) == 0 || failed_allocations(alloc, row) == 0) {
-            return number;
+/// Returns the first row of all tables that does not hold.
+fn first_wrong_in(alloc: Global, files: &[Written], tested: Tested) -> Option<&'static str> {
+    for table in &TABLES {
+        let wrong = first_wrong_of(alloc, files, *table, tested);
+        if wrong.is_some() {
+            return wrong;
         }
     }
-    ROWS.len()
+    None
+}
+
+/// Returns the first row that does not hold over the files of the tables.
+fn first_wrong(alloc: Global, tested: Tested) -> Result<Option<&'static str>, AllocError> {
+    let files = files(alloc)?;
+    Ok(first_wrong_in(alloc, &files, tested))
 }
 
 #[test]
 fn answers_as_git(rt: HostRuntime) -> Result<(), Fail> {
-    let wrong = first_wrong(rt.alloc());
-    assert!(rt; wrong == ROWS.len());
+    assert_eq!(rt; first_wrong(rt.alloc(), Tested::Answer)?, None);
     Ok(())
 }
 
 #[test]
 fn survives_each_failure(rt: HostRuntime) -> Result<(), Fail> {
-    let wrong = first_wrong_failure(rt.alloc());
-    assert!(rt; wrong == ROWS.len());
+    assert_eq!(rt; first_wrong(rt.alloc(), Tested::Failures)?, None);
     Ok(())
 }
