@@ -209,8 +209,8 @@ def random_commands(room: Room, count: int, seed: int) -> list[Command]:
         room.clone(rising, "rising bare", "--bare"),
         filed(room, rising, "rising with a file"),
         filed(room, skewed, "skewed with a part", 20),
-        chained(room, rising, "rising with a chain"),
-        chained(room, skewed, "skewed with a chain"),
+        chained(room, rising, "rising with a chain", 6),
+        chained(room, skewed, "skewed with a chain", 2),
     ]
     places.append(room.clone(rising, "rising shallow", "--no-single-branch", "--depth=3"))
     packed = room.copy(skewed, "skewed packed")

@@ -394,11 +394,11 @@ def age(place: Repository) -> None:
     place.git("update-index", "-q", "--refresh")
 
 
-def chained(room: Room, of: Repository, name: str) -> Repository:
-    """Copies a repository, and writes a chain of commit-graphs."""
+def chained(room: Room, of: Repository, name: str, layers: int = 3) -> Repository:
+    """Copies a repository, and writes a chain of commit-graphs with so many layers."""
     made = room.copy(of, name)
-    for count in (len(of.ids) // 3, len(of.ids) // 3 * 2, len(of.ids)):
-        data = "\n".join(of.ids[:count]).encode() + b"\n"
+    for layer in range(1, layers + 1):
+        data = "\n".join(of.ids[:len(of.ids) * layer // layers]).encode() + b"\n"
         made.git("commit-graph", "write", "--stdin-commits", "--split=no-merge", data=data)
     return made
 

@@ -81,6 +81,8 @@ def refused_text(text: bytes, folder: bytes) -> str | None:
         return "a description without digits"
     if b"..." in text and b"^{tree}" in text:
         return "a tree at an end"
+    if b"..." in text and b"1" * 40 in text:
+        return "an end that is missing"
     if text and b"\0" not in text and os.path.lexists(os.path.join(folder, text)):
         return "the name of a file"
     return None

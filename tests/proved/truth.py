@@ -127,7 +127,10 @@ class Listing:
     def out(self) -> bytes:
         """Returns what git should print."""
         history, is_first = self.history, "--first-parent" in self.flags
-        if is_first and (self.hidden or "--parents" in self.flags):
+        if is_first and "--parents" in self.flags:
+            raise Unknown
+        # git may end one of several lines of first parents where it ends another.
+        if is_first and self.hidden and len(set(self.shown)) > 1:
             raise Unknown
         hidden = history.reached(self.hidden)
         order = history.listed(self.shown, hidden, is_first)
