@@ -5,23 +5,15 @@ ghost use Rattle.std.specs.Prelude.{◌≡◌, ◌%◌, ◌^◌};
 use crate::status::Status;
 use gix_odb::System;
 use gix_odb::files::{FileError, Folders};
-use std::alloc::Allocator;
 use std::fs::{Files, Metadata};
 use std::io::{self, ErrorKind};
 use std::os::unix::fs::MetadataExt;
 
-/// Looks at files and symbolic links. Nothing is promised of what is there.
+/// Looks at files. Nothing is promised of what is there.
 pub trait Statuses: Folders {
     /// Returns what the system says of a path, which may be a symbolic link; `None` if there is
     /// nothing.
     fn status(&self, path: &[u8]) -> Result<Option<Status>, FileError>;
-
-    /// Adds the path to which a symbolic link leads to `target`.
-    fn read_link<A: Allocator>(
-        &self,
-        path: &[u8],
-        target: &mut Vec<u8, A>,
-    ) -> Result<(), FileError>;
 }
 
 /// Returns a number modulo 2^32.
@@ -65,23 +57,6 @@ impl<'a> Statuses for System<'a> {
                 ErrorKind::NotFound | ErrorKind::NotADirectory => Ok(None),
                 _ => Err(file_error(error)),
             },
-        }
-    }
-
-    fn read_link<A: Allocator>(
-        &self,
-        path: &[u8],
-        target: &mut Vec<u8, A>,
-    ) -> Result<(), FileError> {
-        let Ok(path) = str::from_utf8(path) else {
-            return Err(FileError::NotUtf8);
-        };
-        match self.0.read_link(self.0.alloc(), path) {
-            Ok(found) => {
-                target.extend_from_slice(found.as_str().as_bytes())?;
-                Ok(())
-            }
-            Err(error) => Err(file_error(error)),
         }
     }
 }

@@ -222,12 +222,15 @@ impl<F: Statuses + Copy + Drop, A: Allocator + Copy> WorkTree<F, A> {
         }
     }
 
-    /// Returns the id of the path to which a symbolic link leads.
+    /// Returns the id of the path to which a symbolic link leads; `None` if there is none any more.
     fn link_id(&self, path: &[u8]) -> Result<Option<ObjectId>, FileError> {
         let opened = self.path(path, b"")?;
         let mut target = Vec::new(self.alloc);
-        self.files.read_link(&opened, &mut target)?;
-        Ok(Some(object_id(Kind::Blob, &target)))
+        if self.files.link(&opened, &mut target)? {
+            Ok(Some(object_id(Kind::Blob, &target)))
+        } else {
+            Ok(None)
+        }
     }
 
     /// Compares an entry with the content of its file.

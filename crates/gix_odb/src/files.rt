@@ -45,11 +45,23 @@ pub trait Folders {
     type Opened: Opened;
 
     /// Opens a file for reading. Returns `None` if there is no such file.
+    ///
+    /// Fails with `NotSeekable` if the file is a pipe, on which the program would wait.
     fn open(&self, path: &[u8]) -> Result<Option<Self::Opened>, FileError>;
+
+    /// Adds the text of a symbolic link to `text`.
+    ///
+    /// Returns `false`, and adds nothing, if there is no link at the path. Fails with `NotADirectory`
+    /// if a part of the path before the last one is a file. A file system without links and without
+    /// such paths needs no body of its own.
+    fn link<A: Allocator>(&self, _path: &[u8], _text: &mut Vec<u8, A>) -> Result<bool, FileError> {
+        Ok(false)
+    }
 
     /// Adds the names of all entries of a folder to `names`, each ended by a zero byte.
     ///
-    /// Adds none if there is no such folder. The names `.` and `..` may be among them.
+    /// Adds none if there is no such folder. The names `.` and `..` may be among them. Fails with
+    /// `NotADirectory` if there is a file in its place.
     fn names<A: Allocator>(&self, path: &[u8], names: &mut Vec<u8, A>) -> Result<(), FileError>;
 
     /// Adds the path of a folder to `real`, without symbolic links, so that a folder has one path.

@@ -7,7 +7,7 @@ ghost use Rattle.gix_odb.specs.Stores.{IsObject};
 use crate::completions::Completions;
 use crate::error::{Damage, Feature, FileKind, FileName};
 use crate::failure::{Failure, Fault};
-use crate::files::{Folders, Opened};
+use crate::files::{FileError, Folders, Opened};
 use crate::object::{Object, accepted};
 use crate::paths::{id_of_name, loose_folder, loose_path};
 use crate::source::{Source, fault_of, open};
@@ -16,6 +16,7 @@ use gix_base::hash::ObjectId;
 use gix_object::loose::{self, Header, MOST_HEADER, parse_header};
 use gix_zlib::{InflateError, inflate_front};
 use std::alloc::Allocator;
+use std::io::ErrorKind;
 
 /// How many bytes of a file are read first.
 const FIRST: usize = 4096;
@@ -91,6 +92,26 @@ fn name(folder: usize, id: ObjectId) -> FileName {
     }
 }
 
+/// Returns the failure for a loose file that was not there to open.
+///
+/// A link that leads to no file is a broken copy. git fails there, too.
+fn absent<F: Folders, A: Allocator + Copy>(
+    alloc: A,
+    files: &F,
+    number: usize,
+    path: &[u8],
+    id: ObjectId,
+) -> Failure
+    ensures { IsFailure id result }
+{
+    let mut text = Vec::new(alloc);
+    match files.link(path, &mut text) {
+        Ok(true) => Failure::InFile(Fault::Failed(name(number, id), ErrorKind::NotFound)),
+        Ok(false) | Err(FileError::Failed(ErrorKind::NotADirectory)) => Failure::Missing,
+        Err(error) => Failure::InFile(fault_of(name(number, id), error)),
+    }
+}
+
 /// Reads the loose object with this id. Fails with `Missing` if its file is not there.
 pub(crate) fn read<F: Folders, A: Allocator + Copy>(
     alloc: A,
@@ -106,7 +127,7 @@ pub(crate) fn read<F: Folders, A: Allocator + Copy>(
     let path = loose_path(alloc, folder, id)?;
     match open(files, &path, name(number, id))? {
         Some(source) => read_from(alloc, &source, id, limit),
-        None => Err(Failure::Missing),
+        None => Err(absent(alloc, files, number, &path, id)),
     }
 }
 
@@ -121,7 +142,7 @@ pub(crate) fn has<F: Folders, A: Allocator + Copy>(
     let path = loose_path(alloc, folder, id)?;
     match open(files, &path, name(number, id))? {
         Some(_) => Ok(()),
-        None => Err(Failure::Missing),
+        None => Err(absent(alloc, files, number, &path, id)),
     }
 }
 

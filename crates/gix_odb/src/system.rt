@@ -6,7 +6,7 @@ use crate::files::{FileError, Folders, Opened};
 use std::alloc::Allocator;
 use std::fs::{File, Files, OpenFile};
 use std::io::{self, ErrorKind, Read};
-use std::os::unix::fs::FileExt;
+use std::os::unix::fs::{FileExt, MetadataExt};
 
 /// The file system. It opens only paths that are UTF-8.
 #[derive(Clone, Copy, Drop)]
@@ -15,6 +15,11 @@ pub struct System<'a>(pub &'a HostRuntime);
 /// Tells whether an error says that there is no such file or folder.
 fn is_missing(kind: ErrorKind) -> bool {
     matches!(kind, ErrorKind::NotFound | ErrorKind::NotADirectory)
+}
+
+/// Tells whether a file is a pipe with a name, by its mode (inode(7), "The file type and mode").
+fn is_pipe(mode: u32) -> bool {
+    mode >> 12 == 1
 }
 
 /// Returns the error of a file for one of the system.
@@ -54,10 +59,39 @@ impl<'a> Folders for System<'a> {
         let Ok(path) = str::from_utf8(path) else {
             return Err(FileError::NotUtf8);
         };
+        match self.0.metadata(path) {
+            Ok(metadata) if is_pipe(metadata.mode()) => {
+                return Err(FileError::Failed(ErrorKind::NotSeekable));
+            }
+            Ok(_) => {}
+            Err(error) if is_missing(error.kind()) => return Ok(None),
+            Err(error) => return Err(file_error(error)),
+        }
         match File::open(self.0, path) {
             Ok(file) => Ok(Some(file)),
             Err(error) if is_missing(error.kind()) => Ok(None),
             Err(error) => Err(file_error(error)),
+        }
+    }
+
+    fn link<A: Allocator>(&self, path: &[u8], text: &mut Vec<u8, A>) -> Result<bool, FileError> {
+        let Ok(path) = str::from_utf8(path) else {
+            return Err(FileError::NotUtf8);
+        };
+        match self.0.read_link(self.0.alloc(), path) {
+            Ok(found) => {
+                text.extend_from_slice(found.as_str().as_bytes())?;
+                Ok(true)
+            }
+            Err(error) => match error.kind() {
+                ErrorKind::NotFound | ErrorKind::InvalidInput => Ok(false),
+                // Either the path is too long, or there is a link whose text is not UTF-8.
+                ErrorKind::InvalidFilename => match self.0.symlink_metadata(path) {
+                    Ok(_) => Err(FileError::NotUtf8),
+                    Err(error) => Err(file_error(error)),
+                },
+                _ => Err(file_error(error)),
+            },
         }
     }
 
@@ -67,7 +101,7 @@ impl<'a> Folders for System<'a> {
         };
         match self.0.open_dir(path) {
             Ok(mut folder) => read_names(&mut folder, names),
-            Err(error) if is_missing(error.kind()) => Ok(()),
+            Err(error) if error.kind() == ErrorKind::NotFound => Ok(()),
             Err(error) => Err(file_error(error)),
         }
     }
