@@ -11,6 +11,7 @@ use crate::store::References;
 use gix_base::hash::ObjectId;
 use gix_odb::files::{FileError, Folders};
 use std::alloc::{Allocator, Global};
+use std::io::ErrorKind;
 
 /// The id that git takes for damage in a list.
 const ZEROS: ObjectId = ObjectId([0u8; 20]);
@@ -255,6 +256,8 @@ impl<F: Folders + Drop, A: Allocator + Copy> References<F, A> {
                 ensure_missing(self.alloc, &self.files, &path, folder)?;
                 Ok(names)
             }
+            // It is a link that leads below a file. git lists nothing there.
+            Err(FileError::Failed(ErrorKind::NotADirectory)) => Ok(names),
             Err(error) => Err(fault_of(folder, error)),
         }
     }

@@ -17,11 +17,14 @@ pub(crate) fn fault_of(name: &[u8], error: FileError) -> Fault {
 
 /// Tests whether an error says that there is no file of this name.
 ///
-/// This is also so for a folder, and for a name that is too long for the system.
+/// This is also so for a folder, for a name below a file, and for one that is too long for the
+/// system.
 fn is_no_file(error: FileError) -> bool {
     matches!(
         error,
-        FileError::Failed(ErrorKind::IsADirectory | ErrorKind::InvalidFilename)
+        FileError::Failed(
+            ErrorKind::IsADirectory | ErrorKind::NotADirectory | ErrorKind::InvalidFilename
+        )
     )
 }
 
@@ -100,22 +103,29 @@ pub(crate) fn ensure_missing<F: Folders, A: Allocator>(
     }
 }
 
+/// Returns the bytes of a file; `None` if there is nothing at the path. Fails if there is a folder.
+pub(crate) fn read_file<F: Folders, A: Allocator + Copy>(
+    alloc: A,
+    files: &F,
+    path: &[u8],
+) -> Result<Option<Vec<u8, A>>, FileError> {
+    let Some(file) = files.open(path)? else {
+        return Ok(None);
+    };
+    let mut bytes = Vec::new(alloc);
+    read_whole(&file, &mut bytes)?;
+    Ok(Some(bytes))
+}
+
 /// Returns the bytes of a file, as [`read`] does, but fails if the path is not UTF-8.
 pub(crate) fn read_listed<F: Folders, A: Allocator + Copy>(
     alloc: A,
     files: &F,
     path: &[u8],
 ) -> Result<Option<Vec<u8, A>>, FileError> {
-    let mut bytes = Vec::new(alloc);
-    let read = match files.open(path) {
-        Ok(Some(file)) => read_whole(&file, &mut bytes),
-        Ok(None) => return Ok(None),
-        Err(error) => Err(error),
-    };
-    match read {
-        Ok(()) => Ok(Some(bytes)),
+    match read_file(alloc, files, path) {
         Err(error) if is_no_file(error) => Ok(None),
-        Err(error) => Err(error),
+        read => read,
     }
 }
 

@@ -9,6 +9,7 @@ ghost use Rattle.gix_ref.specs.Said.{packed_said};
 
 use crate::lines::{cut, id_of};
 use gix_base::hash::ObjectId;
+use memchr::memchr;
 
 /// What `packed-refs` says of a reference.
 #[derive(Clone, Copy)]
@@ -58,13 +59,17 @@ pub(crate) fn without_header(bytes: &[u8]) -> Option<(&[u8], bool)>
     }
 }
 
-/// Returns the name of a line `ID NAME`. It is below `refs/`.
+/// Returns the name of a line `ID NAME`. It is below `refs/`, and has no zero byte, where git ends
+/// it.
 fn name_of(line: &[u8]) -> Option<&[u8]>
     ensures { IfSome result (λ name. name.now ≡ drop 41 line.now) }
 {
     let (digits, rest) = line.split_at_checked(40)?;
     let name = rest.strip_prefix(b" ")?;
-    if name.starts_with(b"refs/") && digits.iter().all(|b| b.is_ascii_hexdigit()) {
+    if name.starts_with(b"refs/")
+        && memchr(0, name).is_none()
+        && digits.iter().all(|b| b.is_ascii_hexdigit())
+    {
         Some(name)
     } else {
         None

@@ -6,17 +6,39 @@ ghost use Rattle.gix_ref.specs.Known.{Grows, known, read_of, first_read, content
 
 use crate::all::{Listing, Skipped};
 use crate::error::{Error, ErrorName, Fault};
-use crate::files::read;
+use crate::files::{fault_of, read, read_file};
+use crate::name::is_full_name;
 use crate::place::located;
 use crate::snapshot::Snapshot;
-use gix_odb::files::Folders;
+use gix_odb::files::{FileError, Folders};
 use std::alloc::{Allocator, Global};
+use std::io::ErrorKind;
 
 /// What an answer has read of a loose reference. The content is `None` if there is no file.
 #[derive(Drop)]
 pub(crate) struct Reading<A: Allocator> {
     pub(crate) name: Vec<u8, A>,
     pub(crate) content: Option<Vec<u8, A>>,
+}
+
+/// What is in place of a loose reference.
+#[derive(Drop)]
+enum LooseFile<A: Allocator> {
+    /// A file with these bytes.
+    Content(Vec<u8, A>),
+    /// Nothing, or a folder.
+    Missing,
+    /// A link to no file, or a file in place of a folder of its path.
+    Unreadable(ErrorKind),
+}
+
+/// Whether there is a symbolic link in place of a loose reference.
+#[derive(Drop)]
+enum Link<A: Allocator> {
+    Text(Vec<u8, A>),
+    None,
+    /// There can be none: the name is below that of a file, or too long.
+    Below(ErrorKind),
 }
 
 /// Reads the references of a repository.
@@ -106,10 +128,69 @@ impl<F: Folders + Drop, A: Allocator + Copy> References<F, A> {
         Ok(path)
     }
 
-    /// Reads the file of a loose reference.
-    pub(crate) fn read_file(&self, name: &[u8]) -> Result<Option<Vec<u8, A>>, Fault> {
+    /// Reads the text of the symbolic link in place of a loose reference, if there is one.
+    fn link_at(&self, path: &[u8], name: &[u8]) -> Result<Link<A>, Fault> {
+        let mut text = Vec::new(self.alloc);
+        match self.files.link(path, &mut text) {
+            Ok(true) => Ok(Link::Text(text)),
+            Ok(false) => Ok(Link::None),
+            Err(FileError::NotUtf8) if str::from_utf8(path).is_err() => Ok(Link::None),
+            Err(
+                FileError::Failed(kind @ (ErrorKind::NotADirectory | ErrorKind::InvalidFilename)),
+            ) => Ok(Link::Below(kind)),
+            Err(error) => Err(fault_of(name, error)),
+        }
+    }
+
+    /// Reads what is in place of a loose reference.
+    ///
+    /// A symbolic link whose text is a name below `refs/` is a symbolic reference to this name.
+    fn read_loose_file(&self, name: &[u8]) -> Result<LooseFile<A>, Fault> {
         let path = self.path(b"", name)?;
-        read(self.alloc, &self.files, &path, name)
+        let is_link = match self.link_at(&path, name)? {
+            Link::Text(text) if text.starts_with(b"refs/") && is_full_name(&text) => {
+                let mut content = b"ref: ".to_vec(self.alloc)?;
+                content.extend_from_slice(&text)?;
+                return Ok(LooseFile::Content(content));
+            }
+            Link::Text(_) => true,
+            Link::None => false,
+            Link::Below(kind) => return Ok(LooseFile::Unreadable(kind)),
+        };
+        match read(self.alloc, &self.files, &path, name)? {
+            Some(content) => Ok(LooseFile::Content(content)),
+            None if is_link => Ok(LooseFile::Unreadable(ErrorKind::NotFound)),
+            None => Ok(LooseFile::Missing),
+        }
+    }
+
+    /// Fails if `packed-refs` has a reference, since its loose file cannot be read.
+    ///
+    /// git then takes none, neither the loose one nor the packed one.
+    fn ensure_not_packed(&mut self, name: &[u8], kind: ErrorKind) -> Result<(), Fault>
+        ensures grows { Grows (known self.old) (known self.new) }
+    {
+        self.read_packed()?;
+        match &self.packed {
+            Some(snapshot) if snapshot.find(name).is_some() => {
+                Err(Fault::Failed(ErrorName::new(name), kind))
+            }
+            _ => Ok(()),
+        }
+    }
+
+    /// Reads the content of a loose reference; `None` if there is none.
+    fn loose_content(&mut self, name: &[u8]) -> Result<Option<Vec<u8, A>>, Fault>
+        ensures grows { Grows (known self.old) (known self.new) }
+    {
+        match self.read_loose_file(name)? {
+            LooseFile::Content(content) => Ok(Some(content)),
+            LooseFile::Missing => Ok(None),
+            LooseFile::Unreadable(kind) => {
+                self.ensure_not_packed(name, kind)?;
+                Ok(None)
+            }
+        }
     }
 
     /// Keeps what was read of a loose reference.
@@ -152,7 +233,7 @@ impl<F: Folders + Drop, A: Allocator + Copy> References<F, A> {
         if self.reading(name).is_some() {
             return Ok(());
         }
-        let content = self.read_file(name)?;
+        let content = self.loose_content(name)?;
         self.keep(name, content)?;
         Ok(())
     }
@@ -161,9 +242,10 @@ impl<F: Folders + Drop, A: Allocator + Copy> References<F, A> {
     fn packed_file(&self) -> Result<Snapshot<A>, Fault> {
         let mut path = self.common_dir.to_vec(self.alloc)?;
         path.extend_from_slice(b"/packed-refs")?;
-        let bytes = match read(self.alloc, &self.files, &path, b"packed-refs")? {
-            Some(bytes) => bytes,
-            None => Vec::new(self.alloc),
+        let bytes = match read_file(self.alloc, &self.files, &path) {
+            Ok(Some(bytes)) => bytes,
+            Ok(None) => Vec::new(self.alloc),
+            Err(error) => return Err(fault_of(b"packed-refs", error)),
         };
         match Snapshot::new(self.alloc, bytes)? {
             Some(snapshot) => Ok(snapshot),
