@@ -11,7 +11,7 @@ import sys
 from collections import Counter
 from collections.abc import Iterator
 
-from rows import Graph, ask, files_of, git, history, levels_of, lines_by_git
+from rows import Graph, ask, files_of, git, history, levels_of, lines_by_git, takes_contents
 
 PROGRAM, FOLDER = sys.argv[1:3]
 SOURCE = random.Random(int(sys.argv[3]))
@@ -23,9 +23,11 @@ NO_MEMORY = "out of memory"
 
 
 def damages(text: bytes) -> Iterator[bytes]:
-    """Yields a file with each byte changed, twice, and each beginning of it."""
+    """Yields a file with each byte changed, twice, without each word, and each beginning of it."""
     for at in range(len(text)):
         yield text[:at]
+        if at % 4 == 0:
+            yield text[:at] + text[at + 4 :]
         for byte in (text[at] ^ 1 << SOURCE.randrange(8), SOURCE.choice([0, 255, SOURCE.randrange(256)])):
             if byte != text[at]:
                 yield text[:at] + bytes([byte]) + text[at + 1 :]
@@ -69,6 +71,7 @@ class Trial:
             assert found.status == 1 and found.errors.startswith(REFUSALS) and not found.lines, what
             self.counts["refused"] += 1
             return
+        assert takes_contents(text), what
         try:
             graph = Graph([text if at == number else it for at, it in enumerate(self.texts)])
         except (KeyError, IndexError):

@@ -79,6 +79,22 @@ def files_of(objects: str) -> list[str]:
         return [f"{objects}/info/commit-graphs/graph-{line.strip()}.graph" for line in file]
 
 
+def takes_contents(text: bytes) -> bool:
+    """Returns whether git takes the table of contents of a file.
+
+    Each chunk has an id of its own, and ends at or after its begin, before the hash of the file. The last entry has the id zero.
+    """
+    count = text[6] if len(text) > 6 else 0
+    places = range(8, 8 + 12 * count + 12, 12)
+    if len(text) < places[-1] + 12:
+        return False
+    *ids, last = (text[at : at + 4] for at in places)
+    begins = [int.from_bytes(text[at + 4 : at + 12], "big") for at in places]
+    has_own_ids = last == bytes(4) and last not in ids and len(set(ids)) == count
+    # Of an empty table git looks at no offset.
+    return has_own_ids and begins == sorted(begins) and (count == 0 or begins[-1] <= len(text) - 20)
+
+
 class Layer:
     """Reads one file, and checks nothing."""
 

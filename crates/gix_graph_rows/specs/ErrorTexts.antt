@@ -1,7 +1,7 @@
 -- The texts of what is wrong with a file.
 use Rattle.std.specs.Prelude.{ℕ, List, codes}
 use Rattle.gix_graph_rows.specs.declared.error.Damage.{Damage}
-use Rattle.gix_graph_rows.specs.declared.error.Damage.TheVariants.{CutOff, Signature, ChunkPlace, ChunkSize, Fanout, ChainLine, Bases, Commits, Parent, EdgeEnd, Level}
+use Rattle.gix_graph_rows.specs.declared.error.Damage.TheVariants.{CutOff, Signature, Contents, ChunkPlace, ChunkSize, Fanout, ChainLine, Bases, Commits, Parent, EdgeEnd, Level}
 use Rattle.gix_graph_rows.specs.declared.error.Feature.{Feature}
 use Rattle.gix_graph_rows.specs.declared.error.Feature.TheVariants.{Version, Hash, NotUtf8}
 
@@ -9,6 +9,7 @@ use Rattle.gix_graph_rows.specs.declared.error.Feature.TheVariants.{Version, Has
 abbrev pub damage_text : Damage → List ℕ
 damage_text CutOff = codes "file is cut off"
 damage_text Signature = codes "not a commit-graph file"
+damage_text Contents = codes "table of contents is damaged"
 damage_text ChunkPlace = codes "chunk is out of order or outside the file"
 damage_text ChunkSize = codes "chunk is missing or of the wrong size"
 damage_text Fanout = codes "fanout table falls"

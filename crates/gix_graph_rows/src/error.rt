@@ -28,6 +28,8 @@ pub enum Damage {
     CutOff,
     /// The file does not begin with `CGPH`.
     Signature,
+    /// The table of contents has an id twice, or ends before or after its last entry.
+    Contents,
     /// The table of contents has a chunk that ends before it begins, or not before the file's hash.
     ChunkPlace,
     /// A chunk that each file has is missing, or a chunk is not as long as the others require.
@@ -112,6 +114,7 @@ impl fmt::Display for Damage {
         f.write_str(match self {
             Damage::CutOff => "file is cut off",
             Damage::Signature => "not a commit-graph file",
+            Damage::Contents => "table of contents is damaged",
             Damage::ChunkPlace => "chunk is out of order or outside the file",
             Damage::ChunkSize => "chunk is missing or of the wrong size",
             Damage::Fanout => "fanout table falls",

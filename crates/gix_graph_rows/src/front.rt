@@ -14,6 +14,9 @@ const MOST: usize = 8 + 12 * 257;
 /// The length of the hash at the end of a file, which is not compared.
 const HASH: u64 = 20;
 
+/// The id in the last entry of the table of contents, which has no chunk.
+const NO_CHUNK: [u8; 4] = [0; 4];
+
 /// Says where a chunk begins, and how many bytes it has.
 #[derive(Clone, Copy)]
 pub(crate) struct Chunk {
@@ -58,6 +61,11 @@ fn offset_at(bytes: &[u8], at: usize) -> Option<u64> {
     Some((u64::from(high) << 32) | u64::from(low))
 }
 
+/// Returns the offset of an entry of the table of contents.
+fn offset_of_entry(number: usize) -> usize {
+    number.saturating_mul(12).saturating_add(8)
+}
+
 /// Checks the header of the file with this number in a chain.
 fn check_header<O: Opened>(source: &Source<O>, bytes: &[u8], number: usize) -> Result<(), Error> {
     match bytes {
@@ -87,10 +95,12 @@ impl<A: Allocator> Contents<A> {
         let mut bytes = Vec::new(alloc);
         source.read_into(0, MOST, &mut bytes)?;
         check_header(source, &bytes, number)?;
-        Ok(Contents {
+        let contents = Contents {
             size: source.size()?,
             bytes,
-        })
+        };
+        contents.check(source)?;
+        Ok(contents)
     }
 
     /// Returns the length of the file.
@@ -98,20 +108,68 @@ impl<A: Allocator> Contents<A> {
         self.size
     }
 
-    /// Returns the offset of the entry of a chunk in the table of contents.
+    /// Returns the number of chunks that the header says.
+    fn count(&self) -> usize {
+        self.bytes.get(6).copied().unwrap_or(0) as usize
+    }
+
+    /// Returns the id in the entry at an offset of the table of contents.
+    fn tag_at(&self, at: usize) -> Option<&[u8]> {
+        self.bytes.get(at..at.saturating_add(4))
+    }
+
+    /// Returns the offset of the first entry with this id in the table of contents.
     fn entry(&self, tag: &[u8]) -> Option<usize> {
-        let count = self.bytes.get(6).copied().unwrap_or(0);
-        for i in 0..count as usize {
-            let at = 8 + 12 * i;
-            if self.bytes.get(at..at + 4) == Some(tag) {
+        for i in 0..self.count() {
+            let at = offset_of_entry(i);
+            if self.tag_at(at) == Some(tag) {
                 return Some(at);
             }
         }
         None
     }
 
-    /// Returns the chunk with this id, which ends before the hash of the file; `None` if there is
-    /// none.
+    /// Returns the chunk whose entry is at an offset; `None` if it does not end before the hash.
+    fn chunk_at(&self, at: usize) -> Option<Chunk> {
+        let start = offset_at(&self.bytes, at.saturating_add(4))?;
+        let end = offset_at(&self.bytes, at.saturating_add(16))?;
+        if start <= end && end <= self.size.saturating_sub(HASH) {
+            Some(Chunk {
+                start,
+                len: end - start,
+            })
+        } else {
+            None
+        }
+    }
+
+    /// Tests whether the entry at an offset has an id, and no entry before it has the same.
+    fn is_new(&self, at: usize) -> bool {
+        match self.tag_at(at) {
+            Some(tag) => tag != NO_CHUNK.as_slice() && self.entry(tag) == Some(at),
+            None => false,
+        }
+    }
+
+    /// Checks all entries of the table of contents, as git does. The last one has no chunk.
+    fn check<O: Opened>(&self, source: &Source<O>) -> Result<(), Error> {
+        for i in 0..self.count() {
+            let at = offset_of_entry(i);
+            if !self.is_new(at) {
+                return Err(source.damaged(at as u64, Damage::Contents));
+            }
+            if self.chunk_at(at).is_none() {
+                return Err(source.damaged(at as u64, Damage::ChunkPlace));
+            }
+        }
+        let end = offset_of_entry(self.count());
+        if self.tag_at(end) != Some(NO_CHUNK.as_slice()) {
+            return Err(source.damaged(end as u64, Damage::Contents));
+        }
+        Ok(())
+    }
+
+    /// Returns the chunk with this id; `None` if there is none.
     pub(crate) fn chunk<O: Opened>(
         &self,
         source: &Source<O>,
@@ -120,15 +178,9 @@ impl<A: Allocator> Contents<A> {
         let Some(at) = self.entry(tag) else {
             return Ok(None);
         };
-        let start = offset_at(&self.bytes, at.saturating_add(4));
-        let end = offset_at(&self.bytes, at.saturating_add(16));
-        let room = self.size.saturating_sub(HASH);
-        match (start, end) {
-            (Some(start), Some(end)) if start <= end && end <= room => Ok(Some(Chunk {
-                start,
-                len: end - start,
-            })),
-            _ => Err(source.damaged(at as u64, Damage::ChunkPlace)),
+        match self.chunk_at(at) {
+            Some(chunk) => Ok(Some(chunk)),
+            None => Err(source.damaged(at as u64, Damage::ChunkPlace)),
         }
     }
 
