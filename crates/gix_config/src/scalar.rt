@@ -62,9 +62,22 @@ fn with_digit(value: i64, base: u32, next: i64, negative: bool) -> Option<i64> {
     }
 }
 
-/// Splits the blanks and the sign from a number.
+/// Tells whether a byte is white space in C: a space, or one from tab to carriage return.
+fn is_space(byte: u8) -> bool {
+    byte == b' ' || (b'\t'..=b'\r').contains(&byte)
+}
+
+/// Returns a text without the white space at its front.
+fn after_spaces(text: &[u8]) -> &[u8] {
+    match text.iter().position(|b| !is_space(*b)) {
+        Some(start) => text.get(start..).unwrap_or(&[]),
+        None => &[],
+    }
+}
+
+/// Splits the white space and the sign from a number.
 fn signed(text: &[u8]) -> (bool, &[u8]) {
-    match text.trim_ascii_start() {
+    match after_spaces(text) {
         [b'-', rest @ ..] => (true, rest),
         [b'+', rest @ ..] => (false, rest),
         rest => (false, rest),
@@ -80,6 +93,43 @@ pub fn number(text: &[u8]) -> Option<i64> {
     let (value, rest) = digits(rest, base, negative)?;
     let number = value.checked_mul(unit(rest)?)?;
     (number != i64::MIN).then_some(number)
+}
+
+/// Reads digits of a size, and returns their number and what follows them.
+///
+/// Returns `None` if there is no digit, or the number does not fit.
+fn size_digits(text: &[u8], base: u32) -> Option<(u64, &[u8])> {
+    let mut rest = text;
+    let mut value = 0u64;
+    for _ in 0..text.len() {
+        let Some((byte, after)) = rest.split_first() else {
+            break;
+        };
+        let Some(next) = digit(*byte, base) else {
+            break;
+        };
+        value = value
+            .checked_mul(u64::from(base))?
+            .checked_add(next.unsigned_abs())?;
+        rest = after;
+    }
+    if rest.len() == text.len() {
+        return None;
+    }
+    Some((value, rest))
+}
+
+/// Reads a size as git does: a number without a minus sign that fits 64 bits.
+///
+/// Returns `None` if the text is not such a number, or if it does not fit.
+pub fn size(text: &[u8]) -> Option<u64> {
+    if text.contains(&b'-') {
+        return None;
+    }
+    let (_, rest) = signed(text);
+    let (base, rest) = base_of(rest);
+    let (value, rest) = size_digits(rest, base)?;
+    value.checked_mul(unit(rest)?.unsigned_abs())
 }
 
 /// Reads the words for a boolean; `None` if the text is none of them.

@@ -47,6 +47,12 @@ pub enum Reason {
     BadNumber,
     /// The length of abbreviated object names is not between 4 and 40.
     BadAbbrev,
+    /// The value of the setting is not one of those that git takes.
+    BadValue,
+    /// The value of the setting is malformed, and git fails when it first looks for an object.
+    BadReadSetting,
+    /// The path of the setting begins with `~`, and `HOME` is not set.
+    UnexpandedPath,
     /// Config files include one another more than ten deep.
     IncludeDepth,
     /// A relative `include.path` does not come from a file.
@@ -83,6 +89,8 @@ pub struct DiscoverError<A: Allocator = Global> {
     pub reason: Reason,
     /// Has the path, or the name of the setting, if the reason is about one.
     pub subject: Option<Vec<u8, A>>,
+    /// Has the value of the setting, if the reason is about it.
+    pub value: Option<Vec<u8, A>>,
 }
 
 impl<A: Allocator> From<AllocError> for DiscoverError<A> {
@@ -90,6 +98,7 @@ impl<A: Allocator> From<AllocError> for DiscoverError<A> {
         DiscoverError {
             reason: Reason::OutOfMemory,
             subject: None,
+            value: None,
         }
     }
 }
@@ -99,6 +108,7 @@ impl<T: Drop, A: Allocator> From<AllocFailed<T>> for DiscoverError<A> {
         DiscoverError {
             reason: Reason::OutOfMemory,
             subject: None,
+            value: None,
         }
     }
 }
@@ -108,6 +118,7 @@ impl<A: Allocator> From<Reason> for DiscoverError<A> {
         DiscoverError {
             reason,
             subject: None,
+            value: None,
         }
     }
 }
@@ -118,11 +129,30 @@ pub(crate) fn about<A: Allocator>(alloc: A, reason: Reason, subject: &[u8]) -> D
         Ok(subject) => DiscoverError {
             reason,
             subject: Some(subject),
+            value: None,
         },
         Err(_) => DiscoverError {
             reason: Reason::OutOfMemory,
             subject: None,
+            value: None,
         },
+    }
+}
+
+/// Returns the error about the value of a setting.
+pub(crate) fn about_value<A: Allocator + Copy>(
+    alloc: A,
+    reason: Reason,
+    name: &[u8],
+    value: &[u8],
+) -> DiscoverError<A> {
+    match (name.to_vec(alloc), value.to_vec(alloc)) {
+        (Ok(name), Ok(value)) => DiscoverError {
+            reason,
+            subject: Some(name),
+            value: Some(value),
+        },
+        _ => DiscoverError::from(Reason::OutOfMemory),
     }
 }
 
@@ -144,7 +174,14 @@ fn write_bytes<W: fmt::Write>(f: &mut fmt::Formatter<W>, bytes: &[u8]) -> fmt::R
     }
 }
 
-/// Returns the text of a reason, up to its path or setting.
+/// Writes a space, and bytes as text in quotes.
+fn write_quoted<W: fmt::Write>(f: &mut fmt::Formatter<W>, bytes: &[u8]) -> fmt::Result {
+    f.write_str(" '")?;
+    write_bytes(f, bytes)?;
+    f.write_str("'")
+}
+
+/// Returns the text of a reason, up to its value, path or setting.
 fn reason_text(reason: Reason) -> &'static str {
     match reason {
         Reason::NoRepository | Reason::NoRepositoryUpToMount => {
@@ -165,9 +202,12 @@ fn reason_text(reason: Reason) -> &'static str {
         Reason::RefStorage => "unsupported ref storage",
         Reason::BadConfigLine(_) => "bad config line in file",
         Reason::MissingValue => "missing value for",
-        Reason::BadBoolean => "bad boolean config value for",
-        Reason::BadNumber => "bad numeric config value for",
+        Reason::BadBoolean => "bad boolean config value",
+        Reason::BadNumber => "bad numeric config value",
         Reason::BadAbbrev => "abbrev length out of range",
+        Reason::BadValue => "malformed value",
+        Reason::BadReadSetting => "malformed value for",
+        Reason::UnexpandedPath => "failed to expand user dir in:",
         Reason::IncludeDepth => "exceeded maximum include depth (10) at",
         Reason::RelativeInclude => "relative config includes must come from files",
         Reason::UnexpandedInclude => "could not expand include path",
@@ -199,10 +239,12 @@ fn write_number<W: fmt::Write>(f: &mut fmt::Formatter<W>, reason: Reason) -> fmt
 impl<A: Allocator> fmt::Display for DiscoverError<A> {
     fn fmt<W: fmt::Write>(&self, f: &mut fmt::Formatter<W>) -> fmt::Result {
         f.write_str(reason_text(self.reason))?;
+        if let Some(value) = &self.value {
+            write_quoted(f, value)?;
+            f.write_str(" for")?;
+        }
         if let Some(subject) = &self.subject {
-            f.write_str(" '")?;
-            write_bytes(f, subject)?;
-            f.write_str("'")?;
+            write_quoted(f, subject)?;
         }
         write_number(f, self.reason)
     }

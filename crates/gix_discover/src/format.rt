@@ -1,6 +1,6 @@
 //! Reads the format of a repository (gitrepository-layout, "Git Repository Format Versions").
 
-use crate::error::{DiscoverError, Reason, about};
+use crate::error::{DiscoverError, Reason, about, about_value};
 use crate::paths::within;
 use crate::source::read_file;
 use gix_config::{Entry, ParseError, boolean, entries, is_name, number, value_of};
@@ -43,7 +43,7 @@ pub(crate) fn boolean_of<A: Allocator + Copy>(
         None => Ok(true),
         Some(text) => match boolean(text) {
             Some(value) => Ok(value),
-            None => Err(about(alloc, Reason::BadBoolean, name)),
+            None => Err(about_value(alloc, Reason::BadBoolean, name, text)),
         },
     }
 }
@@ -66,9 +66,10 @@ fn version<A: Allocator + Copy>(
     name: &[u8],
     value: Option<&[u8]>,
 ) -> Result<i64, DiscoverError<A>> {
-    match number(needed(alloc, name, value)?) {
+    let text = needed(alloc, name, value)?;
+    match number(text) {
         Some(number) => Ok(number),
-        None => Err(about(alloc, Reason::BadNumber, name)),
+        None => Err(about_value(alloc, Reason::BadNumber, name, text)),
     }
 }
 

@@ -2,7 +2,7 @@
 
 use crate::environment::{Environment, Variable};
 use crate::error::{DiscoverError, Reason, about};
-use crate::head::is_head;
+use crate::head::{is_head, read_link};
 use crate::paths::{resolved, within, without_line_end};
 use crate::places::{PathKind, Places};
 use crate::source::{is_folder, place, read_file, read_front};
@@ -87,22 +87,22 @@ pub(crate) fn common_dir<F: Places, A: Allocator + Copy>(
     })
 }
 
-/// Tells whether a folder has a valid `HEAD`.
+/// Tells whether a folder has a valid `HEAD`: a file, or a symbolic link to a name below `refs/`.
 fn has_head<F: Places, A: Allocator + Copy>(
     alloc: A,
     files: &F,
     path: &[u8],
 ) -> Result<bool, DiscoverError<A>> {
     let head = within(alloc, path, b"HEAD")?;
+    let mut text = Vec::new(alloc);
+    if read_link(alloc, files, &head, &mut text)? {
+        return Ok(text.starts_with(b"refs/"));
+    }
     match place(alloc, files, &head)? {
         Some(place) if place.kind == PathKind::File => {}
         _ => return Ok(false),
     }
-    let mut text = Vec::new(alloc);
-    if !read_front(alloc, files, &head, 256, &mut text)? {
-        return Ok(false);
-    }
-    Ok(is_head(&text))
+    Ok(read_front(alloc, files, &head, 256, &mut text)? && is_head(&text))
 }
 
 /// Tells whether a folder is the git folder of a repository.

@@ -1,12 +1,13 @@
 //! Reads `HEAD` (gitrepository-layout, "HEAD").
 
-use crate::error::DiscoverError;
+use crate::error::{DiscoverError, about};
 use crate::paths::within;
-use crate::source::read_front;
+use crate::source::{read_front, reason_of};
 use gix_base::hash::ObjectId;
 use gix_config::is_blank;
-use gix_odb::files::Folders;
+use gix_odb::files::{FileError, Folders};
 use std::alloc::Allocator;
+use std::io::ErrorKind;
 
 /// How many symbolic refs are followed, as in git.
 const MOST_STEPS: u32 = 5;
@@ -47,6 +48,20 @@ fn is_followed(name: &[u8]) -> bool {
     name.starts_with(b"refs/") && !name.windows(2).any(|two| two == b"..".as_slice())
 }
 
+/// Adds the text of a symbolic link to `text`. Returns `false` if there is no link.
+pub(crate) fn read_link<F: Folders, A: Allocator + Copy>(
+    alloc: A,
+    files: &F,
+    path: &[u8],
+    text: &mut Vec<u8, A>,
+) -> Result<bool, DiscoverError<A>> {
+    match files.link(path, text) {
+        Ok(found) => Ok(found),
+        Err(FileError::Failed(ErrorKind::NotADirectory)) => Ok(false),
+        Err(error) => Err(about(alloc, reason_of(error), path)),
+    }
+}
+
 /// Reads a ref, and puts the name that it leads to into `name`. Returns `false` if it has none.
 fn step<F: Folders, A: Allocator + Copy>(
     alloc: A,
@@ -55,6 +70,12 @@ fn step<F: Folders, A: Allocator + Copy>(
     name: &mut Vec<u8, A>,
 ) -> Result<bool, DiscoverError<A>> {
     let mut text = Vec::new(alloc);
+    if read_link(alloc, files, path, &mut text)? && is_followed(&text) {
+        name.clear();
+        name.extend_from_slice(&text)?;
+        return Ok(true);
+    }
+    text.clear();
     if !read_front(alloc, files, path, MOST_BYTES, &mut text)? {
         return Ok(false);
     }

@@ -13,6 +13,8 @@
 //! opens, too. What git refuses is refused, and each [`Reason`] has a name.
 #![tactic(auto)]
 
+mod checks;
+mod color;
 mod command_line;
 mod environment;
 mod error;

@@ -6,8 +6,9 @@ ghost use Rattle.gix_config.specs.Names.{name_of};
 ghost use Rattle.gix_config.specs.Values.{shown, all_shown, values_of, last_value};
 ghost use Rattle.gix_discover.specs.Settings.{settings_of};
 
-use crate::environment::Environment;
-use crate::error::{DiscoverError, Reason, about};
+use crate::checks::check;
+use crate::environment::{Environment, Variable};
+use crate::error::{DiscoverError, Reason, about, about_value};
 use crate::format::{boolean_of, needed};
 use crate::include::{Known, Reader, Reading};
 use crate::layout::Layout;
@@ -46,6 +47,9 @@ impl<A: Allocator + Copy> Settings<A> {
     /// - `HasConfig` if a condition is `hasconfig:`, which is not supported.
     /// - `BadConfigCount`, `MissingConfigKey`, `MissingConfigValue`, `BadConfigParameters` or
     ///   `BadConfigKey` if git refuses settings from the environment.
+    /// - `MissingValue`, `BadBoolean`, `BadNumber`, `BadAbbrev`, `BadValue` or `UnexpandedPath` if
+    ///   git refuses a value whatever it is asked, as `tru` for `core.fileMode`.
+    /// - `BadReadSetting` if git refuses a value when it first looks for an object.
     /// - `NotUtf8` or `Failed` if a file cannot be read.
     /// - `OutOfMemory` if an allocation failed.
     pub fn read<F: Places>(
@@ -73,9 +77,9 @@ impl<A: Allocator + Copy> Settings<A> {
             )?;
         }
         reader.read_command_line(&mut reading)?;
-        Ok(Settings {
-            entries: reading.into_entries(),
-        })
+        let entries = reading.into_entries();
+        check(alloc, &entries, environment.get(Variable::Home).is_some())?;
+        Ok(Settings { entries })
     }
 
     /// Makes the settings of these entries.
@@ -176,7 +180,7 @@ impl<A: Allocator + Copy> Settings<A> {
         match number(text) {
             Some(digits) if (4..=40).contains(&digits) => Ok(Abbrev::Digits(digits as usize)),
             Some(_) => Err(about(alloc, Reason::BadAbbrev, b"core.abbrev")),
-            None => Err(about(alloc, Reason::BadNumber, b"core.abbrev")),
+            None => Err(about_value(alloc, Reason::BadNumber, b"core.abbrev", text)),
         }
     }
 
