@@ -124,13 +124,11 @@ impl<F: Folders + Drop, A: Allocator + Copy> Repository<F, A> {
         let mut digits = [0u8; 40];
         let written = id.write_hex(count, &mut digits);
         let mut line = digits[..written].to_vec(self.alloc)?;
-        let alloc = self.alloc;
-        let by = self.history.reader.changes.stand_in(id);
-        let object = match self.history.reader.store.read(alloc, by) {
+        let object = match self.read_object(id) {
             Ok(object) => object,
-            // It was there before, or is to stand in for one that was.
-            Err(gix_odb::Error::Missing(_)) => return Err(Refusal::NotSupported),
-            Err(error) => return Err(Refusal::from(error)),
+            // It was there before.
+            Err(Refusal::Object(gix_odb::Error::Missing(_))) => return Err(Refusal::NotSupported),
+            Err(refusal) => return Err(refusal),
         };
         self.push_object(&mut line, id, &object)?;
         Ok((rank(object.kind), line))

@@ -66,17 +66,17 @@ impl<A: Allocator + Copy> Changes<A> {
         }
     }
 
-    /// Returns the object that stands for `id`: itself, or what leads on from it in at most five
-    /// steps, as in git.
-    pub(crate) fn stand_in(&self, id: ObjectId) -> ObjectId {
+    /// Returns the object that stands for `id`: itself, or what leads on from it in at most four
+    /// steps. Returns `None` if there are more. git then fails.
+    pub(crate) fn stand_in(&self, id: ObjectId) -> Option<ObjectId> {
         let mut id = id;
         for _ in 0..5u32 {
             match self.replaced.get(&id) {
                 Some(by) => id = *by,
-                None => return id,
+                None => return Some(id),
             }
         }
-        id
+        None
     }
 }
 
@@ -180,15 +180,17 @@ impl<F: Folders + Drop, A: Allocator + Copy> Commits<F, A> {
     ) -> Result<Read<B>, ReadError>
         ensures { IfOk result (λ read. IsReadOf id (Some read)) }
     {
-        let by = self.changes.stand_in(id);
-        let Some(parents) = self.changes.parents_of(alloc, id)? else {
-            return self.replaced(alloc, id, by);
+        let Some(by) = self.changes.stand_in(id) else {
+            return Err(ReadError::Failed(id));
         };
-        let Read { commit, origin: _ } = self.object(alloc, by)?;
-        Ok(Read::changed(with_parents(commit, parents)))
+        let read = self.replaced(alloc, id, by)?;
+        match self.changes.parents_of(alloc, id)? {
+            Some(parents) => Ok(Read::changed(with_parents(read.commit, parents))),
+            None => Ok(read),
+        }
     }
 
-    /// Reads the commit `by` in the place of `id`.
+    /// Reads the commit `by` in the place of `id`. If it is missing git fails.
     fn replaced<B: Allocator + Copy>(
         &mut self,
         alloc: B,
@@ -200,8 +202,11 @@ impl<F: Folders + Drop, A: Allocator + Copy> Commits<F, A> {
         if by == id {
             return self.object(alloc, id);
         }
-        let Read { commit, origin: _ } = self.object(alloc, by)?;
-        Ok(Read::changed(commit))
+        match self.object(alloc, by) {
+            Ok(Read { commit, origin: _ }) => Ok(Read::changed(commit)),
+            Err(ReadError::Missing(_)) => Err(ReadError::Failed(id)),
+            Err(error) => Err(error),
+        }
     }
 }
 

@@ -10,6 +10,9 @@ use std::alloc::Allocator;
 /// How many digits an abbreviated object name has at least, if the setting says nothing.
 const LEAST_BY_DEFAULT: usize = 7;
 
+/// How many digits two objects may share. git does not tell them apart if they share more.
+const MOST_SHARED: usize = 31;
+
 /// Returns how many digits git takes for this many objects in packs: half as many as the number of
 /// objects has bits, rounded up, so that two objects seldom share them.
 fn digits_for(objects: u64) -> usize {
@@ -59,11 +62,15 @@ impl<F: Folders + Drop, A: Allocator + Copy> Repository<F, A> {
     /// # Errors
     ///
     /// - `Object` if an index or a folder was not read.
+    /// - `NotSupported` if another object shares more than 31 digits.
     /// - `OutOfMemory` if an allocation failed.
     pub fn unique_digits(&mut self, id: ObjectId, least: usize) -> Result<usize, Refusal> {
         for digits in least.clamp(Prefix::MIN_HEX_LEN, 40)..40 {
             if !self.is_shared(id, digits)? {
                 return Ok(digits);
+            }
+            if digits > MOST_SHARED {
+                return Err(Refusal::NotSupported);
             }
         }
         Ok(40)

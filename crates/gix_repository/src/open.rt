@@ -16,6 +16,9 @@ use gix_revision::date::Time;
 use gix_revision::hash::ObjectId;
 use std::alloc::{AllocError, AllocFailed, Allocator, Global};
 
+/// The id with zeros only, which no object has.
+const ZEROS: ObjectId = ObjectId([0u8; 20]);
+
 /// Which files are believed.
 #[derive(Clone, Copy, Debug, PartialEq, Eq)]
 pub enum Mode {
@@ -145,17 +148,30 @@ impl<A: Allocator + Copy> Changes<A> {
         Ok(())
     }
 
+    /// Puts an object in the place of the one that the name of a reference says.
+    ///
+    /// A name that is not 40 digits says none.
+    fn add_named(&mut self, digits: Option<&[u8]>, by: ObjectId) -> Result<(), AllocError> {
+        match ObjectId::from_hex(digits.unwrap_or(&[])) {
+            Ok(id) => self.replace(id, by),
+            Err(_) => Ok(()),
+        }
+    }
+
     /// Puts objects in the place of others, as the references below `base` say (git-replace).
+    ///
+    /// A broken reference replaces an object by none, so that the object is not read, as in git.
     fn add_replaced<F: Folders + Drop>(
         &mut self,
         references: &mut References<F, A>,
         base: &[u8],
     ) -> Result<(), OpenError<A>> {
-        for listed in references.all(base)?.references.iter() {
-            let digits = listed.name.get(base.len()..).unwrap_or(&[]);
-            if let Ok(id) = ObjectId::from_hex(digits) {
-                self.replace(id, listed.id)?;
-            }
+        let listing = references.all(base)?;
+        for listed in listing.references.iter() {
+            self.add_named(listed.name.get(base.len()..), listed.id)?;
+        }
+        for skipped in listing.skipped.iter() {
+            self.add_named(skipped.name.get(base.len()..), ZEROS)?;
         }
         Ok(())
     }

@@ -17,12 +17,30 @@ fn tree_line(content: &[u8]) -> Option<ObjectId> {
     ObjectId::from_hex(rest.get(..40)?).ok()
 }
 
+/// Returns why the object `by` was not read, which stands for `id`.
+fn not_read(id: ObjectId, by: ObjectId, error: gix_odb::Error) -> Refusal {
+    match error {
+        // git fails if the object in place of another one is missing.
+        gix_odb::Error::Missing(_) if by != id => Refusal::NotSupported,
+        error => Refusal::from(error),
+    }
+}
+
 impl<F: Folders + Drop, A: Allocator + Copy> Repository<F, A> {
+    /// Returns the object that stands for `id`.
+    fn stand_in(&self, id: ObjectId) -> Result<ObjectId, Refusal> {
+        match self.history.reader.changes.stand_in(id) {
+            Some(by) => Ok(by),
+            None => Err(Refusal::NotSupported),
+        }
+    }
+
     /// Returns the kind of an object, of the one that stands for it if it is replaced.
     ///
     /// # Errors
     ///
     /// - `Object` if the object was not read.
+    /// - `NotSupported` if it is replaced by an object that is missing, or too many times in turn.
     /// - `OutOfMemory` if an allocation failed.
     pub fn kind(&mut self, id: ObjectId) -> Result<Kind, Refusal> {
         // A commit that was read is one.
@@ -30,8 +48,11 @@ impl<F: Folders + Drop, A: Allocator + Copy> Repository<F, A> {
             return Ok(Kind::Commit);
         }
         let alloc = self.alloc;
-        let id = self.history.reader.changes.stand_in(id);
-        Ok(self.history.reader.store.kind(alloc, id)?)
+        let by = self.stand_in(id)?;
+        match self.history.reader.store.kind(alloc, by) {
+            Ok(kind) => Ok(kind),
+            Err(error) => Err(not_read(id, by, error)),
+        }
     }
 
     /// Returns whether the commit-graph has the commit `id`, and the object database has an object
@@ -49,16 +70,34 @@ impl<F: Folders + Drop, A: Allocator + Copy> Repository<F, A> {
         Ok(self.history.reader.store.has(alloc, id)?)
     }
 
+    /// Returns whether the commit-graph has the commit `id`, but the object database has no object
+    /// with this id. git then takes the commit in some questions, and in others not.
+    ///
+    /// # Errors
+    ///
+    /// Those of [`Repository::is_in_graph`].
+    pub fn is_lost(&mut self, id: ObjectId) -> Result<bool, Refusal> {
+        let alloc = self.alloc;
+        if !self.history.reader.has_row(id)? {
+            return Ok(false);
+        }
+        Ok(!self.history.reader.store.has(alloc, id)?)
+    }
+
     /// Returns what an annotated tag says.
     ///
     /// # Errors
     ///
     /// - `Object` if the tag was not read, or if the object is no tag.
+    /// - `NotSupported` as for [`Repository::kind`].
     /// - `OutOfMemory` if an allocation failed.
     pub fn tag(&mut self, id: ObjectId) -> Result<Tag<A>, Refusal> {
         let alloc = self.alloc;
-        let id = self.history.reader.changes.stand_in(id);
-        Ok(self.history.reader.store.tag(alloc, id)?)
+        let by = self.stand_in(id)?;
+        match self.history.reader.store.tag(alloc, by) {
+            Ok(tag) => Ok(tag),
+            Err(error) => Err(not_read(id, by, error)),
+        }
     }
 
     /// Returns an object, or the one that stands for it if it is replaced.
@@ -66,11 +105,15 @@ impl<F: Folders + Drop, A: Allocator + Copy> Repository<F, A> {
     /// # Errors
     ///
     /// - `Object` if the object was not read.
+    /// - `NotSupported` as for [`Repository::kind`].
     /// - `OutOfMemory` if an allocation failed.
     pub fn read_object(&mut self, id: ObjectId) -> Result<Object<A>, Refusal> {
         let alloc = self.alloc;
-        let id = self.history.reader.changes.stand_in(id);
-        Ok(self.history.reader.store.read(alloc, id)?)
+        let by = self.stand_in(id)?;
+        match self.history.reader.store.read(alloc, by) {
+            Ok(object) => Ok(object),
+            Err(error) => Err(not_read(id, by, error)),
+        }
     }
 
     /// Returns the tree of a commit.

@@ -226,6 +226,12 @@ impl<F: Folders + Drop, A: Allocator + Copy> Repository<F, A> {
             .is_some()
     }
 
+    /// Returns whether commits are changed: by grafts, by replace references, or since the history
+    /// is shallow.
+    pub fn is_changed(&self) -> bool {
+        !self.history.reader.changes.is_empty()
+    }
+
     /// Returns the parents and the date of a commit, and reads it if need be.
     ///
     /// # Errors

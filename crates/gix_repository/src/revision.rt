@@ -45,6 +45,23 @@ fn marked(text: &[u8]) -> &[u8] {
     }
 }
 
+/// Tests whether a text ends with a mark such as `@{4294967297}`, of a number that does not fit 31
+/// bits. git then counts modulo 2^32.
+fn is_too_great(marked: &[u8]) -> bool {
+    let Some(at) = marked.iter().rposition(|b| *b == b'{') else {
+        return false;
+    };
+    let mark = marked.get(at.saturating_add(1)..).unwrap_or(&[]);
+    let digits = mark.strip_suffix(b"}").unwrap_or(&[]);
+    let Some(zeros) = digits.iter().position(|b| *b != b'0') else {
+        return false;
+    };
+    let number = digits.get(zeros..).unwrap_or(&[]);
+    let most = b"2147483647".as_slice();
+    number.iter().all(|b| b.is_ascii_digit())
+        && (number.len() > most.len() || (number.len() == most.len() && number > most))
+}
+
 /// Tests whether a further rule reads the name of a reference, too.
 fn is_ambiguous<A: Allocator>(named: &Named<A>) -> bool {
     match &named.reference {
@@ -139,6 +156,9 @@ impl<'r, 't, F: Folders + Drop, A: Allocator + Copy> Lookup<'r, 't, F, A> {
 
     /// Returns the object that an entry of the reflog names.
     fn logged(&mut self, query: ReflogLookup) -> Result<ObjectId, Refusal> {
+        if is_too_great(marked(self.text)) {
+            return Err(Refusal::NotSupported);
+        }
         let name = self.name.take();
         match name {
             Some(name) => self.repository.logged(&name, query),

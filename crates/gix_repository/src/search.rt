@@ -60,9 +60,7 @@ impl<F: Folders + Drop, A: Allocator + Copy> Repository<F, A> {
 
     /// Returns whether the message of a commit contains a text.
     fn says(&mut self, id: ObjectId, text: &[u8]) -> Result<bool, Refusal> {
-        let alloc = self.alloc;
-        let by = self.history.reader.changes.stand_in(id);
-        let object = self.history.reader.store.read(alloc, by)?;
+        let object = self.read_object(id)?;
         Ok(contains(message_of(&object.content), text))
     }
 
