@@ -1,3 +1,4 @@
+pub mod Behind
 pub mod Next
 pub mod Places
 pub mod Texts

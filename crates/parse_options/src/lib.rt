@@ -3,6 +3,7 @@
 //! - [`Choice`] describes an option. A table of them says what a command takes.
 //! - [`Reader`] reads the words of a command line, one option or argument after another.
 //! - [`option_named`] returns the option that a long name means, which may be cut.
+//! - [`exact_option`] returns the option that a word is, by a table of exact names ([`Exact`]).
 //!
 //! Options may be behind arguments, up to `--` or `--end-of-options`. Short options may be joined,
 //! and a value may be joined to a short option: `-n3`.
@@ -10,6 +11,7 @@
 
 mod choice;
 mod error;
+mod exact;
 mod named;
 mod reader;
 mod sorts;
@@ -17,5 +19,6 @@ mod text;
 
 pub use choice::{Choice, Given, Item, Value};
 pub use error::Error;
+pub use exact::{Exact, Holds, Takes, exact_option};
 pub use named::{Meant, option_named};
 pub use reader::Reader;
