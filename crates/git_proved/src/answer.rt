@@ -33,7 +33,7 @@ fn ask(session: &mut Session<'_>, word: &[u8], words: &[&[u8]]) -> Result<u8, St
     } else if word == b"for-each-ref".as_slice() {
         for_each_ref(session, words)
     } else {
-        Err(not_read(session.alloc, &[b"the word '", word, b"' is not read"]))
+        Err(not_read(session.alloc, &[b"the word '", word, b"' is not supported"]))
     }
 }
 

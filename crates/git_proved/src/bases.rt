@@ -56,7 +56,7 @@ fn has_equals(dated: &[Dated]) -> bool {
 fn unordered(alloc: Global) -> Stop {
     not_read(
         alloc,
-        &[b"the order of merge bases with one date is not read"],
+        &[b"the order of merge bases with one date is not supported"],
     )
 }
 

@@ -58,10 +58,13 @@ fn refuse(session: &Session<'_>, asked: &Asked<'_>) -> Result<(), Stop> {
         ));
     }
     if asked.contains || asked.debug {
-        return Err(not_read(alloc, &[b"describe --contains and --debug are not read"]));
+        return Err(not_read(
+            alloc,
+            &[b"describe --contains and --debug are not supported"],
+        ));
     }
     if asked.texts.is_empty() && asked.broken {
-        return Err(not_read(alloc, &[b"describe --broken is not read"]));
+        return Err(not_read(alloc, &[b"describe --broken is not supported"]));
     }
     refuse_odd(alloc, &asked.matched)?;
     refuse_odd(alloc, &asked.excluded)
@@ -126,7 +129,7 @@ fn described(session: &mut Session<'_>, text: &[u8]) -> Result<(ObjectId, Object
         return Ok((id, commit));
     }
     match session.repository.kind(id) {
-        Ok(Kind::Blob) => Err(not_read(alloc, &[b"describe does not read a blob"])),
+        Ok(Kind::Blob) => Err(not_read(alloc, &[b"describe of a blob is not supported"])),
         Ok(_) | Err(Refusal::Object(gix_odb::Error::Missing(_))) => {
             Err(fatal(alloc, &[text, b" is neither a commit nor blob"]))
         }
@@ -166,7 +169,10 @@ impl<'w> Describer<'w> {
             Some(path)
         };
         let Some(own) = own else {
-            return Err(not_read(session.alloc, &[b"a tag outside of refs/tags/ is not read"]));
+            return Err(not_read(
+                session.alloc,
+                &[b"a tag outside of refs/tags/ is not supported"],
+            ));
         };
         let is_misnamed = own != said.as_slice();
         if self.asked.all {
@@ -219,6 +225,15 @@ impl<'w> Describer<'w> {
         Ok(())
     }
 
+    /// Returns the name of an ancestor. git passes over one of which only the commit-graph has the
+    /// commit.
+    fn kept_name(&self, session: &mut Session<'_>, commit: ObjectId) -> Result<Name, Stop> {
+        match self.table.name_of(commit) {
+            Some(name) if !session.repository.is_lost(commit)? => Ok(name),
+            _ => Err(not_read(session.alloc, &[b"a commit that has a name is missing"])),
+        }
+    }
+
     /// Prints the name of an ancestor.
     fn print_near(
         &mut self,
@@ -226,9 +241,7 @@ impl<'w> Describer<'w> {
         commit: ObjectId,
         near: Candidate,
     ) -> Result<(), Stop> {
-        let Some(name) = self.table.name_of(near.id) else {
-            return Err(not_read(session.alloc, &[b"a name is lost"]));
-        };
+        let name = self.kept_name(session, near.id)?;
         let printed = self.print_name(session, &name)?;
         if printed.is_misnamed || self.asked.abbrev != Abbrev::Nothing {
             print_suffix(session, self.asked.abbrev, near.depth, commit)?;

@@ -207,6 +207,9 @@ fn logged_ids(session: &mut Session<'_>, reference: &[u8]) -> Result<Vec<ObjectI
 fn commits_among(session: &mut Session<'_>, ids: &[ObjectId]) -> Result<Vec<ObjectId>, Stop> {
     let mut commits = Vec::new(session.alloc);
     for id in ids {
+        if session.repository.is_lost(*id)? {
+            return Err(Stop::from(Refusal::NotSupported));
+        }
         if commit_of(session, *id)? == Some(*id) {
             commits.push(*id)?;
         }
@@ -244,10 +247,10 @@ fn fork_point(session: &mut Session<'_>, asked: &Asked<'_>) -> Result<u8, Stop> 
     let Some(id) = revision(session, text)? else {
         return Err(fatal(session.alloc, &[b"Not a valid object name: '", text, b"'"]));
     };
+    let logged = logged_commits(session, reference)?;
     let Some(first) = commit_of(session, id)? else {
         return Ok(1);
     };
-    let logged = logged_commits(session, reference)?;
     let bases = merge_bases(session, first, &logged)?;
     let [base] = bases.as_slice() else {
         return Ok(1);

@@ -7,9 +7,12 @@ use std::alloc::Global;
 /// Returns the end for an option that is not read.
 fn unread(alloc: Global, error: Error<'_>) -> Stop {
     match error {
-        Error::Unread(text) => not_read(alloc, &[b"option `", text, b"' is not read"]),
+        Error::Unread(text) => not_read(alloc, &[b"option `", text, b"' is not supported"]),
         Error::BadValue(text) => {
-            not_read(alloc, &[b"the value of option `", text, b"' is not read"])
+            not_read(
+                alloc,
+                &[b"the value of option `", text, b"' is not supported"],
+            )
         }
     }
 }

@@ -37,7 +37,7 @@ fn is_path(session: &Session<'_>, path: &[u8]) -> Result<bool, Stop> {
     match session.files.link_place(path) {
         Ok(found) => Ok(found.is_some()),
         Err(FileError::OutOfMemory) => Err(Stop::OutOfMemory),
-        Err(_) => Err(not_read(session.alloc, &[b"the path '", path, b"' is not read"])),
+        Err(_) => Err(not_read(session.alloc, &[b"the path '", path, b"' is not supported"])),
     }
 }
 
@@ -131,7 +131,7 @@ fn no_path(alloc: Global, word: &[u8]) -> Stop {
     let front = before_path(word);
     if !front.is_empty() && front.len() < word.len() {
         // It may be a path in a tree. git has printed the words up to it.
-        return not_read(alloc, &[b"the path '", word, b"' is not read"]);
+        return not_read(alloc, &[b"the path '", word, b"' is not supported"]);
     }
     fatal(
         alloc,

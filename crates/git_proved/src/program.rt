@@ -108,16 +108,16 @@ fn told(alloc: Global, error: &DiscoverError) -> Stop {
 fn unopened(alloc: Global, error: &OpenError) -> Stop {
     match error {
         OpenError::Discover(error) => undiscovered(alloc, error),
-        OpenError::Object(_) => not_read(alloc, &[b"the object database is not read"]),
-        OpenError::Reference(_) => not_read(alloc, &[b"the references are not read"]),
+        OpenError::Object(_) => not_read(alloc, &[b"the object database cannot be read"]),
+        OpenError::Reference(_) => not_read(alloc, &[b"the references cannot be read"]),
         OpenError::Changes => not_read(
             alloc,
-            &[b"the file 'shallow' or 'info/grafts' is not read"],
+            &[b"the file 'shallow' or 'info/grafts' cannot be read"],
         ),
         OpenError::IsChanged => not_read(
             alloc,
             &[
-                b"--authentic does not read a repository that is shallow, or has grafts or replacements",
+                b"--authentic does not support a repository that is shallow, or has grafts or replacements",
             ],
         ),
         OpenError::OutOfMemory => Stop::OutOfMemory,
@@ -143,7 +143,7 @@ fn read_input<I: BufRead>(alloc: Global, input: &mut I) -> Result<Vec<u8>, Stop>
     match input.read_to_end(&mut bytes) {
         Ok(_) => Ok(bytes),
         Err(error) if error.kind() == ErrorKind::OutOfMemory => Err(Stop::OutOfMemory),
-        Err(_) => Err(not_read(alloc, &[b"standard input is not read"])),
+        Err(_) => Err(not_read(alloc, &[b"standard input cannot be read"])),
     }
 }
 
@@ -176,7 +176,7 @@ fn finish_end<I: BufRead, O: Write, E: Write>(
 /// answered, and for one whose help is asked for.
 fn unread(alloc: Global, word: &[u8], words: &[&[u8]]) -> Option<Stop> {
     if !WORDS.iter().any(|known| known.as_bytes() == word) {
-        return Some(not_read(alloc, &[b"the word '", word, b"' is not read"]));
+        return Some(not_read(alloc, &[b"the word '", word, b"' is not supported"]));
     }
     let wants_help = match words.split_first() {
         Some((first, rest)) => {
@@ -185,9 +185,28 @@ fn unread(alloc: Global, word: &[u8], words: &[&[u8]]) -> Option<Stop> {
         None => false,
     };
     if wants_help {
-        Some(not_read(alloc, &[b"the help of git is not read; `git proved -h` is"]))
+        Some(not_read(
+            alloc,
+            &[b"the help of git is not supported; ask `git proved -h`"],
+        ))
     } else {
         None
+    }
+}
+
+/// Answers a word about a repository, and returns the status.
+fn serve<I: BufRead, O: Write, E: Write>(
+    session: &mut Session<'_>,
+    word: &[u8],
+    words: &[&[u8]],
+    streams: &mut Streams<'_, I, O, E>,
+) -> u8 {
+    if word == b"batch".as_slice() {
+        return batch(session, words, streams);
+    }
+    match answered(session, word, words, streams.input) {
+        Ok(finished) => streams.finish(finished.status, &finished.output, &finished.errors),
+        Err(stop) => finish_end(session.alloc, &stop, streams),
     }
 }
 
@@ -215,15 +234,8 @@ pub fn run<'s, I: BufRead, O: Write, E: Write>(
     if let Some(stop) = unread(alloc, word, words) {
         return finish_end(alloc, &stop, streams);
     }
-    let mut session = match open(alloc, files, environment, opening) {
-        Ok(session) => session,
-        Err(stop) => return finish_end(alloc, &stop, streams),
-    };
-    if word == b"batch".as_slice() {
-        return batch(&mut session, words, streams);
-    }
-    match answered(&mut session, word, words, streams.input) {
-        Ok(finished) => streams.finish(finished.status, &finished.output, &finished.errors),
+    match open(alloc, files, environment, opening) {
+        Ok(mut session) => serve(&mut session, word, words, streams),
         Err(stop) => finish_end(alloc, &stop, streams),
     }
 }

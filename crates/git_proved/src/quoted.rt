@@ -116,7 +116,7 @@ pub(crate) fn split_words(alloc: Global, line: &[u8]) -> Result<Vec<Vec<u8>>, St
         splitter.read(*byte)?;
     }
     if splitter.is_escaped || splitter.quotes != Quotes::Outside {
-        return Err(not_read(alloc, &[b"a line with an open quote is not read"]));
+        return Err(not_read(alloc, &[b"a line has an open quote"]));
     }
     splitter.end_word()?;
     Ok(splitter.words)

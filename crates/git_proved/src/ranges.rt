@@ -111,7 +111,7 @@ fn parent_number(alloc: Global, text: &[u8]) -> Result<Option<usize>, Stop> {
             .first()
             .is_some_and(|b| b.is_ascii_whitespace() || *b == 11);
     if is_odd || text.len() > 9 {
-        return Err(not_read(alloc, &[b"the number '", text, b"' is not read"]));
+        return Err(not_read(alloc, &[b"the number '", text, b"' is not supported"]));
     }
     let number = match str::from_utf8(text) {
         Ok(text) => text.parse::<usize>().ok(),
@@ -165,7 +165,7 @@ fn existing(session: &mut Session<'_>, id: ObjectId) -> Result<Option<ObjectId>,
 /// Ends if git may read as a date what names nothing.
 fn unless_date(alloc: Global, text: &[u8]) -> Result<(), Stop> {
     if may_be_date(text) {
-        return Err(not_read(alloc, &[b"the date in '", text, b"' is not read"]));
+        return Err(not_read(alloc, &[b"the date in '", text, b"' is not supported"]));
     }
     Ok(())
 }
@@ -234,7 +234,7 @@ fn is_nothing(session: &Session<'_>, text: &[u8]) -> Result<bool, Stop> {
         return Ok(false);
     }
     if text.starts_with(b":") {
-        return Err(not_read(alloc, &[b"the path '", text, b"' is not read"]));
+        return Err(not_read(alloc, &[b"the path '", text, b"' is not supported"]));
     }
     match form_of(before_path(text)) {
         Form::Usual => Ok(false),
@@ -243,7 +243,7 @@ fn is_nothing(session: &Session<'_>, text: &[u8]) -> Result<bool, Stop> {
             Ok(true)
         }
         Form::NoBranch(name) => Err(fatal(alloc, &[b"no such branch: '", name, b"'"])),
-        Form::Odd => Err(not_read(alloc, &[b"'", text, b"' is not read"])),
+        Form::Odd => Err(not_read(alloc, &[b"'", text, b"' is not supported"])),
     }
 }
 

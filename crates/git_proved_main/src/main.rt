@@ -102,7 +102,7 @@ fn not_entered(rt: &HostRuntime, folder: &[u8], error: io::Error) -> Result<Faul
 /// Goes to a folder of `-C`.
 fn enter(rt: &HostRuntime, folder: &[u8]) -> Result<(), Fault> {
     let Ok(path) = str::from_utf8(folder) else {
-        return Err(Fault::NotRead(b"a path that is not UTF-8 is not read"));
+        return Err(Fault::NotRead(b"a path that is not UTF-8 is not supported"));
     };
     match rt.set_current_dir(path) {
         Ok(()) => Ok(()),
@@ -121,7 +121,7 @@ fn enter_all(rt: &HostRuntime, folders: &[&[u8]]) -> Result<(), Fault> {
 /// Reads the environment, with what the options before the word say.
 fn environment(rt: &HostRuntime, front: &Front<'_>) -> Result<Environment, Fault> {
     let Ok(mut environment) = Environment::read(rt.alloc(), rt) else {
-        return Err(Fault::NotRead(b"the current folder or the environment is not read"));
+        return Err(Fault::NotRead(b"the current folder or the environment cannot be read"));
     };
     if let Some(folder) = front.git_dir {
         environment.set(rt.alloc(), Variable::GitDir, folder)?;
@@ -130,7 +130,7 @@ fn environment(rt: &HostRuntime, front: &Front<'_>) -> Result<Environment, Fault
         environment.set(rt.alloc(), Variable::WorkTree, folder)?;
     }
     if environment.get(Variable::WorkTree) == Some(b"".as_slice()) {
-        return Err(Fault::NotRead(b"a work tree without a name is not read"));
+        return Err(Fault::NotRead(b"a work tree without a name is not supported"));
     }
     Ok(environment)
 }
@@ -147,7 +147,7 @@ fn seed(rt: &HostRuntime) -> Seed {
 /// Returns the current time. Of a clock that is set to a time before 1970 it is 1970.
 fn now(rt: &HostRuntime) -> Result<Time, Fault> {
     let Ok(time) = SystemTime::now(rt) else {
-        return Err(Fault::NotRead(b"the clock is not read"));
+        return Err(Fault::NotRead(b"the clock cannot be read"));
     };
     let seconds = match time.duration_since(SystemTime::UNIX_EPOCH) {
         Ok(since) => since.as_secs().cast_signed(),
@@ -203,7 +203,7 @@ fn answer(rt: &HostRuntime, words: &[Vec<u8>]) -> Result<u8, Fault> {
         Asked::Help => Ok(print_text(&mut rt.stdout(), HELP)),
         Asked::Version => Ok(print_text(&mut rt.stdout(), VERSION)),
         Asked::Nothing => Err(Fault::NotRead(b"a word is wanted; -h prints the help")),
-        Asked::Unread(_) => Err(Fault::NotRead(b"an option before the word is not read")),
+        Asked::Unread(_) => Err(Fault::NotRead(b"an option before the word is not supported")),
     }
 }
 

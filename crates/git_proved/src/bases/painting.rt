@@ -89,7 +89,7 @@ fn date_of(session: &mut Session<'_>, id: ObjectId) -> Result<i64, Stop> {
     if entry.generation.is_some() {
         return Err(not_read(
             session.alloc,
-            &[b"the order of merge bases with one date is not read"],
+            &[b"the order of merge bases with one date is not supported"],
         ));
     }
     Ok(entry.time)

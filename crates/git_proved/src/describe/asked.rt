@@ -172,7 +172,10 @@ pub(crate) struct Asked<'w> {
 
 /// Returns the end for a value that is no number.
 fn no_number(alloc: Global) -> Stop {
-    not_read(alloc, &[b"the number of an option of describe is not read"])
+    not_read(
+        alloc,
+        &[b"the number of an option of describe is not supported"],
+    )
 }
 
 /// Returns what `--abbrev` asks for.

@@ -12,6 +12,7 @@ use gix_index::{
 };
 use gix_odb::System;
 use gix_odb::files::FileError;
+use gix_revision::hash::ObjectId;
 
 /// Returns the end for what only git decides about a path.
 fn undecided(session: &Session<'_>, path: &[u8]) -> Stop {
@@ -30,7 +31,7 @@ fn looked<T: Drop>(
     match found {
         Ok(found) => Ok(found),
         Err(FileError::OutOfMemory) => Err(Stop::OutOfMemory),
-        Err(_) => Err(not_read(session.alloc, &[b"the file '", path, b"' is not read"])),
+        Err(_) => Err(not_read(session.alloc, &[b"the file '", path, b"' cannot be read"])),
     }
 }
 
@@ -87,6 +88,35 @@ fn look_all<'i>(
     Ok(looked)
 }
 
+/// Compares all entries of the index with the files of the working tree in a folder.
+fn look_at_tree<'i>(
+    session: &mut Session<'_>,
+    index: &'i Index,
+    top: &[u8],
+    written: u32,
+) -> Result<Vec<Looked<'i>>, Stop> {
+    let (mut tree, is_sparse) = open_tree(session, top, written)?;
+    note_attributes(session, index, &mut tree)?;
+    look_all(session, index, &mut tree, is_sparse)
+}
+
+/// Returns whether the files of a tree differ from those of the working tree, as `looked` says them.
+fn differs(
+    session: &mut Session<'_>,
+    index: &Index,
+    looked: &[Looked<'_>],
+    head: ObjectId,
+) -> Result<bool, Stop> {
+    let files = files_of(session, head)?;
+    if !are_sorted(&index.entries, &files) {
+        return Err(not_read(session.alloc, &[b"an index or a tree is not sorted"]));
+    }
+    match first_difference(looked, &files) {
+        Some(difference) => counts(session, difference),
+        None => Ok(false),
+    }
+}
+
 /// Returns whether a difference counts. Settings say whether that of a submodule does.
 fn counts(session: &Session<'_>, difference: Difference<'_>) -> Result<bool, Stop> {
     match FileKind::of(difference.mode) {
@@ -106,18 +136,9 @@ pub(crate) fn is_dirty(session: &mut Session<'_>) -> Result<bool, Stop> {
     let top = top_of(session)?;
     let (index, written) = read_index(session, &top)?;
     let head = head_tree(session)?;
-    let (mut tree, is_sparse) = open_tree(session, &top, written)?;
-    note_attributes(session, &index, &mut tree)?;
-    let looked = look_all(session, &index, &mut tree, is_sparse)?;
+    let looked = look_at_tree(session, &index, &top, written)?;
     if index.root == Some(head) && index.is_merged() {
         return Ok(looked.iter().any(|one| one.look != Look::Kept));
     }
-    let files = files_of(session, head)?;
-    if !are_sorted(&index.entries, &files) {
-        return Err(not_read(session.alloc, &[b"an index or a tree is not sorted"]));
-    }
-    match first_difference(&looked, &files) {
-        Some(difference) => counts(session, difference),
-        None => Ok(false),
-    }
+    differs(session, &index, &looked, head)
 }

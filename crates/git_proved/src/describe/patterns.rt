@@ -55,7 +55,7 @@ fn is_plain(pattern: &[u8]) -> bool {
 pub(crate) fn refuse_odd(alloc: Global, patterns: &[&[u8]]) -> Result<(), Stop> {
     for pattern in patterns {
         if !is_plain(pattern) {
-            return Err(not_read(alloc, &[b"the pattern '", pattern, b"' is not read"]));
+            return Err(not_read(alloc, &[b"the pattern '", pattern, b"' is not supported"]));
         }
     }
     Ok(())

@@ -145,7 +145,7 @@ impl Walk {
             return Ok(None);
         };
         if time == i64::MAX && self.waiting.next_time() == Some(i64::MAX) {
-            return Err(not_read(self.alloc, &[b"dates before 1970 are not read"]));
+            return Err(not_read(self.alloc, &[b"dates before 1970 are not supported"]));
         }
         if let Some(met) = self.met.get_mut(place) {
             met.is_waiting = false;

@@ -14,7 +14,7 @@ use std::io::Write;
 fn unread(session: &Session<'_>, path: &[u8], error: FileError) -> Stop {
     match error {
         FileError::OutOfMemory => Stop::OutOfMemory,
-        _ => not_read(session.alloc, &[b"the file '", path, b"' is not read"]),
+        _ => not_read(session.alloc, &[b"the file '", path, b"' cannot be read"]),
     }
 }
 
@@ -73,7 +73,10 @@ pub(crate) fn read_index(session: &Session<'_>, top: &[u8]) -> Result<(Index, u3
         Err(error) => return Err(unread(session, &path, error)),
     };
     if FileKind::of(status.mode) != FileKind::File {
-        return Err(not_read(alloc, &[b"an index that is a symbolic link is not read"]));
+        return Err(not_read(
+            alloc,
+            &[b"an index that is a symbolic link is not supported"],
+        ));
     }
     let mut bytes = Vec::new(alloc);
     if let Err(error) = read_file(&session.files, &path, &mut bytes) {
@@ -90,7 +93,10 @@ fn setting(session: &Session<'_>, key: &[u8], usual: bool) -> Result<bool, Stop>
     let settings = session.repository.settings();
     match settings.boolean(session.alloc, b"core", None, key, usual) {
         Ok(value) => Ok(value),
-        Err(_) => Err(not_read(session.alloc, &[b"the setting core.", key, b" is not read"])),
+        Err(_) => Err(not_read(
+            session.alloc,
+            &[b"the setting core.", key, b" is not supported"],
+        )),
     }
 }
 
@@ -111,7 +117,10 @@ fn checks(session: &Session<'_>) -> Result<Checks, Stop> {
         .value(b"core", None, b"checkstat")
         .is_some();
     if is_set && !is_minimal && !has_value(session, b"checkstat", b"default") {
-        return Err(not_read(session.alloc, &[b"the setting core.checkStat is not read"]));
+        return Err(not_read(
+            session.alloc,
+            &[b"the setting core.checkStat is not supported"],
+        ));
     }
     Ok(Checks {
         mode: setting(session, b"filemode", true)?,
@@ -174,7 +183,7 @@ pub(crate) fn open_tree<'s>(
     let alloc = session.alloc;
     // A monitor of the file system says which files git looks at.
     if setting(session, b"fsmonitor", false)? {
-        return Err(not_read(alloc, &[b"the setting core.fsmonitor is not read"]));
+        return Err(not_read(alloc, &[b"the setting core.fsmonitor is not supported"]));
     }
     let checks = checks(session)?;
     let has_links = setting(session, b"symlinks", true)?;

@@ -43,7 +43,7 @@ pub(crate) fn boundary_of(
     if wishes.is_first_parent || (wishes.counts && wishes.has_sides) {
         return Err(not_read(
             session.alloc,
-            &[b"--boundary is not read with --first-parent, or where sides are counted"],
+            &[b"--boundary is not supported with --first-parent, or where sides are counted"],
         ));
     }
     let behind = parents_behind(session, ids)?;

@@ -3,7 +3,7 @@
 use crate::rev_list::boundary::boundary_of;
 use crate::rev_list::lists::{left_side, listed, on_both_sides};
 use crate::rev_list::starts::Ends;
-use crate::rev_list::wishes::Wishes;
+use crate::rev_list::wishes::{Order, Wishes};
 use crate::session::Session;
 use crate::stop::Stop;
 use gix_history::questions::{AheadBehind, CountReachable};
@@ -76,9 +76,16 @@ fn listed_sides(
     Ok((lefts, ids.len().saturating_sub(lefts)))
 }
 
+/// Returns whether all commits are counted that are reachable.
+///
+/// If a graft makes a circle, git has no topological order of it, and lists none of its commits.
+fn counts_all(session: &Session<'_>, wishes: &Wishes) -> bool {
+    wishes.wants_all() && (wishes.order == Order::Met || !session.repository.is_changed())
+}
+
 /// Prints how many commits there are of each side.
 fn print_sides(session: &mut Session<'_>, wishes: &Wishes, ends: &Ends) -> Result<(), Stop> {
-    let (lefts, rights) = if wishes.wants_all() {
+    let (lefts, rights) = if counts_all(session, wishes) {
         whole_sides(session, ends)?
     } else {
         listed_sides(session, wishes, ends)?
@@ -106,7 +113,7 @@ pub(crate) fn print_count(
     if wishes.has_sides {
         return print_sides(session, wishes, ends);
     }
-    let count = if wishes.wants_all() {
+    let count = if counts_all(session, wishes) {
         count_reachable(session, &ends.included, &ends.excluded)?
     } else {
         count_listed(session, wishes, ends)?

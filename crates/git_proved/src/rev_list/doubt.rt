@@ -72,7 +72,7 @@ pub(crate) fn refuse_doubt(
     } else {
         Err(not_read(
             session.alloc,
-            &[b"--first-parent is not read where commits have one date"],
+            &[b"--first-parent is not supported where commits have one date"],
         ))
     }
 }

@@ -20,7 +20,7 @@ pub(crate) fn no_revision(session: &Session<'_>, word: &[u8]) -> Stop {
     match verify_file(session, word, Turn::First) {
         Ok(()) => not_read(
             session.alloc,
-            &[b"rev-list: the path '", word, b"' is not read"],
+            &[b"rev-list: the path '", word, b"' is not supported"],
         ),
         Err(stop) => stop,
     }

@@ -145,7 +145,7 @@ fn sorted_list(
     if wishes.is_first_parent && begins > 1 && sorted.has_sides {
         return Err(not_read(
             session.alloc,
-            &[b"--first-parent of several revisions is not read in this order"],
+            &[b"--first-parent of several revisions is not supported in this order"],
         ));
     }
     Ok(sorted.list)
@@ -224,7 +224,7 @@ fn side(
 pub(crate) fn on_both_sides(alloc: Global) -> Stop {
     not_read(
         alloc,
-        &[b"--left-right is not read for commits that are on both sides"],
+        &[b"--left-right is not supported for commits that are on both sides"],
     )
 }
 

@@ -84,15 +84,32 @@ fn add_range(
     Ok(true)
 }
 
+/// Returns whether an object leads to a commit.
+fn is_committish(session: &mut Session<'_>, id: ObjectId) -> Result<bool, Stop> {
+    match session.repository.commit(id) {
+        Ok(commit) => Ok(commit.is_some()),
+        Err(refusal) => Err(Stop::from(refusal)),
+    }
+}
+
+/// Fails as git does if there is no object with an id that a text names.
+fn ensure_there(session: &mut Session<'_>, text: &[u8], id: ObjectId) -> Result<(), Stop> {
+    if is_there(session, id)? {
+        Ok(())
+    } else {
+        Err(bad_object(session.alloc, text))
+    }
+}
+
 /// Returns whether the text before a mark leads to a commit, which the mark needs.
 fn leads_to_commit(session: &mut Session<'_>, text: &[u8]) -> Result<bool, Stop> {
-    let Some(id) = committish(session, text)? else {
-        return Ok(false);
-    };
-    if !is_there(session, id)? {
-        return Err(bad_object(session.alloc, text));
+    match committish(session, text)? {
+        Some(id) => {
+            ensure_there(session, text, id)?;
+            is_committish(session, id)
+        }
+        None => Ok(false),
     }
-    Ok(session.repository.commit(id)?.is_some())
 }
 
 /// Adds the commits of `A^@`, `A^!` and `A^-n`. Returns whether the word is one of these.
@@ -152,9 +169,7 @@ fn add_there(
     id: ObjectId,
     starts: &mut Starts,
 ) -> Result<(), Stop> {
-    if !is_there(session, id)? {
-        return Err(bad_object(session.alloc, name));
-    }
+    ensure_there(session, name, id)?;
     starts.add(id, flags.is_turned)?;
     Ok(())
 }
@@ -199,7 +214,7 @@ pub(crate) fn read(
     starts: &mut Starts,
 ) -> Result<(), Stop> {
     if word == b"..".as_slice() {
-        return Err(not_read(session.alloc, &[b"rev-list: '..' is not read"]));
+        return Err(not_read(session.alloc, &[b"rev-list: '..' is not supported"]));
     }
     if add_word(session, flags, word, starts)? {
         return Ok(());
@@ -219,7 +234,10 @@ fn is_dashes(session: &Session<'_>, line: &[u8]) -> Result<bool, Stop> {
         return Err(fatal(session.alloc, &[b"options not supported in --stdin mode"]));
     }
     if line.contains(&0) {
-        return Err(not_read(session.alloc, &[b"a line with a zero byte is not read"]));
+        return Err(not_read(
+            session.alloc,
+            &[b"a line with a zero byte is not supported"],
+        ));
     }
     Ok(false)
 }
@@ -259,6 +277,6 @@ pub(crate) fn read_input(session: &mut Session<'_>, starts: &mut Starts) -> Resu
 fn end_input(session: &Session<'_>, rest: Option<&[u8]>, is_more: bool) -> Result<(), Stop> {
     match rest {
         None | Some([]) if !is_more => Ok(()),
-        _ => Err(not_read(session.alloc, &[b"rev-list: paths are not read"])),
+        _ => Err(not_read(session.alloc, &[b"rev-list: paths are not supported"])),
     }
 }

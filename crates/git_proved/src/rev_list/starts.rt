@@ -3,7 +3,7 @@
 use crate::session::Session;
 use crate::stop::{Stop, fatal, not_read};
 use gix_discover::wildmatch::{Rules, is_match};
-use gix_ref::{Skipped, Why};
+use gix_ref::{Listing, Skipped, Why};
 use gix_repository::Refusal;
 use gix_revision::hash::ObjectId;
 use gix_revision::object::Kind;
@@ -143,7 +143,7 @@ fn target(
     if session.repository.kind(tag.target)? != tag.kind {
         return Err(not_read(
             session.alloc,
-            &[b"a tag that names another kind is not read"],
+            &[b"a tag that says another kind than its object has is not supported"],
         ));
     }
     Ok(Some(tag.target))
@@ -258,17 +258,32 @@ impl Starts {
         is_excluded: bool,
     ) -> Result<(), Stop> {
         self.is_pair = false;
-        let whole = match pattern {
-            Some(pattern) => Some(whole_pattern(self.alloc, front, pattern)?),
-            None => None,
-        };
         let listing = session.repository.list_references(front.as_bytes())?;
-        let broken = first_broken(self.alloc, &listing.skipped, whole.as_deref())?;
+        match pattern {
+            Some(pattern) => {
+                let whole = whole_pattern(self.alloc, front, pattern)?;
+                self.add_listed(session, front, &listing, Some(&whole), is_excluded)
+            }
+            None => self.add_listed(session, front, &listing, None, is_excluded),
+        }
+    }
+
+    /// Adds what those references of a list stand for that match a pattern, up to the first broken
+    /// one.
+    fn add_listed(
+        &mut self,
+        session: &mut Session<'_>,
+        front: &str,
+        listing: &Listing,
+        whole: Option<&[u8]>,
+        is_excluded: bool,
+    ) -> Result<(), Stop> {
+        let broken = first_broken(self.alloc, &listing.skipped, whole)?;
         for listed in listing.references.iter() {
             if comes_before(broken, &listed.name) {
                 break;
             }
-            if matches_pattern(self.alloc, whole.as_deref(), &listed.name)? {
+            if matches_pattern(self.alloc, whole, &listed.name)? {
                 let printed = printed_name(front, &listed.name);
                 self.add_reference(session, printed, listed.id, is_excluded)?;
             }

@@ -6,12 +6,14 @@ use crate::rev_list::wishes::{Order, Wishes};
 use crate::session::Session;
 use crate::stop::{FATAL, Stop, fatal, not_read};
 use crate::words::Words;
+use parse_options::{Exact, Holds, Takes, exact_option};
 use std::alloc::Global;
 
-/// An option without a value.
+/// Names an option.
 #[derive(Clone, Copy)]
-enum Plain {
+enum Key {
     All,
+    /// The references whose names have this front.
     References(&'static str),
     Not,
     Stdin,
@@ -25,136 +27,37 @@ enum Plain {
     Order(Order),
     Merges,
     NoMerges,
-}
-
-/// The name of an option without a value.
-#[derive(Clone, Copy)]
-struct Named {
-    text: &'static str,
-    plain: Plain,
-}
-
-/// The options without a value.
-static NAMES: [Named; 17] = [
-    Named {
-        text: "--all",
-        plain: Plain::All,
-    },
-    Named {
-        text: "--branches",
-        plain: Plain::References("refs/heads/"),
-    },
-    Named {
-        text: "--tags",
-        plain: Plain::References("refs/tags/"),
-    },
-    Named {
-        text: "--remotes",
-        plain: Plain::References("refs/remotes/"),
-    },
-    Named {
-        text: "--not",
-        plain: Plain::Not,
-    },
-    Named {
-        text: "--stdin",
-        plain: Plain::Stdin,
-    },
-    Named {
-        text: "--end-of-options",
-        plain: Plain::EndOfOptions,
-    },
-    Named {
-        text: "--count",
-        plain: Plain::Count,
-    },
-    Named {
-        text: "--left-right",
-        plain: Plain::Sides,
-    },
-    Named {
-        text: "--first-parent",
-        plain: Plain::FirstParent,
-    },
-    Named {
-        text: "--parents",
-        plain: Plain::Parents,
-    },
-    Named {
-        text: "--reverse",
-        plain: Plain::Reverse,
-    },
-    Named {
-        text: "--boundary",
-        plain: Plain::Boundary,
-    },
-    Named {
-        text: "--topo-order",
-        plain: Plain::Order(Order::Topological),
-    },
-    Named {
-        text: "--date-order",
-        plain: Plain::Order(Order::Dated),
-    },
-    Named {
-        text: "--merges",
-        plain: Plain::Merges,
-    },
-    Named {
-        text: "--no-merges",
-        plain: Plain::NoMerges,
-    },
-];
-
-/// An option with a pattern of names.
-#[derive(Clone, Copy)]
-struct Globbed {
-    text: &'static str,
-    front: &'static str,
-}
-
-/// The options with a pattern of names.
-static GLOBS: [Globbed; 3] = [
-    Globbed {
-        text: "--branches=",
-        front: "refs/heads/",
-    },
-    Globbed {
-        text: "--tags=",
-        front: "refs/tags/",
-    },
-    Globbed {
-        text: "--remotes=",
-        front: "refs/remotes/",
-    },
-];
-
-/// An option whose value is a number.
-#[derive(Clone, Copy)]
-enum Number {
     Most,
     Skip,
 }
 
-/// Returns the option with this name.
-fn plain_named(word: &[u8]) -> Option<Plain> {
-    for name in NAMES.iter() {
-        if name.text.as_bytes() == word {
-            return Some(name.plain);
-        }
-    }
-    None
-}
-
-/// Returns the front of the names that an option means, and the pattern of the others.
-fn glob_of(word: &[u8]) -> Option<(&'static str, &[u8])> {
-    for glob in GLOBS.iter() {
-        if let Some(pattern) = word.strip_prefix(glob.text.as_bytes()) {
-            return Some((glob.front, pattern));
-        }
-    }
-    None
-}
+/// The options.
+static OPTIONS: [Exact<Key>; 20] = [
+    Exact("--all", Takes::Nothing, Key::All),
+    Exact("--branches", Takes::Joined, Key::References("refs/heads/")),
+    Exact("--tags", Takes::Joined, Key::References("refs/tags/")),
+    Exact("--remotes", Takes::Joined, Key::References("refs/remotes/")),
+    Exact("--not", Takes::Nothing, Key::Not),
+    Exact("--stdin", Takes::Nothing, Key::Stdin),
+    Exact("--end-of-options", Takes::Nothing, Key::EndOfOptions),
+    Exact("--count", Takes::Nothing, Key::Count),
+    Exact("--left-right", Takes::Nothing, Key::Sides),
+    Exact("--first-parent", Takes::Nothing, Key::FirstParent),
+    Exact("--parents", Takes::Nothing, Key::Parents),
+    Exact("--reverse", Takes::Nothing, Key::Reverse),
+    Exact("--boundary", Takes::Nothing, Key::Boundary),
+    Exact(
+        "--topo-order",
+        Takes::Nothing,
+        Key::Order(Order::Topological),
+    ),
+    Exact("--date-order", Takes::Nothing, Key::Order(Order::Dated)),
+    Exact("--merges", Takes::Nothing, Key::Merges),
+    Exact("--no-merges", Takes::Nothing, Key::NoMerges),
+    Exact("--max-count", Takes::Word, Key::Most),
+    Exact("-n", Takes::Glued, Key::Most),
+    Exact("--skip", Takes::Word, Key::Skip),
+];
 
 /// Returns the digits with which a text begins, and whether a minus is before them.
 fn sign_and_digits(text: &[u8]) -> (bool, &[u8]) {
@@ -186,7 +89,7 @@ fn leading_number(alloc: Global, text: &[u8]) -> Result<Option<usize>, Stop> {
         Some(0) => Ok(Some(0)),
         Some(_) if is_negative => Ok(None),
         Some(number) => Ok(Some(number)),
-        None => Err(not_read(alloc, &[b"the number '", text, b"' is not read"])),
+        None => Err(not_read(alloc, &[b"the number '", text, b"' is not supported"])),
     }
 }
 
@@ -225,43 +128,50 @@ impl<'w> Scan<'w> {
         self.words.take()
     }
 
-    /// Reads an option without a value that says what is printed.
-    fn note_wish(&mut self, plain: Plain) {
-        match plain {
-            Plain::Count => self.wishes.counts = true,
-            Plain::Sides => self.wishes.has_sides = true,
-            Plain::FirstParent => self.wishes.is_first_parent = true,
-            Plain::Parents => self.wishes.has_parents = true,
-            Plain::Reverse => self.wishes.is_reversed = !self.wishes.is_reversed,
-            Plain::Boundary => self.wishes.has_boundary = true,
-            Plain::Order(order) => self.wishes.order = order,
-            Plain::Merges => self.wishes.least_parents = 2,
-            Plain::NoMerges => self.wishes.most_parents = 1,
-            Plain::Not => self.flags.is_turned = !self.flags.is_turned,
-            Plain::EndOfOptions => self.is_after_options = true,
+    /// Notes an option that says what is printed.
+    fn note_wish(&mut self, key: Key) {
+        match key {
+            Key::Count => self.wishes.counts = true,
+            Key::Sides => self.wishes.has_sides = true,
+            Key::FirstParent => self.wishes.is_first_parent = true,
+            Key::Parents => self.wishes.has_parents = true,
+            Key::Reverse => self.wishes.is_reversed = !self.wishes.is_reversed,
+            Key::Boundary => self.wishes.has_boundary = true,
+            Key::Order(order) => self.wishes.order = order,
+            Key::Merges => self.wishes.least_parents = 2,
+            Key::NoMerges => self.wishes.most_parents = 1,
+            Key::Not => self.flags.is_turned = !self.flags.is_turned,
+            Key::EndOfOptions => self.is_after_options = true,
             _ => {}
         }
     }
 
-    /// Reads an option without a value.
-    fn note_plain(&mut self, session: &mut Session<'_>, plain: Plain) -> Result<(), Stop> {
+    /// Notes an option and its value, if it has one.
+    fn note_key(
+        &mut self,
+        session: &mut Session<'_>,
+        key: Key,
+        value: Option<&'w [u8]>,
+    ) -> Result<(), Stop> {
         let is_excluded = self.flags.is_turned;
-        match plain {
-            Plain::All => {
+        let number = value.unwrap_or(&[]);
+        match key {
+            Key::All => {
                 self.has_revisions = true;
-                self.starts.add_all(session, is_excluded)
+                return self.starts.add_all(session, is_excluded);
             }
-            Plain::References(front) => {
+            Key::References(front) => {
                 self.has_revisions = true;
-                self.starts
-                    .add_references(session, front, None, is_excluded)
+                return self
+                    .starts
+                    .add_references(session, front, value, is_excluded);
             }
-            Plain::Stdin => self.note_input(session),
-            plain => {
-                self.note_wish(plain);
-                Ok(())
-            }
+            Key::Stdin => return self.note_input(session),
+            Key::Most => self.wishes.most = leading_number(session.alloc, number)?,
+            Key::Skip => self.wishes.skip = leading_number(session.alloc, number)?.unwrap_or(0),
+            key => self.note_wish(key),
         }
+        Ok(())
     }
 
     /// Reads the revisions of standard input.
@@ -275,57 +185,29 @@ impl<'w> Scan<'w> {
     }
 
     /// Returns the value of an option, which the next word is.
-    fn next_value(&mut self, alloc: Global, option: &[u8]) -> Result<&'w [u8], Stop> {
-        match self.take() {
-            Some(word) => Ok(word),
-            None => Err(fatal(alloc, &[b"Option '", option, b"' requires a value"])),
+    fn next_value(&mut self, session: &mut Session<'_>, option: &[u8]) -> Result<&'w [u8], Stop> {
+        if let Some(word) = self.take() {
+            return Ok(word);
         }
+        if option == b"-n".as_slice() {
+            session.say(&[b"error: -n requires an argument"])?;
+            return Err(Stop::Said(FATAL));
+        }
+        Err(fatal(session.alloc, &[b"Option '", option, b"' requires a value"]))
     }
 
-    /// Returns the option of a word whose value is a number, and the value.
-    fn number(
+    /// Returns the value of an option, if it has one.
+    fn value(
         &mut self,
         session: &mut Session<'_>,
-        word: &'w [u8],
-    ) -> Result<Option<(Number, &'w [u8])>, Stop> {
-        if let Some(value) = word.strip_prefix(b"--max-count=") {
-            return Ok(Some((Number::Most, value)));
+        option: &[u8],
+        holds: Holds<'w>,
+    ) -> Result<Option<&'w [u8]>, Stop> {
+        match holds {
+            Holds::Nothing => Ok(None),
+            Holds::Text(text) => Ok(Some(text)),
+            Holds::NextWord => Ok(Some(self.next_value(session, option)?)),
         }
-        if let Some(value) = word.strip_prefix(b"--skip=") {
-            return Ok(Some((Number::Skip, value)));
-        }
-        if word == b"--max-count".as_slice() {
-            return Ok(Some((Number::Most, self.next_value(session.alloc, word)?)));
-        }
-        if word == b"--skip".as_slice() {
-            return Ok(Some((Number::Skip, self.next_value(session.alloc, word)?)));
-        }
-        match word.strip_prefix(b"-n") {
-            Some([]) => Ok(Some((Number::Most, self.value_of_n(session)?))),
-            Some(value) => Ok(Some((Number::Most, value))),
-            None => Ok(None),
-        }
-    }
-
-    /// Returns the value of `-n`, which the next word is.
-    fn value_of_n(&mut self, session: &mut Session<'_>) -> Result<&'w [u8], Stop> {
-        match self.take() {
-            Some(word) => Ok(word),
-            None => {
-                session.say(&[b"error: -n requires an argument"])?;
-                Err(Stop::Said(FATAL))
-            }
-        }
-    }
-
-    /// Notes the value of an option.
-    fn note_number(&mut self, alloc: Global, number: Number, text: &[u8]) -> Result<(), Stop> {
-        let value = leading_number(alloc, text)?;
-        match number {
-            Number::Most => self.wishes.most = value,
-            Number::Skip => self.wishes.skip = value.unwrap_or(0),
-        }
-        Ok(())
     }
 
     /// Notes the number of an option such as `-3`.
@@ -341,26 +223,17 @@ impl<'w> Scan<'w> {
 
     /// Reads an option.
     fn note_option(&mut self, session: &mut Session<'_>, word: &'w [u8]) -> Result<(), Stop> {
-        if let Some(plain) = plain_named(word) {
-            return self.note_plain(session, plain);
+        if let Some((key, holds)) = exact_option(&OPTIONS, word) {
+            let value = self.value(session, word, holds)?;
+            return self.note_key(session, key, value);
         }
-        if let Some((front, pattern)) = glob_of(word) {
-            self.has_revisions = true;
-            let is_excluded = self.flags.is_turned;
-            return self
-                .starts
-                .add_references(session, front, Some(pattern), is_excluded);
-        }
-        if let Some([b'-', digits @ ..]) = Some(word)
-            && digits.first().is_some_and(|b| b.is_ascii_digit())
-        {
-            return self.note_digits(session.alloc, digits);
-        }
-        match self.number(session, word)? {
-            Some((number, value)) => self.note_number(session.alloc, number, value),
-            None => Err(not_read(
+        match word.strip_prefix(b"-") {
+            Some(digits) if digits.first().is_some_and(|b| b.is_ascii_digit()) => {
+                self.note_digits(session.alloc, digits)
+            }
+            _ => Err(not_read(
                 session.alloc,
-                &[b"rev-list: option '", word, b"' is not read"],
+                &[b"rev-list: option '", word, b"' is not supported"],
             )),
         }
     }
@@ -385,7 +258,7 @@ fn before_dashes<'w>(alloc: Global, words: &'w [&'w [u8]]) -> Result<(&'w [&'w [
         return Ok((words, false));
     };
     if at.saturating_add(1) < words.len() {
-        return Err(not_read(alloc, &[b"rev-list: paths are not read"]));
+        return Err(not_read(alloc, &[b"rev-list: paths are not supported"]));
     }
     Ok((words.get(..at).unwrap_or(&[]), true))
 }

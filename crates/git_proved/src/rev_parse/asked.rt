@@ -3,6 +3,7 @@
 use crate::ranges::Tip;
 use crate::stop::{Stop, fatal, not_read};
 use crate::words::Words;
+use parse_options::{Exact, Holds, Takes, exact_option};
 use std::alloc::Global;
 
 /// Says what the next word may be.
@@ -65,7 +66,7 @@ pub(super) enum Digits {
     AtLeast(usize),
 }
 
-/// Names an option without a joined value.
+/// Names an option.
 #[derive(Clone, Copy)]
 enum Key {
     Default,
@@ -80,53 +81,32 @@ enum Key {
     Symbolic,
     SymbolicFullName,
     EndOfOptions,
+    Short,
+    AbbrevRef,
 }
 
-/// The options without a joined value.
-static KEYS: [(&'static str, Key); 13] = [
-    ("--default", Key::Default),
-    ("--revs-only", Key::RevsOnly),
-    ("--no-revs", Key::NoRevs),
-    ("--flags", Key::Flags),
-    ("--no-flags", Key::NoFlags),
-    ("--verify", Key::Verify),
-    ("--quiet", Key::Quiet),
-    ("-q", Key::Quiet),
-    ("--sq", Key::Sq),
-    ("--not", Key::Not),
-    ("--symbolic", Key::Symbolic),
-    ("--symbolic-full-name", Key::SymbolicFullName),
-    ("--end-of-options", Key::EndOfOptions),
+/// The options.
+static OPTIONS: [Exact<Key>; 15] = [
+    Exact("--default", Takes::NextWord, Key::Default),
+    Exact("--revs-only", Takes::Nothing, Key::RevsOnly),
+    Exact("--no-revs", Takes::Nothing, Key::NoRevs),
+    Exact("--flags", Takes::Nothing, Key::Flags),
+    Exact("--no-flags", Takes::Nothing, Key::NoFlags),
+    Exact("--verify", Takes::Nothing, Key::Verify),
+    Exact("--quiet", Takes::Nothing, Key::Quiet),
+    Exact("-q", Takes::Nothing, Key::Quiet),
+    Exact("--sq", Takes::Nothing, Key::Sq),
+    Exact("--not", Takes::Nothing, Key::Not),
+    Exact("--symbolic", Takes::Nothing, Key::Symbolic),
+    Exact(
+        "--symbolic-full-name",
+        Takes::Nothing,
+        Key::SymbolicFullName,
+    ),
+    Exact("--end-of-options", Takes::Nothing, Key::EndOfOptions),
+    Exact("--short", Takes::Joined, Key::Short),
+    Exact("--abbrev-ref", Takes::Joined, Key::AbbrevRef),
 ];
-
-/// Returns the option with a name.
-fn key_of(word: &[u8]) -> Option<Key> {
-    for (name, key) in KEYS.iter() {
-        if name.as_bytes() == word {
-            return Some(*key);
-        }
-    }
-    None
-}
-
-/// The value of an option that may have one.
-#[derive(Clone, Copy)]
-enum Value<'w> {
-    None,
-    Text(&'w [u8]),
-}
-
-/// Returns the value of a word if it is an option of this name, alone or with `=` and a value.
-fn value_of<'w>(word: &'w [u8], name: &[u8]) -> Option<Value<'w>> {
-    let rest = word.strip_prefix(name)?;
-    if rest.is_empty() {
-        return Some(Value::None);
-    }
-    match rest.strip_prefix(b"=") {
-        Some(text) => Some(Value::Text(text)),
-        None => None,
-    }
-}
 
 /// Returns the number with which a text begins, as C reads it; 0 if it begins otherwise, or with a
 /// minus sign.
@@ -139,7 +119,7 @@ fn leading_number(alloc: Global, text: &[u8]) -> Result<usize, Stop> {
     let digits = text.strip_prefix(b"+").unwrap_or(text);
     let count = digits.iter().take_while(|b| b.is_ascii_digit()).count();
     if count > 9 || text.starts_with(b"-") && text.len() > 9 {
-        return Err(not_read(alloc, &[b"the number '", text, b"' is not read"]));
+        return Err(not_read(alloc, &[b"the number '", text, b"' is not supported"]));
     }
     match str::from_utf8(digits.get(..count).unwrap_or(&[])) {
         Ok(digits) => Ok(digits.parse::<usize>().unwrap_or(0)),
@@ -238,20 +218,14 @@ impl<'w> Asked<'w> {
     ///
     /// `NotRead` for an option that is not read, and `Fatal` with git's message for a wrong value.
     pub(super) fn read_option(&mut self, alloc: Global, word: &'w [u8]) -> Result<(), Stop> {
-        if let Some(key) = key_of(word) {
-            return self.note(alloc, key);
+        match exact_option(&OPTIONS, word) {
+            Some((key, holds)) => self.note(alloc, key, holds),
+            None => Err(not_read(alloc, &[b"option `", word, b"' is not supported"])),
         }
-        if let Some(value) = value_of(word, b"--short") {
-            return self.note_short(alloc, value);
-        }
-        if let Some(value) = value_of(word, b"--abbrev-ref") {
-            return self.note_short_names(alloc, value);
-        }
-        Err(not_read(alloc, &[b"option `", word, b"' is not read"]))
     }
 
-    /// Notes an option without a joined value.
-    fn note(&mut self, alloc: Global, key: Key) -> Result<(), Stop> {
+    /// Notes an option, and the value that its word has.
+    fn note(&mut self, alloc: Global, key: Key, holds: Holds<'w>) -> Result<(), Stop> {
         match key {
             Key::Default => return self.note_default(alloc),
             Key::RevsOnly => self.filter.others = false,
@@ -265,6 +239,8 @@ impl<'w> Asked<'w> {
             Key::Symbolic => self.symbolic = Symbolic::AsWritten,
             Key::SymbolicFullName => self.symbolic = Symbolic::Full,
             Key::EndOfOptions => self.has_ended_options = true,
+            Key::Short => return self.note_short(alloc, holds),
+            Key::AbbrevRef => return self.note_short_names(alloc, holds),
         }
         Ok(())
     }
@@ -279,22 +255,22 @@ impl<'w> Asked<'w> {
     }
 
     /// Notes `--short`. As in git, 4 digits are the least and 40 the most.
-    fn note_short(&mut self, alloc: Global, value: Value<'w>) -> Result<(), Stop> {
+    fn note_short(&mut self, alloc: Global, holds: Holds<'w>) -> Result<(), Stop> {
         self.want_one();
-        self.digits = match value {
-            Value::None => Digits::Usual,
-            Value::Text(text) => Digits::AtLeast(leading_number(alloc, text)?.clamp(4, 40)),
+        self.digits = match holds {
+            Holds::Nothing | Holds::NextWord => Digits::Usual,
+            Holds::Text(text) => Digits::AtLeast(leading_number(alloc, text)?.clamp(4, 40)),
         };
         Ok(())
     }
 
     /// Notes `--abbrev-ref`.
-    fn note_short_names(&mut self, alloc: Global, value: Value<'w>) -> Result<(), Stop> {
-        self.short_names = Some(match value {
-            Value::None => None,
-            Value::Text(text) if text == b"strict".as_slice() => Some(true),
-            Value::Text(text) if text == b"loose".as_slice() => Some(false),
-            Value::Text(text) => return Err(fatal(
+    fn note_short_names(&mut self, alloc: Global, holds: Holds<'w>) -> Result<(), Stop> {
+        self.short_names = Some(match holds {
+            Holds::Nothing | Holds::NextWord => None,
+            Holds::Text(text) if text == b"strict".as_slice() => Some(true),
+            Holds::Text(text) if text == b"loose".as_slice() => Some(false),
+            Holds::Text(text) => return Err(fatal(
                 alloc,
                 &[b"unknown mode for --abbrev-ref: ", text],
             )),
