@@ -148,6 +148,7 @@ impl<O: Opened, A: Allocator + Copy> Index<O, A> {
     pub(crate) fn complete(&mut self, alloc: A, found: &mut Completions<A>) -> Result<(), Fault> {
         let least = found.least();
         let first = least.0[0];
+        self.check_edges(first)?;
         self.load(alloc, first)?;
         let Some(bucket) = self.buckets.get(first as usize) else {
             return Ok(());
@@ -156,6 +157,32 @@ impl<O: Opened, A: Allocator + Copy> Index<O, A> {
             Ok(k) => found.add_from(&bucket.ids, k),
             Err(k) => found.add_from(&bucket.ids, k),
         }
+    }
+
+    /// Fails if the fanout table leaves out an id that begins with a byte, beside those that it
+    /// gives this byte.
+    fn check_edges(&self, first: u8) -> Result<(), Fault> {
+        let Span { low, high } = self.head.span(first);
+        let behind = Some(high).filter(|high| *high < self.head.len());
+        if self.begins(low.checked_sub(1), first)? || self.begins(behind, first)? {
+            return Err(self.source.damaged(8, Damage::Fanout));
+        }
+        Ok(())
+    }
+
+    /// Returns whether the id at a position, if there is one, begins with a byte.
+    fn begins(&self, position: Option<usize>, first: u8) -> Result<bool, Fault> {
+        let Some(position) = position else {
+            return Ok(false);
+        };
+        let at = self
+            .head
+            .id_place(u32::try_from(position).unwrap_or(u32::MAX));
+        let mut byte = [0u8; 1];
+        if self.source.fill(at, byte.as_mut_slice())? < 1 {
+            return Err(self.source.damaged(at, Damage::CutOff));
+        }
+        Ok(byte[0] == first)
     }
 
     /// Reads the ids that begin with a byte, and their offsets, unless they are here.
