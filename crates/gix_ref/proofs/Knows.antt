@@ -43,7 +43,7 @@ content-grows k later name h g =
 
 -- A reference with a file says the same later.
 pub loose-grows : (k later : Known) (name content : List ℕ) → is_some (first_read k.loose name) ≡ true
-    → Some content ≡ content_of (first_read k.loose name) → Grows k later → says later name ≡ Some (loose_says content)
+    → Some content ≡ content_of (first_read k.loose name) → Grows k later → says later name ≡ Some (loose_says name content)
 loose-grows k later name content h e g =
     ap (λ c. reference_says c later.packed name) (content-grows k later name h g ∙ sym e)
 

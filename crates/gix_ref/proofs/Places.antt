@@ -10,10 +10,10 @@ use Rattle.std.proofs.lemmas.Cmp.{tied_itself}
 use Rattle.std.proofs.Math.Seq.{drop-cons}
 use Rattle.std.proofs.lemmas.List.{drop-drop, drop_all, length-drop, take-append-drop}
 use Rattle.std.proofs.lemmas.Map.Lookups.{exact_bytes}
-use Rattle.gix_ref.specs.Lines.{lines}
+use Rattle.gix_ref.specs.Lines.{first_part, lines}
 use Rattle.gix_ref.specs.Loose.{Says}
 use Rattle.gix_ref.specs.Packed.{packed_says}
-use Rattle.gix_ref.specs.Snapshot.{first_line, first_says, name_at, places_say, compare_at, AreSorted, AreUpTo, IsEnd, IsTold, IsRecord, IsRead}
+use Rattle.gix_ref.specs.Snapshot.{first_says, name_at, places_say, compare_at, AreSorted, AreUpTo, IsEnd, IsTold, IsRecord, IsRead}
 use Rattle.gix_ref.proofs.Told.{other-first, first-told, first-untold}
 use Rattle.gix_ref.proofs.Rising.{all-from, all-last, rising-before, rising-behind, rising-front, rising-rest, rising-last}
 
@@ -131,7 +131,7 @@ module _ (bytes rest name after : List ℕ) (end : IsEnd bytes rest) (found : Is
   place = length bytes - length rest
 
   name-is : name_at bytes place ≡ name
-  name-is = ap (λ x. drop 41 (first_line (lines x))) (sym (end-at bytes rest end)) ∙ sym found.named
+  name-is = ap (λ x. drop 41 (first_part (lines x))) (sym (end-at bytes rest end)) ∙ sym found.named
 
   one-more : (places n : List ℕ) → packed_says bytes n ≡ places_say bytes places n (packed_says rest n)
       → packed_says bytes n ≡ places_say bytes (places ++ place ∷ []) n (packed_says after n)

@@ -10,10 +10,10 @@ use Rattle.std.proofs.lemmas.List.{drop-drop}
 use Rattle.std.proofs.lemmas.Slice.Eq.{slice_eq-Decides}
 use Rattle.hex.specs.Hex.{is_hex_digit}
 use Rattle.gix_base.specs.Digits.{bytes_of}
-use Rattle.gix_ref.specs.Lines.{is_id, id_of, parts, parts_after, lines}
+use Rattle.gix_ref.specs.Lines.{is_id, id_of, first_part, parts, parts_after, lines}
 use Rattle.gix_ref.specs.Loose.{Says}
 use Rattle.gix_ref.specs.Packed.{is_named, told_by, peeled_first, first_of, lines_say, packed_says}
-use Rattle.gix_ref.specs.Snapshot.{first_line, first_says, IsTold}
+use Rattle.gix_ref.specs.Snapshot.{first_says, IsTold}
 
 no-either : (c : Bool) (o : Option (List ℕ)) → o ≡ None → cond c o None ≡ None
 no-either true o e = e
@@ -48,7 +48,7 @@ other-line line name other =
     ap (λ t. cond t (id_of (take 40 line)) None) (unnamed (drop 40 line) name (λ e. other (sym (drop-drop 1 40 line) ∙ e)))
 
 -- If the first of some lines has another name, others say what is said.
-pub other-first : (ls : List (List ℕ)) (name : List ℕ) (others : Option Says) → drop 41 (first_line ls) ≢ name → first_says ls name others ≡ others
+pub other-first : (ls : List (List ℕ)) (name : List ℕ) (others : Option Says) → drop 41 (first_part ls) ≢ name → first_says ls name others ≡ others
 other-first [] name others other = refl
 other-first (line ∷ ls) name others other = ap (λ id. first_of id (peeled_first ls) others) (other-line line name other)
 

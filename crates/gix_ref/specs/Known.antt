@@ -30,7 +30,7 @@ content_of (Some r) = r.content
 
 -- What a reference says: what its file says, or else what `packed-refs` says of it.
 abbrev pub reference_says : Option (List ℕ) → Option (List ℕ) → List ℕ → Option Says
-reference_says (Some content) packed name = Some (loose_says content)
+reference_says (Some content) packed name = Some (loose_says name content)
 reference_says None packed name = packed_says (unwrap_or packed []) name
 
 -- What the reference of this name says, as far as files were read.

@@ -18,6 +18,15 @@ abbrev pub tail : List ℕ → Option (List ℕ)
 tail [] = None
 tail (b ∷ rest) = Some rest
 
+-- The first of some parts; an empty one if there is none.
+abbrev pub first_part : List (List ℕ) → List ℕ
+first_part [] = []
+first_part (part ∷ rest) = part
+
+-- What comes before the first zero byte of a text; the whole text if it has none.
+abbrev pub before_zero : List ℕ → List ℕ
+before_zero text = first_part (parts 0 text)
+
 -- The lines of a file: its parts between line feeds.
 abbrev pub lines : List ℕ → List (List ℕ)
 lines bytes = parts 10 bytes

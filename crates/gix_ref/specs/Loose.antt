@@ -1,7 +1,7 @@
 -- What the file of a loose reference says (gitrepository-layout, "refs"; git-symbolic-ref).
 use Rattle.std.specs.Prelude.{ℕ, List, [], ◌∷◌, Bool, true, ◌==◌, ◌||◌, cond, Option, None, Some, take, drop, codes, nat_eq}
 use Rattle.std.specs.Cmp.Lexicographic.{pointwise}
-use Rattle.gix_ref.specs.Lines.{id_of}
+use Rattle.gix_ref.specs.Lines.{before_zero, id_of}
 use Rattle.gix_ref.specs.Names.{is_name}
 
 -- What a reference says: the bytes of an id, and of the object to which a tag of this id leads, if
@@ -48,10 +48,19 @@ abbrev pub says_id : Option (List ℕ) → Says
 says_id None = IsGarbage
 says_id (Some id) = HasId id None
 
--- What a text without white space at its end says.
+-- What the text in the file of a reference says.
 abbrev pub text_says : List ℕ → Says
 text_says text = cond (pointwise nat_eq (take 4 text) (codes "ref:")) (says_name (trimmed_start (drop 4 text))) (says_id (id_at_front text))
 
--- What the bytes of a loose reference's file say.
-abbrev pub loose_says : List ℕ → Says
-loose_says bytes = text_says (trimmed_end bytes)
+-- A name is FETCH_HEAD or MERGE_HEAD: git does not trim the files of these two.
+abbrev pub is_untrimmed : List ℕ → Bool
+is_untrimmed name = pointwise nat_eq name (codes "FETCH_HEAD") || pointwise nat_eq name (codes "MERGE_HEAD")
+
+-- The text in the bytes of the file of the reference name: what comes before white space at the end,
+-- unless git does not trim it, and before the first zero byte.
+abbrev pub text_of : List ℕ → List ℕ → List ℕ
+text_of name bytes = before_zero (cond (is_untrimmed name) bytes (trimmed_end bytes))
+
+-- What the bytes of the file of the loose reference name say.
+abbrev pub loose_says : List ℕ → List ℕ → Says
+loose_says name bytes = text_says (text_of name bytes)

@@ -7,14 +7,9 @@ use Rattle.std.specs.List.Sorted.{IsStrictlySortedBy, IsStrictlySortedBy-prop}
 use Rattle.std.specs.Ordering.{nat_cmp}
 use Rattle.std.specs.declared.cmp.Ordering.{Ordering}
 use Rattle.std.specs.declared.cmp.Ordering.TheVariants.{Less}
-use Rattle.gix_ref.specs.Lines.{lines}
+use Rattle.gix_ref.specs.Lines.{first_part, lines}
 use Rattle.gix_ref.specs.Loose.{Says}
 use Rattle.gix_ref.specs.Packed.{told_by, peeled_first, first_of, packed_says}
-
--- The first of some lines; an empty one if there is none.
-abbrev pub first_line : List (List ℕ) → List ℕ
-first_line [] = []
-first_line (line ∷ rest) = line
 
 -- What the first of some lines says that tells of a name, or else what others say.
 abbrev pub first_says : List (List ℕ) → List ℕ → Option Says → Option Says
@@ -23,7 +18,7 @@ first_says (line ∷ rest) name others = first_of (told_by line name) (peeled_fi
 
 -- The name in the line `ID NAME` at a place.
 abbrev pub name_at : List ℕ → ℕ → List ℕ
-name_at bytes place = drop 41 (first_line (lines (drop place bytes)))
+name_at bytes place = drop 41 (first_part (lines (drop place bytes)))
 
 -- What the first of the lines at some places says that tells of a name, or else what others say.
 abbrev pub places_say : List ℕ → List ℕ → List ℕ → Option Says → Option Says
@@ -66,7 +61,7 @@ pub record IsTold (bytes rest : List ℕ) : Type 0 where
 -- The first line of bytes has a name, and rest is the end of bytes. No other line before rest
 -- tells of a name.
 pub record IsRecord (bytes name rest : List ℕ) : Type 0 where
-  pub named : name ≡ drop 41 (first_line (lines bytes))
+  pub named : name ≡ drop 41 (first_part (lines bytes))
   pub end : IsEnd bytes rest
   pub says : (n : List ℕ) → packed_says bytes n ≡ first_says (lines bytes) n (packed_says rest n)
 

@@ -1,12 +1,12 @@
 //! Lists references (git-for-each-ref).
 
 use crate::error::{Error, ErrorName, Fault};
-use crate::files::{ensure_missing, fault_of, read_listed};
+use crate::files::{ensure_missing, fault_of, read, read_listed};
 use crate::find::{Led, MOST_READ, Reference};
 use crate::lines::cut;
 use crate::loose::{self, Said};
 use crate::name::is_full_name;
-use crate::packed::{peeled_after, record};
+use crate::packed::{peeled_after, peeled_in, record};
 use crate::store::References;
 use gix_base::hash::ObjectId;
 use gix_odb::files::{FileError, Folders};
@@ -23,7 +23,8 @@ pub struct Listed<A: Allocator = Global> {
     pub name: Vec<u8, A>,
     /// The id at the end of symbolic references.
     pub id: ObjectId,
-    /// The object to which the tag with this id leads, if `packed-refs` says it.
+    /// The object to which the tag with this id leads, if `packed-refs` says it. It is the id
+    /// itself if `packed-refs` says that the id is that of no tag.
     pub peeled: Option<ObjectId>,
     /// Whether it is symbolic.
     pub is_symbolic: bool,
@@ -194,12 +195,33 @@ fn outcome_of(id: ObjectId) -> Outcome {
     }
 }
 
+/// Returns the outcome of a reference of `packed-refs`.
+fn outcome_of_packed(id: ObjectId, name: &[u8], peeled: Option<ObjectId>) -> Outcome {
+    if is_full_name(name) {
+        Outcome::Found(id, peeled, false)
+    } else {
+        Outcome::LeftOut(Why::Broken)
+    }
+}
+
 /// The folders of which each worktree has its own.
 static OWN_FOLDERS: [&str; 3] = ["refs/bisect/", "refs/rewritten/", "refs/worktree/"];
 
 /// Tests whether this is one of the folders of which each worktree has its own.
 fn is_own_folder(folder: &[u8]) -> bool {
     OWN_FOLDERS.iter().any(|own| own.as_bytes() == folder)
+}
+
+/// Returns what is known of the object to which a tag of `packed-refs` leads: the id itself if the
+/// id is that of no tag.
+///
+/// `said` is the id of the line `^ID`. As in git, an id with zeros only says that there is no tag.
+fn known_peeled(id: ObjectId, said: Option<ObjectId>, is_told: bool) -> Option<ObjectId> {
+    match said {
+        Some(object) if object != ZEROS => Some(object),
+        None if !is_told => None,
+        _ => Some(id),
+    }
 }
 
 /// Fails if a part of a name of `packed-refs` is empty, `.` or `..`: git then lists no reference.
@@ -313,9 +335,10 @@ impl<F: Folders + Drop, A: Allocator + Copy> References<F, A> {
     /// Returns the outcome of a symbolic reference that leads to a name.
     fn outcome_of_symbolic(&mut self, next: &[u8]) -> Result<Outcome, Fault> {
         match self.follow_on(next, MOST_READ.saturating_sub(1)) {
-            Ok(Led::Ends(Reference { id, peeled, .. })) if id != ZEROS => {
-                Ok(Outcome::Found(id, peeled, true))
-            }
+            // git looks at the object itself, whatever `packed-refs` says of the last reference.
+            Ok(Led::Ends(Reference { id, .. })) if id != ZEROS => Ok(Outcome::Found(
+                id, None, true,
+            )),
             Ok(_) => Ok(Outcome::LeftOut(Why::LeadsNowhere)),
             Err(Fault::NotUtf8(_)) => Ok(Outcome::LeftOut(Why::NotUtf8)),
             Err(fault) => Err(fault),
@@ -347,7 +370,7 @@ impl<F: Folders + Drop, A: Allocator + Copy> References<F, A> {
         if !name.starts_with(prefix) {
             return Ok(());
         }
-        let outcome = match loose::read(&content) {
+        let outcome = match loose::read(&name, &content) {
             _ if !is_full_name(&name) => Outcome::LeftOut(Why::Broken),
             Said::Id(id) => outcome_of(id),
             Said::LeadsTo(next) => self.outcome_of_symbolic(next)?,
@@ -357,20 +380,20 @@ impl<F: Folders + Drop, A: Allocator + Copy> References<F, A> {
     }
 
     /// Adds the references of `packed-refs` with a prefix.
+    ///
+    /// Fails if [`ensure_below`] refuses any name, whatever the prefix. git reads all lines for
+    /// some lists, and at least the line behind those with the prefix.
     fn add_packed(&self, items: &mut Items<A>, prefix: &[u8]) -> Result<(), Fault> {
         let bytes = self.packed_bytes();
+        let peeled = peeled_in(bytes);
         let mut rest = bytes;
         for _ in 0..bytes.len() {
             let (line, after) = cut(rest, b'\n');
             if let Some((id, name)) = record(line) {
+                ensure_below(name)?;
                 if name.starts_with(prefix) {
-                    let outcome = if is_full_name(name) {
-                        Outcome::Found(id, peeled_after(after), false)
-                    } else {
-                        ensure_below(name)?;
-                        Outcome::LeftOut(Why::Broken)
-                    };
-                    items.add(self.alloc, name, outcome)?;
+                    let said = known_peeled(id, peeled_after(after), peeled.has(name));
+                    items.add(self.alloc, name, outcome_of_packed(id, name, said))?;
                 }
             }
             match after {
@@ -389,7 +412,7 @@ impl<F: Folders + Drop, A: Allocator + Copy> References<F, A> {
     /// # Errors
     ///
     /// - `Failed` if a file or a folder cannot be read.
-    /// - `Damaged` if `packed-refs` has a line that git does not write.
+    /// - `Damaged` if `packed-refs` has a line that git does not write, or a name twice.
     /// - `OutOfMemory` if an allocation failed.
     pub fn all(&mut self, prefix: &[u8]) -> Result<Listing<A>, Error> {
         self.begin();
@@ -422,6 +445,38 @@ impl<F: Folders + Drop, A: Allocator + Copy> References<F, A> {
         }
     }
 
+    /// Reads a file in the folder of a linked worktree; `None` if there is none.
+    fn worktree_file(&self, worktree: &[u8], name: &[u8]) -> Result<Option<Vec<u8, A>>, Fault> {
+        let mut path = self.common_dir.as_slice().to_vec(self.alloc)?;
+        path.extend_from_slice(b"/worktrees/")?;
+        path.extend_from_slice(worktree)?;
+        path.push(b'/')?;
+        path.extend_from_slice(name)?;
+        read(self.alloc, &self.files, &path, name)
+    }
+
+    /// Tests whether a linked worktree shares this repository, by the text of its `commondir`.
+    fn is_shared(&self, text: &[u8]) -> bool {
+        let path = text.strip_suffix(b"\n").unwrap_or(text);
+        path == b"../..".as_slice() || path == self.common_dir.as_slice()
+    }
+
+    /// Tests whether a folder of `worktrees` is that of a linked worktree: it has a file `gitdir`
+    /// that is not empty, as git wants it.
+    ///
+    /// Fails if its `commondir` is not the one that git writes. git then looks for the references
+    /// of this worktree in another folder, or fails.
+    fn is_worktree(&self, worktree: &[u8]) -> Result<bool, Fault> {
+        match self.worktree_file(worktree, b"gitdir")? {
+            Some(text) if !text.is_empty() => {}
+            _ => return Ok(false),
+        }
+        match self.worktree_file(worktree, b"commondir")? {
+            Some(text) if self.is_shared(&text) => Ok(true),
+            _ => Err(Fault::Damaged(ErrorName::new(b"commondir"))),
+        }
+    }
+
     /// Returns the full name of a worktree's `HEAD`.
     fn worktree_head(&self, name: &[u8]) -> Result<Vec<u8, A>, Fault> {
         let mut head = b"worktrees/".to_vec(self.alloc)?;
@@ -435,7 +490,7 @@ impl<F: Folders + Drop, A: Allocator + Copy> References<F, A> {
         let names = self.worktree_names()?;
         let mut ids = Vec::new(self.alloc);
         for name in names.split(|b| *b == 0) {
-            if !is_hidden(name) {
+            if !is_hidden(name) && self.is_worktree(name)? {
                 let head = self.worktree_head(name)?;
                 if let Some(reference) = self.sound(&head)? {
                     ids.push(reference.id)?;
@@ -450,7 +505,8 @@ impl<F: Folders + Drop, A: Allocator + Copy> References<F, A> {
     ///
     /// # Errors
     ///
-    /// Those of [`References::all`].
+    /// - Those of [`References::all`].
+    /// - `Damaged` if the file `commondir` of a worktree leads to another folder.
     pub fn worktree_heads(&mut self) -> Result<Vec<ObjectId, A>, Error> {
         self.begin();
         match self.heads_by_files() {

@@ -61,11 +61,11 @@ pub(crate) enum Led<A: Allocator> {
 }
 
 impl<F: Folders + Drop, A: Allocator + Copy> References<F, A> {
-    /// Returns what a loose reference says.
-    fn loose_found(&self, content: &[u8]) -> Result<Option<Found<A>>, Fault>
-        ensures { IfOk result (λ f. Some (loose_says content.now) ≡ option_map found_says f) }
+    /// Returns what the loose reference with a name says.
+    fn loose_found(&self, name: &[u8], content: &[u8]) -> Result<Option<Found<A>>, Fault>
+        ensures { IfOk result (λ f. Some (loose_says name.now content.now) ≡ option_map found_says f) }
     {
-        match loose::read(content) {
+        match loose::read(name, content) {
             Said::Id(id) => Ok(Some(Found::Id(id, None))),
             Said::LeadsTo(next) => match next.to_vec(self.alloc) {
                 Ok(next) => Ok(Some(Found::LeadsTo(next))),
@@ -95,7 +95,7 @@ impl<F: Folders + Drop, A: Allocator + Copy> References<F, A> {
     {
         self.read_loose(name)?;
         if let Some(content) = self.content(name) {
-            return self.loose_found(content);
+            return self.loose_found(name, content);
         }
         self.read_packed()?;
         Ok(self.packed_found(name))
@@ -136,14 +136,14 @@ impl<F: Folders + Drop, A: Allocator + Copy> References<F, A> {
 
     /// Returns what the reference with this full name says; `None` if there is none.
     ///
-    /// The loose reference counts. If there is none, the first line of `packed-refs` with the name
-    /// counts. A name that git-check-ref-format refuses names no reference.
+    /// The loose reference counts. If there is none, the line of `packed-refs` with the name counts.
+    /// A name that git-check-ref-format refuses names no reference.
     ///
     /// # Errors
     ///
     /// - `Broken` if the loose file says neither an id nor the name of a reference.
     /// - `Failed` if a file cannot be read, and `NotUtf8` if the path is not UTF-8.
-    /// - `Damaged` if `packed-refs` has a line that git does not write.
+    /// - `Damaged` if `packed-refs` has a line that git does not write, or a name twice.
     /// - `OutOfMemory` if an allocation failed.
     pub fn find(&mut self, name: &[u8]) -> Result<Option<Target<A>>, Error>
         ensures found { IfSome (answer_says result) (Settles (known self.new) (λ k. name_says k name.now)) }

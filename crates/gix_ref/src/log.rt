@@ -19,7 +19,7 @@ pub struct LogEntry<A: Allocator = Global> {
     pub old: ObjectId,
     /// The id after the change.
     pub new: ObjectId,
-    /// When it changed, in seconds since 1970.
+    /// When it changed, in seconds since 1970. A negative number counts down from 2^64, as in git.
     pub seconds: u64,
     /// The digits of the time zone as one number: 130 for `+0130`.
     pub zone: i32,
@@ -56,16 +56,33 @@ struct Line<'a> {
     message: &'a [u8],
 }
 
-/// Returns the number that decimal digits say, if it fits.
+/// Tests whether a byte is white space for C, which passes over it in front of a number.
+fn is_space(byte: u8) -> bool {
+    byte == b' ' || matches!(byte, 9..=13)
+}
+
+/// Returns what comes after the white space at the front.
+fn without_space(text: &[u8]) -> &[u8] {
+    let len = text
+        .iter()
+        .position(|b| !is_space(*b))
+        .unwrap_or(text.len());
+    text.get(len..).unwrap_or(&[])
+}
+
+/// Returns the digits at the front of a text, and what comes after them.
+fn digits_and_rest(text: &[u8]) -> (&[u8], &[u8]) {
+    let len = text
+        .iter()
+        .position(|b| !b.is_ascii_digit())
+        .unwrap_or(text.len());
+    text.split_at_checked(len).unwrap_or((text, &[]))
+}
+
+/// Returns the number that decimal digits say, if it fits. It is 0 if there are none.
 fn number(digits: &[u8]) -> Option<u64> {
     let mut value = 0u64;
-    if digits.is_empty() {
-        return None;
-    }
     for digit in digits {
-        if !digit.is_ascii_digit() {
-            return None;
-        }
         value = value
             .checked_mul(10)?
             .checked_add((*digit as u64).saturating_sub(48))?;
@@ -73,10 +90,37 @@ fn number(digits: &[u8]) -> Option<u64> {
     Some(value)
 }
 
-/// Returns the number that a time zone such as `+0130` says.
-fn zone_of(zone: &[u8]) -> Option<i32> {
-    let (sign, digits) = zone.split_first()?;
-    let value = i32::try_from(number(digits)?).ok()?;
+/// Returns whether a text begins with a minus, and what comes after a sign.
+fn sign_and_rest(text: &[u8]) -> (bool, &[u8]) {
+    match text.split_first() {
+        Some((b'-', rest)) => (true, rest),
+        Some((b'+', rest)) => (false, rest),
+        _ => (false, text),
+    }
+}
+
+/// Returns the number at the front of a text, and what comes after it, as `strtoumax` of C does.
+///
+/// White space and a sign may be in front. A number that does not fit is the greatest one, and a
+/// negative one counts down from 2^64. It is 0 if there are no digits.
+fn date_and_rest(text: &[u8]) -> (u64, &[u8]) {
+    let (is_negative, text) = sign_and_rest(without_space(text));
+    let (digits, rest) = digits_and_rest(text);
+    match number(digits) {
+        Some(value) if is_negative => (0u64.wrapping_sub(value), rest),
+        Some(value) => (value, rest),
+        None => (u64::MAX, rest),
+    }
+}
+
+/// Returns the number that a time zone such as `+0130` says. It has four digits or more.
+fn zone_of(text: &[u8]) -> Option<i32> {
+    let (sign, rest) = text.split_first()?;
+    let (digits, _) = digits_and_rest(rest);
+    if digits.len() < 4 {
+        return None;
+    }
+    let value = i32::try_from(number(digits).unwrap_or(u64::MAX)).unwrap_or(i32::MAX);
     match *sign {
         b'+' => Some(value),
         b'-' => value.checked_neg(),
@@ -85,12 +129,14 @@ fn zone_of(zone: &[u8]) -> Option<i32> {
 }
 
 /// Returns the date, the time zone and the message of what comes after the two ids.
+///
+/// The message begins after the fourth digit of the time zone, or after a tab there.
 fn date_and_message(text: &[u8]) -> Option<(u64, i32, &[u8])> {
     let rest = cut(text, b'>').1?.strip_prefix(b" ")?;
-    let (digits, rest) = cut(rest, b' ');
-    let seconds = number(digits)?;
-    let (zone, message) = rest?.split_at_checked(5)?;
-    let zone = zone_of(zone)?;
+    let (seconds, rest) = date_and_rest(rest);
+    let rest = rest.strip_prefix(b" ")?;
+    let zone = zone_of(rest)?;
+    let (_, message) = rest.split_at_checked(5)?;
     let message = message.strip_prefix(b"\t").unwrap_or(message);
     (seconds != 0).then_some((seconds, zone, message))
 }
@@ -104,9 +150,9 @@ fn id_and_rest(text: &[u8]) -> Option<(ObjectId, &[u8])> {
 
 /// Returns what a line says: `OLD NEW NAME <MAIL> SECONDS ZONE`, a tab and the message.
 ///
-/// git passes over a line of another form, and over one of second 0.
+/// git passes over a line of another form, and over one of second 0. A zero byte ends the line.
 fn line_of(line: &[u8]) -> Option<Line<'_>> {
-    let (old, rest) = id_and_rest(line)?;
+    let (old, rest) = id_and_rest(cut(line, 0).0)?;
     let (new, rest) = id_and_rest(rest)?;
     let (seconds, zone, message) = date_and_message(rest)?;
     Some(Line {

@@ -2,10 +2,10 @@
 
 ghost use Rattle.std.specs.Prelude.{◌≡◌};
 ghost use Rattle.std.specs.Option.{option_map};
-ghost use Rattle.gix_ref.specs.Loose.{is_blank, trimmed_end, trimmed_start, ends_digits, id_at_front, says_name, says_id, text_says, loose_says};
+ghost use Rattle.gix_ref.specs.Loose.{is_blank, trimmed_end, trimmed_start, ends_digits, id_at_front, says_name, says_id, text_says, is_untrimmed, text_of, loose_says};
 ghost use Rattle.gix_ref.specs.Said.{said};
 
-use crate::lines::id_of;
+use crate::lines::{cut, id_of};
 use crate::name::is_full_name;
 use gix_base::hash::ObjectId;
 
@@ -98,7 +98,7 @@ fn said_by_id<'a>(id: Option<ObjectId>) -> Said<'a>
     }
 }
 
-/// Returns what a text without white space at its end says.
+/// Returns what the text in the file of a reference says.
 fn said_by(text: &[u8]) -> Said<'_>
     ensures { said result ≡ text_says text.now }
 {
@@ -108,9 +108,27 @@ fn said_by(text: &[u8]) -> Said<'_>
     }
 }
 
-/// Returns what the file of a loose reference says.
-pub(crate) fn read(bytes: &[u8]) -> Said<'_>
-    ensures { said result ≡ loose_says bytes.now }
+/// Tests whether git does not trim the file of a reference: that of `FETCH_HEAD` or `MERGE_HEAD`.
+pub(crate) fn is_untrimmed(name: &[u8]) -> bool
+    ensures { result ≡ is_untrimmed name.now }
 {
-    said_by(trimmed_end(bytes))
+    name == b"FETCH_HEAD".as_slice() || name == b"MERGE_HEAD".as_slice()
+}
+
+/// Returns the text in the file of the loose reference with a name. It ends before a zero byte.
+fn text_of<'a>(name: &[u8], bytes: &'a [u8]) -> &'a [u8]
+    ensures { result.now ≡ text_of name.now bytes.now }
+{
+    if is_untrimmed(name) {
+        cut(bytes, 0).0
+    } else {
+        cut(trimmed_end(bytes), 0).0
+    }
+}
+
+/// Returns what the file of the loose reference with a name says.
+pub(crate) fn read<'a>(name: &[u8], bytes: &'a [u8]) -> Said<'a>
+    ensures { said result ≡ loose_says name.now bytes.now }
+{
+    said_by(text_of(name, bytes))
 }

@@ -29,11 +29,32 @@ pub(crate) fn record(line: &[u8]) -> Option<(ObjectId, &[u8])> {
     }
 }
 
-/// Tests whether the traits in a header say that the names are sorted.
-fn are_sorted(traits: &[u8]) -> bool {
-    traits
+/// Which references of `packed-refs` are known to be no tag if no line `^ID` is behind them.
+#[derive(Clone, Copy)]
+pub(crate) enum PeeledRefs {
+    All,
+    /// Those below `refs/tags/`.
+    Tags,
+    None,
+}
+
+impl PeeledRefs {
+    /// Tests whether the reference with this name is one of them.
+    pub(crate) fn has(self, name: &[u8]) -> bool {
+        match self {
+            PeeledRefs::All => true,
+            PeeledRefs::Tags => name.starts_with(b"refs/tags/"),
+            PeeledRefs::None => false,
+        }
+    }
+}
+
+/// Tests whether a header has a trait. The traits end before a zero byte, as in git.
+fn has_trait(traits: &[u8], name: &[u8]) -> bool {
+    cut(traits, 0)
+        .0
         .split(|b| *b == b' ')
-        .any(|one| one == b"sorted".as_slice())
+        .any(|one| one == name)
 }
 
 /// Returns the traits in a header.
@@ -54,8 +75,17 @@ pub(crate) fn without_header(bytes: &[u8]) -> Option<(&[u8], bool)>
     let (line, after) = cut(bytes, b'\n');
     let traits = traits_of(line)?;
     match after {
-        Some(after) => Some((after, are_sorted(traits))),
+        Some(after) => Some((after, has_trait(traits, b"sorted"))),
         None => None,
+    }
+}
+
+/// Returns which references without a line `^ID` are no tag by the header; none without a header.
+pub(crate) fn peeled_in(bytes: &[u8]) -> PeeledRefs {
+    match traits_of(cut(bytes, b'\n').0) {
+        Some(traits) if has_trait(traits, b"fully-peeled") => PeeledRefs::All,
+        Some(traits) if has_trait(traits, b"peeled") => PeeledRefs::Tags,
+        _ => PeeledRefs::None,
     }
 }
 

@@ -86,7 +86,7 @@ impl<F: Folders + Drop, A: Allocator + Copy> References<F, A> {
     /// Returns why a full name is passed over; `None` if there is no such reference.
     fn why_passed(&self, name: &[u8]) -> Option<Why> {
         let content = self.content(name)?;
-        match loose::read(content) {
+        match loose::read(name, content) {
             Said::Id(_) => None,
             Said::LeadsTo(_) => Some(Why::LeadsNowhere),
             Said::Garbage => Some(why_garbage(content)),
@@ -157,7 +157,7 @@ impl<F: Folders + Drop, A: Allocator + Copy> References<F, A> {
     /// # Errors
     ///
     /// - `Failed` if a file cannot be read, and `NotUtf8` if the short name is not UTF-8.
-    /// - `Damaged` if `packed-refs` has a line that git does not write.
+    /// - `Damaged` if `packed-refs` has a line that git does not write, or a name twice.
     /// - `OutOfMemory` if an allocation failed.
     pub fn short(&mut self, short: &[u8]) -> Result<Option<Named<A>>, Error>
         ensures found { IfOk result (λ found. Settles (known self.new) (λ k. short_means k short.now) (option_map meant found)) }

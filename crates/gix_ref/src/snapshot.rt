@@ -46,7 +46,7 @@ fn still_sorted(is_sorted: bool, last: &[u8], name: &[u8]) -> bool
     is_sorted && last.cmp(name) == Ordering::Less
 }
 
-/// Returns the places of the lines `ID NAME`; `None` if git refuses the file.
+/// Returns the places of the lines `ID NAME`; `None` if the file has lines of another form.
 ///
 /// The file may have a header. Each line `ID NAME` may have a line `^ID` behind it. If the header
 /// says that the names are sorted, they are.
@@ -74,6 +74,59 @@ fn places_in<A: Allocator>(alloc: A, bytes: &[u8]) -> Result<Option<Places<A>>, 
     }
     places.shrink_to_fit();
     Ok(Some(Places { places, is_sorted }))
+}
+
+/// Tests whether two of the lines at some places have the same name.
+fn is_one_twice<A: Allocator>(
+    alloc: A,
+    bytes: &[u8],
+    places: &[usize],
+) -> Result<bool, AllocError> {
+    let mut sorted = places.to_vec(alloc)?;
+    sorted.sort_by(|a, b| name_at(bytes, *a).cmp(name_at(bytes, *b)))?;
+    let mut last = None;
+    for place in sorted.iter() {
+        let name = name_at(bytes, *place);
+        if last == Some(name) {
+            return Ok(true);
+        }
+        last = Some(name);
+    }
+    Ok(false)
+}
+
+/// Tests whether no name is in two lines. This takes no time if the names are sorted.
+fn is_each_once<A: Allocator>(
+    alloc: A,
+    bytes: &[u8],
+    found: &Places<A>,
+) -> Result<bool, AllocError> {
+    if found.is_sorted {
+        Ok(true)
+    } else {
+        Ok(!is_one_twice(alloc, bytes, &found.places)?)
+    }
+}
+
+/// Returns the places of the lines `ID NAME`; `None` if the file counts as damaged.
+///
+/// It does if it has lines of another form, or if a name is in two lines. git takes one of the two
+/// lines, whichever its search meets first.
+fn sound_places<A: Allocator + Copy>(
+    alloc: A,
+    bytes: &[u8],
+) -> Result<Option<Places<A>>, AllocError>
+    ensures all { IfOk result (λ o. IfSome o (λ p. AreAll bytes.now p.places.items)) }
+    ensures sorted { IfOk result (λ o. IfSome o (λ p. SaysSorted bytes.now p.places.items p.is_sorted)) }
+{
+    let Some(found) = places_in(alloc, bytes)? else {
+        return Ok(None);
+    };
+    if is_each_once(alloc, bytes, &found)? {
+        Ok(Some(found))
+    } else {
+        Ok(None)
+    }
 }
 
 /// Returns what the first of the lines at some places says that tells of this name.
@@ -109,11 +162,12 @@ fn find_sorted(bytes: &[u8], places: &[usize], name: &[u8]) -> Option<Packed>
 }
 
 impl<A: Allocator + Copy> Snapshot<A> {
-    /// Returns the snapshot with these bytes; `None` if git refuses the file.
+    /// Returns the snapshot with these bytes; `None` if the file counts as damaged, such as one with
+    /// a name twice.
     pub(crate) fn new(alloc: A, bytes: Vec<u8, A>) -> Result<Option<Snapshot<A>>, AllocError>
         ensures { IfOk result (λ o. IfSome o (λ s. s.bytes.items ≡ bytes.items)) }
     {
-        match places_in(alloc, &bytes)? {
+        match sound_places(alloc, &bytes)? {
             Some(Places { places, is_sorted }) => Ok(Some(Snapshot {
                 bytes,
                 places,

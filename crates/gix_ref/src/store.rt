@@ -7,6 +7,7 @@ ghost use Rattle.gix_ref.specs.Known.{Grows, known, read_of, first_read, content
 use crate::all::{Listing, Skipped};
 use crate::error::{Error, ErrorName, Fault};
 use crate::files::{fault_of, read, read_file};
+use crate::loose::is_untrimmed;
 use crate::name::is_full_name;
 use crate::place::located;
 use crate::snapshot::Snapshot;
@@ -56,6 +57,11 @@ pub struct References<F: Folders + Drop, A: Allocator + Copy = Global> {
     pub(crate) passed: Vec<Skipped<A>, A>,
     // All references, if names are shortened by a list.
     pub(crate) names: Option<Listing<A>>,
+}
+
+/// Tests whether a symbolic link with this text, in place of a reference, is a symbolic reference.
+fn leads_by_text(name: &[u8], text: &[u8]) -> bool {
+    !is_untrimmed(name) && text.starts_with(b"refs/") && is_full_name(text)
 }
 
 /// Returns copies of two paths.
@@ -144,11 +150,12 @@ impl<F: Folders + Drop, A: Allocator + Copy> References<F, A> {
 
     /// Reads what is in place of a loose reference.
     ///
-    /// A symbolic link whose text is a name below `refs/` is a symbolic reference to this name.
+    /// A symbolic link whose text is a name below `refs/` is a symbolic reference to this name,
+    /// except in place of `FETCH_HEAD` or `MERGE_HEAD`.
     fn read_loose_file(&self, name: &[u8]) -> Result<LooseFile<A>, Fault> {
         let path = self.path(b"", name)?;
         let is_link = match self.link_at(&path, name)? {
-            Link::Text(text) if text.starts_with(b"refs/") && is_full_name(&text) => {
+            Link::Text(text) if leads_by_text(name, &text) => {
                 let mut content = b"ref: ".to_vec(self.alloc)?;
                 content.extend_from_slice(&text)?;
                 return Ok(LooseFile::Content(content));

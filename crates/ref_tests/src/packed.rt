@@ -62,12 +62,19 @@ fn found_in(alloc: Global, bytes: &[u8]) -> Option<bool> {
     }
 }
 
-/// Tests whether the references of a file are not listed, since the file counts as damaged.
-fn is_unlisted(alloc: Global, bytes: &[u8]) -> bool {
+/// Tests whether the references of a file with a prefix are not listed, since the file counts as
+/// damaged.
+fn is_unlisted(alloc: Global, bytes: &[u8], prefix: &[u8]) -> bool {
     match References::open(alloc, OnlyPacked(bytes), b"r", b"r") {
-        Ok(mut references) => matches!(references.all(b""), Err(Error::Damaged(_))),
+        Ok(mut references) => matches!(references.all(prefix), Err(Error::Damaged(_))),
         Err(_) => false,
     }
+}
+
+/// Tests whether no references of a file are listed, also if the name that is the reason has not
+/// the prefix.
+fn is_never_listed(alloc: Global, bytes: &[u8]) -> bool {
+    is_unlisted(alloc, bytes, b"") && is_unlisted(alloc, bytes, b"refs/tags/")
 }
 
 /// What git says of a file.
@@ -85,7 +92,7 @@ fn is_of(alloc: Global, bytes: &[u8], kind: Kind) -> bool {
     match kind {
         Kind::Damaged => found_in(alloc, bytes).is_none(),
         Kind::Whole => found_in(alloc, bytes) == Some(true),
-        Kind::Dangerous => found_in(alloc, bytes) == Some(true) && is_unlisted(alloc, bytes),
+        Kind::Dangerous => found_in(alloc, bytes) == Some(true) && is_never_listed(alloc, bytes),
     }
 }
 
@@ -114,8 +121,8 @@ fn first_other(
 type OfPacked<'a> = References<OnlyPacked<'a>, Global>;
 
 /// Tests whether a file says of a name what a row says.
-fn is_right(alloc: Global, references: &mut OfPacked<'_>, row: &str) -> bool {
-    match &row_of(alloc, Ask::Find, row) {
+fn is_right(alloc: Global, references: &mut OfPacked<'_>, ask: Ask, row: &str) -> bool {
+    match &row_of(alloc, ask, row) {
         Some(row) => asked(alloc, references, row) == Outcome::Right,
         None => false,
     }
@@ -125,10 +132,11 @@ fn is_right(alloc: Global, references: &mut OfPacked<'_>, row: &str) -> bool {
 fn first_wrong_of(
     alloc: Global,
     references: &mut OfPacked<'_>,
+    ask: Ask,
     rows: &'static str,
 ) -> Option<&'static str> {
     for row in rows.lines() {
-        if !is_right(alloc, references, row) {
+        if !is_right(alloc, references, ask, row) {
             return Some(row);
         }
     }
@@ -138,11 +146,11 @@ fn first_wrong_of(
 /// Returns the first row of which a file says something else, or the file if it is not opened.
 fn first_wrong_in(
     alloc: Global,
-    (file, rows): (&'static str, &'static str),
+    (file, ask, rows): (&'static str, Ask, &'static str),
 ) -> Result<Option<&'static str>, AllocError> {
     let bytes = written_out(alloc, file)?;
     match &mut References::open(alloc, OnlyPacked(&bytes), b"r", b"r") {
-        Ok(references) => Ok(first_wrong_of(alloc, references, rows)),
+        Ok(references) => Ok(first_wrong_of(alloc, references, ask, rows)),
         Err(_) => Ok(Some(file)),
     }
 }
@@ -211,7 +219,7 @@ fn first_wrong_number(
     end: u32,
 ) -> Result<u32, AllocError> {
     for number in 0..end {
-        if !is_right(alloc, references, &row_of_number(alloc, number)?) {
+        if !is_right(alloc, references, Ask::Find, &row_of_number(alloc, number)?) {
             return Ok(number);
         }
     }

@@ -1,14 +1,21 @@
 //! Has files `packed-refs`, names, and what git 2.39.5 says of each name. A bar is a line feed.
 
+use crate::questions::Ask;
+
 /// Files, and rows in the form of `questions` about references in them.
-pub(crate) static PACKED: [(&str, &str); 7] = [
-    (UNSORTED, OF_UNSORTED),
-    (BEGINNINGS, OF_BEGINNINGS),
-    (PEELED, OF_PEELED),
-    (SINGLE, OF_SINGLE),
-    (HEADER, "refs/heads/a => nothing"),
-    ("", "refs/heads/a => nothing"),
-    (RETURNS, OF_RETURNS),
+pub(crate) static PACKED: [(&str, Ask, &str); 12] = [
+    (UNSORTED, Ask::Find, OF_UNSORTED),
+    (BEGINNINGS, Ask::Find, OF_BEGINNINGS),
+    (PEELED, Ask::Find, OF_PEELED),
+    (SINGLE, Ask::Find, OF_SINGLE),
+    (HEADER, Ask::Find, "refs/heads/a => nothing"),
+    ("", Ask::Find, "refs/heads/a => nothing"),
+    (RETURNS, Ask::Find, OF_RETURNS),
+    (ALL_TOLD, Ask::All, OF_ALL_TOLD),
+    (TAGS_TOLD, Ask::All, OF_TAGS_TOLD),
+    (TOLD_BEFORE_ZERO, Ask::All, OF_TAGS_TOLD),
+    (NONE_TOLD, Ask::All, OF_NONE_TOLD),
+    (ZEROS_TOLD, Ask::All, OF_ZEROS_TOLD),
 ];
 
 /// The names of this file are not sorted, and no header says that they are.
@@ -90,7 +97,75 @@ refs/heads/a => nothing
 refs/heads/b => nothing
 ";
 
-/// Files that git refuses, or in which it finds no name or not the first, each after the reason.
+/// The header of this file says that references without a line `^ID` lead to no tag. In a list
+/// such a reference leads to its own id.
+const ALL_TOLD: &str = "\
+    # pack-refs with: peeled fully-peeled sorted |\
+    1111111111111111111111111111111111111111 refs/heads/a|\
+    2222222222222222222222222222222222222222 refs/tags/a|\
+    3333333333333333333333333333333333333333 refs/tags/b|\
+    ^4444444444444444444444444444444444444444|";
+
+const OF_ALL_TOLD: &str = "\
+refs/ => refs/heads/a 1111111111111111111111111111111111111111 \
+    1111111111111111111111111111111111111111|\
+    refs/tags/a 2222222222222222222222222222222222222222 \
+    2222222222222222222222222222222222222222|\
+    refs/tags/b 3333333333333333333333333333333333333333 \
+    4444444444444444444444444444444444444444|
+";
+
+/// The header of this file says so of those below `refs/tags/`.
+const TAGS_TOLD: &str = "\
+    # pack-refs with: peeled |\
+    1111111111111111111111111111111111111111 refs/heads/a|\
+    2222222222222222222222222222222222222222 refs/tags/a|\
+    3333333333333333333333333333333333333333 refs/tags/b|\
+    ^4444444444444444444444444444444444444444|";
+
+const OF_TAGS_TOLD: &str = "\
+refs/ => refs/heads/a 1111111111111111111111111111111111111111|\
+    refs/tags/a 2222222222222222222222222222222222222222 \
+    2222222222222222222222222222222222222222|\
+    refs/tags/b 3333333333333333333333333333333333333333 \
+    4444444444444444444444444444444444444444|
+";
+
+/// The header of this file ends for git at the zero byte.
+const TOLD_BEFORE_ZERO: &str = "\
+    # pack-refs with: peeled\u{0} fully-peeled |\
+    1111111111111111111111111111111111111111 refs/heads/a|\
+    2222222222222222222222222222222222222222 refs/tags/a|\
+    3333333333333333333333333333333333333333 refs/tags/b|\
+    ^4444444444444444444444444444444444444444|";
+
+/// The header of this file says it of no reference.
+const NONE_TOLD: &str = "\
+    # pack-refs with: sorted |\
+    1111111111111111111111111111111111111111 refs/heads/a|\
+    2222222222222222222222222222222222222222 refs/tags/a|\
+    3333333333333333333333333333333333333333 refs/tags/b|\
+    ^4444444444444444444444444444444444444444|";
+
+const OF_NONE_TOLD: &str = "\
+refs/ => refs/heads/a 1111111111111111111111111111111111111111|\
+    refs/tags/a 2222222222222222222222222222222222222222|\
+    refs/tags/b 3333333333333333333333333333333333333333 \
+    4444444444444444444444444444444444444444|
+";
+
+/// A line of this file says by zeros that a reference leads to no tag.
+const ZEROS_TOLD: &str = "\
+    1111111111111111111111111111111111111111 refs/tags/a|\
+    ^0000000000000000000000000000000000000000|";
+
+const OF_ZEROS_TOLD: &str = "\
+refs/ => refs/tags/a 1111111111111111111111111111111111111111 \
+    1111111111111111111111111111111111111111|
+";
+
+/// Files that git refuses, in which a name is twice, or in which it finds no name or not the first,
+/// each after the reason.
 pub(crate) const DAMAGED: &str = "\
 a comment behind the header => # pack-refs with: peeled fully-peeled sorted |\
     # x|\
@@ -124,6 +199,14 @@ not sorted => # pack-refs with: peeled fully-peeled sorted |\
 twice => # pack-refs with: peeled fully-peeled sorted |\
     56a6051ca2b02b04ef92d5150c9ef600403cb1de refs/heads/a|\
     56a6051ca2b02b04ef92d5150c9ef600403cb1de refs/heads/a|
+twice without a header => 1111111111111111111111111111111111111111 refs/heads/a|\
+    2222222222222222222222222222222222222222 refs/heads/a|
+twice with others in between => # pack-refs with: peeled fully-peeled |\
+    1111111111111111111111111111111111111111 refs/heads/b|\
+    ^2222222222222222222222222222222222222222|\
+    3333333333333333333333333333333333333333 refs/heads/a|\
+    4444444444444444444444444444444444444444 refs/heads/c|\
+    5555555555555555555555555555555555555555 refs/heads/b|
 ";
 
 /// Files in which git finds `refs/heads/a`, each after what is special.
@@ -148,6 +231,10 @@ refs/heads//b => 1111111111111111111111111111111111111111 refs/heads/a|\
     2222222222222222222222222222222222222222 refs/heads//b|
 refs/heads/b/ => 1111111111111111111111111111111111111111 refs/heads/a|\
     2222222222222222222222222222222222222222 refs/heads/b/|
+refs//b => 1111111111111111111111111111111111111111 refs/heads/a|\
+    2222222222222222222222222222222222222222 refs//b|
+refs/heads/ => 1111111111111111111111111111111111111111 refs/heads/a|\
+    2222222222222222222222222222222222222222 refs/heads/|
 refs/heads/b/.. => 1111111111111111111111111111111111111111 refs/heads/a|\
     2222222222222222222222222222222222222222 refs/heads/b/..|
 ";

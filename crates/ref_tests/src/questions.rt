@@ -91,6 +91,8 @@ w:HEAD => HEAD HEAD 63d8dbd40c23542e740659a7168a0ce3138ea748
 !sym => refs/heads/sym refs/heads/packed bf0d87ab1b2b0ec1a11a3973d2845b42413d9767
 chain1 => refs/heads/chain1 refs/heads/main 56a6051ca2b02b04ef92d5150c9ef600403cb1de
 chain0 => nothing LeadsNowhere
+FETCH_HEAD => nothing LeadsNowhere
+ZERO_NAME => nothing LeadsNowhere
 dang => nothing LeadsNowhere
 broken => nothing Broken
 empty => nothing Broken
@@ -146,6 +148,13 @@ refs/heads => nothing
 @ => nothing
  => nothing
 w:HEAD => 63d8dbd40c23542e740659a7168a0ce3138ea748
+FETCH_HEAD => broken
+MERGE_HEAD => ref: refs/heads/main
+main-worktree/FETCH_HEAD => ref: refs/heads/main
+ZERO_BLANK => broken
+ZERO_ID => 56a6051ca2b02b04ef92d5150c9ef600403cb1de
+ZERO_NAME => broken
+ZERO_REF => ref: refs/heads/main
 ";
 
 /// References, and where they lead.
@@ -156,6 +165,9 @@ refs/heads/loop => too deep
 refs/heads/dang => nothing
 !refs/heads/broken => broken
 refs/heads/nosuch => nothing
+FETCH_TO => broken
+!MERGE_TO => refs/heads/main 56a6051ca2b02b04ef92d5150c9ef600403cb1de
+ZERO_REF => refs/heads/main 56a6051ca2b02b04ef92d5150c9ef600403cb1de
 ";
 
 /// References, and the shortest names for them that no other rule reads.
@@ -196,6 +208,13 @@ refs/heads/both 0 => nothing
 refs/heads/both 1 => nothing
 refs/heads/both 2 => nothing
 refs/heads/both 3 => nothing
+refs/heads/odd 0 => c227083464fb9af8955c90d2924774ee50abb547
+refs/heads/odd 1 => e440e5c842586965a7fb77deda2eca68612b1f53
+refs/heads/odd 2 => 56a6051ca2b02b04ef92d5150c9ef600403cb1de
+refs/heads/odd 3 => d8263ee9860594d2806b0dfd1bfd17528b0ba2a4
+refs/heads/odd 4 => 7813681f5b41c028345ca62a2be376bae70b7f61
+refs/heads/odd 5 => bf0d87ab1b2b0ec1a11a3973d2845b42413d9767
+refs/heads/odd 6 => nothing
 ";
 
 /// References with seconds, and the ids that they had then.
@@ -208,6 +227,11 @@ refs/heads/main 100200 => 7813681f5b41c028345ca62a2be376bae70b7f61
 refs/heads/main 100299 => 56a6051ca2b02b04ef92d5150c9ef600403cb1de
 refs/heads/main 100300 => 56a6051ca2b02b04ef92d5150c9ef600403cb1de
 !refs/heads/main 100350 => 56a6051ca2b02b04ef92d5150c9ef600403cb1de
+refs/heads/odd 100099 => bf0d87ab1b2b0ec1a11a3973d2845b42413d9767
+refs/heads/odd 100100 => 7813681f5b41c028345ca62a2be376bae70b7f61
+refs/heads/odd 100200 => d8263ee9860594d2806b0dfd1bfd17528b0ba2a4
+refs/heads/odd 100399 => d8263ee9860594d2806b0dfd1bfd17528b0ba2a4
+refs/heads/odd 100400 => c227083464fb9af8955c90d2924774ee50abb547
 ";
 
 /// HEAD with numbers, and what was checked out so many times before.
@@ -236,7 +260,8 @@ const ALL: &str = "\
     refs/heads/chain0 LeadsNowhere|
 refs/t => refs/tags/ann 896519d262bef0cf300a6a9f862c48b40772a539 \
     62f9457511f879886bb7728c986fe10b0ece6bcb|\
-    refs/tags/both c7930257dfef505fd996e1d6f22f2f35149990d0|
+    refs/tags/both c7930257dfef505fd996e1d6f22f2f35149990d0 \
+    c7930257dfef505fd996e1d6f22f2f35149990d0|
 refs/heads/caf\u{e8}/ => nothing
  => refs/bisect/bad f11c82a4cb6cc2e8f3bdf52b5cdeaad4d5bb214e|\
     refs/heads/blanks 56a6051ca2b02b04ef92d5150c9ef600403cb1de ref|\
@@ -248,14 +273,17 @@ refs/heads/caf\u{e8}/ => nothing
     refs/heads/chain4 56a6051ca2b02b04ef92d5150c9ef600403cb1de ref|\
     refs/heads/junk 56a6051ca2b02b04ef92d5150c9ef600403cb1de|\
     refs/heads/main 56a6051ca2b02b04ef92d5150c9ef600403cb1de|\
-    refs/heads/packed bf0d87ab1b2b0ec1a11a3973d2845b42413d9767|\
+    refs/heads/packed bf0d87ab1b2b0ec1a11a3973d2845b42413d9767 \
+    bf0d87ab1b2b0ec1a11a3973d2845b42413d9767|\
     refs/heads/sym bf0d87ab1b2b0ec1a11a3973d2845b42413d9767 ref|\
     refs/heads/upper 7813681f5b41c028345ca62a2be376bae70b7f61|\
     refs/remotes/origin/HEAD 301160a93062df23030a69f4b5e4d9bf71866ee9 ref|\
-    refs/remotes/origin/main 301160a93062df23030a69f4b5e4d9bf71866ee9|\
+    refs/remotes/origin/main 301160a93062df23030a69f4b5e4d9bf71866ee9 \
+    301160a93062df23030a69f4b5e4d9bf71866ee9|\
     refs/tags/ann 896519d262bef0cf300a6a9f862c48b40772a539 \
     62f9457511f879886bb7728c986fe10b0ece6bcb|\
-    refs/tags/both c7930257dfef505fd996e1d6f22f2f35149990d0|\
+    refs/tags/both c7930257dfef505fd996e1d6f22f2f35149990d0 \
+    c7930257dfef505fd996e1d6f22f2f35149990d0|\
     refs/heads/badname LeadsNowhere|\
     refs/heads/broken Broken|\
     refs/heads/chain0 LeadsNowhere|\
@@ -275,14 +303,17 @@ w: => refs/bisect/bad bf0d87ab1b2b0ec1a11a3973d2845b42413d9767|\
     refs/heads/chain4 56a6051ca2b02b04ef92d5150c9ef600403cb1de ref|\
     refs/heads/junk 56a6051ca2b02b04ef92d5150c9ef600403cb1de|\
     refs/heads/main 56a6051ca2b02b04ef92d5150c9ef600403cb1de|\
-    refs/heads/packed bf0d87ab1b2b0ec1a11a3973d2845b42413d9767|\
+    refs/heads/packed bf0d87ab1b2b0ec1a11a3973d2845b42413d9767 \
+    bf0d87ab1b2b0ec1a11a3973d2845b42413d9767|\
     refs/heads/sym bf0d87ab1b2b0ec1a11a3973d2845b42413d9767 ref|\
     refs/heads/upper 7813681f5b41c028345ca62a2be376bae70b7f61|\
     refs/remotes/origin/HEAD 301160a93062df23030a69f4b5e4d9bf71866ee9 ref|\
-    refs/remotes/origin/main 301160a93062df23030a69f4b5e4d9bf71866ee9|\
+    refs/remotes/origin/main 301160a93062df23030a69f4b5e4d9bf71866ee9 \
+    301160a93062df23030a69f4b5e4d9bf71866ee9|\
     refs/tags/ann 896519d262bef0cf300a6a9f862c48b40772a539 \
     62f9457511f879886bb7728c986fe10b0ece6bcb|\
-    refs/tags/both c7930257dfef505fd996e1d6f22f2f35149990d0|\
+    refs/tags/both c7930257dfef505fd996e1d6f22f2f35149990d0 \
+    c7930257dfef505fd996e1d6f22f2f35149990d0|\
     refs/heads/badname LeadsNowhere|\
     refs/heads/broken Broken|\
     refs/heads/chain0 LeadsNowhere|\
