@@ -6,6 +6,8 @@ mod fake;
 #[cfg(test)]
 mod finds;
 #[cfg(test)]
+mod settings;
+#[cfg(test)]
 mod tables;
 #[cfg(test)]
 mod texts;

@@ -2,7 +2,8 @@
 //!
 //! git fails if one of these values is malformed, even if the question does not need it. It checks
 //! each value of the keys in `CHECKED` and `ADVICE`. It checks the last value of the keys in
-//! `READING` when it first looks for an object, as nearly every question does.
+//! `READING` when it first looks for an object, as nearly every question does, and of those in
+//! `INDEX` when it reads or writes the index.
 
 use crate::color::is_color_value;
 use crate::error::{DiscoverError, Reason, about, about_value};
@@ -32,7 +33,7 @@ enum Kind {
     Abbrev,
     /// Any value.
     Text,
-    /// A path. `~` at its front is the home folder.
+    /// A path. `~` at its front is the home folder. That of another user, `~user`, is not known.
     Path,
     /// One byte, or `auto`.
     Character,
@@ -40,6 +41,8 @@ enum Kind {
     WhiteSpace,
     /// A color.
     Color,
+    /// Who shares the repository: a boolean, one of some words, or the mode of files.
+    Shared,
 }
 
 /// The settings whose values are all checked, with what they have to be.
@@ -187,18 +190,33 @@ static READING: [(&'static str, Kind); 13] = [
     ("pack.usesparse", Kind::Boolean),
 ];
 
+/// The settings that git reads when it reads or writes the index. Only their last value counts.
+static INDEX: [(&'static str, Kind); 6] = [
+    ("core.sharedrepository", Kind::Shared),
+    ("index.recordendofindexentries", Kind::Boolean),
+    ("index.recordoffsettable", Kind::Boolean),
+    // A number of threads is a boolean, too.
+    ("index.threads", Kind::Boolean),
+    ("splitindex.maxpercentchange", Kind::Number),
+    // git takes every date that is over.
+    (
+        "splitindex.sharedindexexpire",
+        Kind::Exact(&["now", "never"]),
+    ),
+];
+
 /// Tells whether a text is one of some words in any letter case.
 fn is_any_word(text: &[u8], words: &[&str]) -> bool {
     words.iter().any(|word| is_word(text, word.as_bytes()))
 }
 
 /// Tells whether a text is one of some words.
-fn is_any(text: &[u8], words: &[&str]) -> bool {
+pub(crate) fn is_any(text: &[u8], words: &[&str]) -> bool {
     words.iter().any(|word| text == word.as_bytes())
 }
 
 /// Returns the reason against a value that has to be a boolean.
-fn boolean_fault(text: &[u8]) -> Option<Reason> {
+pub(crate) fn boolean_fault(text: &[u8]) -> Option<Reason> {
     match boolean(text) {
         Some(_) => None,
         None => Some(Reason::BadBoolean),
@@ -253,16 +271,44 @@ fn is_contradictory(text: &[u8]) -> bool {
     tabs && others
 }
 
-/// Tells whether a path begins with the home folder.
-fn is_in_home(path: &[u8]) -> bool {
+/// Tells whether a path begins with a home folder that is not known.
+pub(crate) fn is_unexpanded(path: &[u8], has_home: bool) -> bool {
     match path {
-        [b'~'] | [b'~', b'/', ..] => true,
+        [b'~'] | [b'~', b'/', ..] => !has_home,
+        [b'~', ..] => true,
         _ => false,
     }
 }
 
+/// Returns the number that a text of at most ten octal digits says.
+fn octal(text: &[u8]) -> Option<u64> {
+    let mut value = 0u64;
+    for byte in text {
+        match *byte {
+            b'0'..=b'7' if text.len() <= 10 => {
+                value = value.checked_mul(8)?.checked_add(u64::from(*byte & 7))?;
+            }
+            _ => return None,
+        }
+    }
+    Some(value)
+}
+
+/// Returns the reason against a value of `core.sharedRepository`.
+///
+/// A mode has to let the owner read and write. The numbers 1 and 2 are words of old.
+fn shared_fault(text: &[u8]) -> Option<Reason> {
+    if is_any(text, &["umask", "group", "all", "world", "everybody"]) {
+        return None;
+    }
+    match octal(text) {
+        Some(mode) => unless(mode <= 2 || mode & 0o600 == 0o600, Reason::BadValue),
+        None => boolean_fault(text),
+    }
+}
+
 /// Returns a reason if a condition does not hold.
-fn unless(holds: bool, reason: Reason) -> Option<Reason> {
+pub(crate) fn unless(holds: bool, reason: Reason) -> Option<Reason> {
     if holds { None } else { Some(reason) }
 }
 
@@ -281,10 +327,11 @@ fn fault_of_text(kind: Kind, text: &[u8], has_home: bool) -> Option<Reason> {
         Kind::Level => range_fault(text, -1, 9, Reason::BadValue),
         Kind::Abbrev => abbrev_fault(text),
         Kind::Text => None,
-        Kind::Path => unless(has_home || !is_in_home(text), Reason::UnexpandedPath),
+        Kind::Path => unless(!is_unexpanded(text, has_home), Reason::UnexpandedPath),
         Kind::Character => unless(text.len() == 1 || is_word(text, b"auto"), Reason::BadValue),
         Kind::WhiteSpace => unless(!is_contradictory(text), Reason::BadValue),
         Kind::Color => unless(is_color_value(text), Reason::BadValue),
+        Kind::Shared => shared_fault(text),
     }
 }
 
@@ -292,7 +339,8 @@ fn fault_of_text(kind: Kind, text: &[u8], has_home: bool) -> Option<Reason> {
 fn fault(kind: Kind, value: Option<&[u8]>, has_home: bool) -> Option<Reason> {
     match (value, kind) {
         (Some(text), _) => fault_of_text(kind, text, has_home),
-        (None, Kind::Boolean | Kind::BooleanOrWord(_) | Kind::BooleanOrExact(_)) => None,
+        (None, Kind::Boolean | Kind::BooleanOrWord(_) | Kind::BooleanOrExact(_) | Kind::Shared) =>
+            None,
         (None, _) => Some(Reason::MissingValue),
     }
 }
@@ -311,9 +359,13 @@ fn kind_of(name: &[u8]) -> Option<Kind> {
 }
 
 /// Returns the error for the value of a setting.
-fn error_of<A: Allocator + Copy>(alloc: A, reason: Reason, entry: &Entry<A>) -> DiscoverError<A> {
+pub(crate) fn error_of<A: Allocator + Copy>(
+    alloc: A,
+    reason: Reason,
+    entry: &Entry<A>,
+) -> DiscoverError<A> {
     match (reason, value_of(entry)) {
-        (Reason::UnexpandedPath, Some(path)) => about(alloc, reason, path),
+        (Reason::UnexpandedPath | Reason::BadRefspec, Some(text)) => about(alloc, reason, text),
         (Reason::BadBoolean | Reason::BadNumber | Reason::BadValue, Some(value)) => {
             about_value(alloc, reason, &entry.name, value)
         }
@@ -357,6 +409,21 @@ fn check_reading<A: Allocator + Copy>(
         if let Some(entry) = last(entries, name.as_bytes()) {
             if fault(*kind, value_of(entry), true).is_some() {
                 return Err(about(alloc, Reason::BadReadSetting, &entry.name));
+            }
+        }
+    }
+    Ok(())
+}
+
+/// Checks the settings that git reads when it reads or writes the index.
+pub(crate) fn check_index<A: Allocator + Copy>(
+    alloc: A,
+    entries: &[Entry<A>],
+) -> Result<(), DiscoverError<A>> {
+    for (name, kind) in INDEX.iter() {
+        if let Some(entry) = last(entries, name.as_bytes()) {
+            if let Some(reason) = fault(*kind, value_of(entry), true) {
+                return Err(error_of(alloc, reason, entry));
             }
         }
     }

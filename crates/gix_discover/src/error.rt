@@ -19,8 +19,10 @@ pub enum Reason {
     GitfileNoPath,
     /// The file `.git` has more than 1 MiB.
     GitfileTooLarge,
-    /// The file `commondir` is empty.
+    /// The file `commondir` is empty, or a symbolic link that leads nowhere.
     EmptyCommonDir,
+    /// `core.worktree` or `GIT_WORK_TREE` names a path that does not lead to a work tree.
+    NoWorkTree,
     /// The repository belongs to another user, and `safe.directory` does not name it.
     DubiousOwnership,
     /// The repository is bare, and `safe.bareRepository` is `explicit`.
@@ -51,7 +53,9 @@ pub enum Reason {
     BadValue,
     /// The value of the setting is malformed, and git fails when it first looks for an object.
     BadReadSetting,
-    /// The path of the setting begins with `~`, and `HOME` is not set.
+    /// The value of the setting is not a refspec.
+    BadRefspec,
+    /// The path of the setting begins with `~user`, or with `~`, and `HOME` is not set.
     UnexpandedPath,
     /// Config files include one another more than ten deep.
     IncludeDepth,
@@ -192,6 +196,7 @@ fn reason_text(reason: Reason) -> &'static str {
         Reason::GitfileNoPath => "no path in gitfile",
         Reason::GitfileTooLarge => "too large to be a .git file",
         Reason::EmptyCommonDir => "failed to read",
+        Reason::NoWorkTree => "cannot enter the work tree",
         Reason::DubiousOwnership => "detected dubious ownership in repository at",
         Reason::BareRepositoryRefused => "cannot use bare repository",
         Reason::BadBareRepository => "bad value of a setting",
@@ -207,6 +212,7 @@ fn reason_text(reason: Reason) -> &'static str {
         Reason::BadAbbrev => "abbrev length out of range",
         Reason::BadValue => "malformed value",
         Reason::BadReadSetting => "malformed value for",
+        Reason::BadRefspec => "invalid refspec",
         Reason::UnexpandedPath => "failed to expand user dir in:",
         Reason::IncludeDepth => "exceeded maximum include depth (10) at",
         Reason::RelativeInclude => "relative config includes must come from files",

@@ -60,7 +60,7 @@ pub(crate) fn needed<'a, A: Allocator + Copy>(
     }
 }
 
-/// Reads a version.
+/// Reads a version, which fits 32 bits.
 fn version<A: Allocator + Copy>(
     alloc: A,
     name: &[u8],
@@ -68,8 +68,8 @@ fn version<A: Allocator + Copy>(
 ) -> Result<i64, DiscoverError<A>> {
     let text = needed(alloc, name, value)?;
     match number(text) {
-        Some(number) => Ok(number),
-        None => Err(about_value(alloc, Reason::BadNumber, name, text)),
+        Some(number) if number.unsigned_abs() < 1 << 31 => Ok(number),
+        _ => Err(about_value(alloc, Reason::BadNumber, name, text)),
     }
 }
 
@@ -148,10 +148,33 @@ impl<A: Allocator + Copy> Format<A> {
         let value = value_of(entry);
         if is_name(&entry.name, b"core", None, b"repositoryformatversion") {
             self.version = Some(version(alloc, &entry.name, value)?);
-        } else if is_name(&entry.name, b"extensions", None, b"worktreeconfig") {
-            self.worktree_config = boolean_of(alloc, &entry.name, value)?;
+        } else if let Some(extension) = entry.name.strip_prefix(b"extensions.") {
+            self.take_extension(alloc, extension, entry)?;
         }
         self.take_place(alloc, entry)
+    }
+
+    /// Takes an extension. git checks its value in a repository of any version.
+    fn take_extension(
+        &mut self,
+        alloc: A,
+        extension: &[u8],
+        entry: &Entry<A>,
+    ) -> Result<(), DiscoverError<A>> {
+        let value = value_of(entry);
+        if extension == b"worktreeconfig".as_slice() {
+            self.worktree_config = boolean_of(alloc, &entry.name, value)?;
+        } else if extension == b"preciousobjects".as_slice() {
+            boolean_of(alloc, &entry.name, value)?;
+        } else if extension == b"partialclone".as_slice() {
+            needed(alloc, &entry.name, value)?;
+        } else if extension == b"objectformat".as_slice() {
+            let format = needed(alloc, &entry.name, value)?;
+            if format != b"sha1".as_slice() && format != b"sha256".as_slice() {
+                return Err(about(alloc, Reason::ObjectFormat, &entry.name));
+            }
+        }
+        Ok(())
     }
 
     /// Takes all settings of `config`.
@@ -173,8 +196,9 @@ impl<A: Allocator + Copy> Format<A> {
 
 /// Reads and checks the format of a repository.
 ///
-/// A repository without a version has no format, as in git: its extensions, `core.bare` and
-/// `core.worktree` do not count. `core.worktree` does not count in a linked worktree, either.
+/// A repository whose version is missing or negative has no format, as in git: its extensions,
+/// `core.bare` and `core.worktree` do not count. Malformed values are refused even so. In a linked
+/// worktree `core.worktree` does not count, either.
 pub(crate) fn read_format<F: Folders, A: Allocator + Copy>(
     alloc: A,
     files: &F,
@@ -191,7 +215,12 @@ pub(crate) fn read_format<F: Folders, A: Allocator + Copy>(
         Some(version) if version > 1 => {
             return Err(about(alloc, Reason::FormatVersion(version), git_dir));
         }
-        Some(version) => check_extensions(alloc, version, &list)?,
+        Some(version) => {
+            check_extensions(alloc, version, &list)?;
+            if version < 0 {
+                return Ok(Format::new());
+            }
+        }
     }
     if is_linked {
         format.work_tree = None;

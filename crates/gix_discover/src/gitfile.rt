@@ -5,9 +5,10 @@ use crate::error::{DiscoverError, Reason, about};
 use crate::head::{is_head, read_link};
 use crate::paths::{resolved, within, without_line_end};
 use crate::places::{PathKind, Places};
-use crate::source::{is_folder, place, read_file, read_front};
+use crate::source::{is_folder, is_known, is_there, place, read_file, read_front};
 use gix_config::before_zero;
 use std::alloc::Allocator;
+use std::io::ErrorKind;
 
 /// How many bytes a file `.git` has at most, as in git.
 const MOST_BYTES: usize = 1 << 20;
@@ -56,6 +57,30 @@ pub(crate) struct Common<A: Allocator> {
     pub(crate) is_named: bool,
 }
 
+/// Returns the folder that the file `commondir` of a git folder names; `None` if there is no file.
+///
+/// Of its path only the last name may be missing.
+fn named_dir<F: Places, A: Allocator + Copy>(
+    alloc: A,
+    files: &F,
+    git_dir: &[u8],
+) -> Result<Option<Vec<u8, A>>, DiscoverError<A>> {
+    let file = within(alloc, git_dir, b"commondir")?;
+    let mut text = Vec::new(alloc);
+    if !read_file(alloc, files, &file, &mut text)? && !is_there(alloc, files, &file)? {
+        return Ok(None);
+    }
+    if text.is_empty() {
+        return Err(about(alloc, Reason::EmptyCommonDir, &file));
+    }
+    let path = resolved(alloc, git_dir, before_zero(without_line_end(&text)))?;
+    if is_known(alloc, files, &path)? {
+        Ok(Some(path))
+    } else {
+        Err(about(alloc, Reason::Failed(ErrorKind::NotFound), &path))
+    }
+}
+
 /// Returns the folder that the worktrees of a repository share.
 pub(crate) fn common_dir<F: Places, A: Allocator + Copy>(
     alloc: A,
@@ -69,22 +94,16 @@ pub(crate) fn common_dir<F: Places, A: Allocator + Copy>(
             is_named: true,
         });
     }
-    let file = within(alloc, git_dir, b"commondir")?;
-    let mut text = Vec::new(alloc);
-    if !read_file(alloc, files, &file, &mut text)? {
-        return Ok(Common {
+    match named_dir(alloc, files, git_dir)? {
+        Some(path) => Ok(Common {
+            path,
+            is_named: true,
+        }),
+        None => Ok(Common {
             path: git_dir.to_vec(alloc)?,
             is_named: false,
-        });
+        }),
     }
-    if text.is_empty() {
-        return Err(about(alloc, Reason::EmptyCommonDir, &file));
-    }
-    let path = resolved(alloc, git_dir, before_zero(without_line_end(&text)))?;
-    Ok(Common {
-        path,
-        is_named: true,
-    })
 }
 
 /// Tells whether a folder has a valid `HEAD`: a file, or a symbolic link to a name below `refs/`.

@@ -26,6 +26,8 @@ mod layout;
 mod owner;
 mod paths;
 mod places;
+mod refspec;
+mod remotes;
 mod settings;
 mod small;
 mod source;

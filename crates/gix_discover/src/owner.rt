@@ -1,5 +1,6 @@
 //! Checks to whom a repository belongs (git-config, "safe.directory").
 
+use crate::checks::is_unexpanded;
 use crate::environment::{Environment, Variable};
 use crate::error::{DiscoverError, Reason, about};
 use crate::include::Reader;
@@ -40,7 +41,11 @@ fn expanded<A: Allocator + Copy>(
     environment: &Environment<A>,
     path: &[u8],
 ) -> Result<Vec<u8, A>, DiscoverError<A>> {
-    match (path, environment.get(Variable::Home)) {
+    let home = environment.get(Variable::Home);
+    if is_unexpanded(path, home.is_some()) {
+        return Err(about(alloc, Reason::UnexpandedPath, path));
+    }
+    match (path, home) {
         ([b'~'] | [b'~', b'/', ..], Some(home)) => {
             Ok(joined(alloc, home, b"", path.get(1..).unwrap_or(&[]))?)
         }

@@ -6,7 +6,7 @@ ghost use Rattle.gix_config.specs.Names.{name_of};
 ghost use Rattle.gix_config.specs.Values.{shown, all_shown, values_of, last_value};
 ghost use Rattle.gix_discover.specs.Settings.{settings_of};
 
-use crate::checks::check;
+use crate::checks::{check, check_index};
 use crate::environment::{Environment, Variable};
 use crate::error::{DiscoverError, Reason, about, about_value};
 use crate::format::{boolean_of, needed};
@@ -14,6 +14,7 @@ use crate::include::{Known, Reader, Reading};
 use crate::layout::Layout;
 use crate::paths::within;
 use crate::places::Places;
+use crate::remotes::check_remotes;
 use gix_config::{Entry, all_values, is_word, number};
 use std::alloc::{AllocError, Allocator, Global};
 
@@ -212,6 +213,38 @@ impl<A: Allocator + Copy> Settings<A> {
     /// - `OutOfMemory` if an allocation failed.
     pub fn uses_replace_refs(&self, alloc: A) -> Result<bool, DiscoverError<A>> {
         self.boolean(alloc, b"core", None, b"usereplacerefs", true)
+    }
+
+    /// Checks the settings that git reads when it reads or writes the index, as `index.threads`.
+    ///
+    /// git looks at some of them only if it writes the index (git-config, "index.threads",
+    /// "core.sharedRepository", "splitIndex.maxPercentChange").
+    ///
+    /// # Errors
+    ///
+    /// - `MissingValue`, `BadBoolean`, `BadNumber` or `BadValue` if git may refuse the last value
+    ///   of one of them.
+    /// - `OutOfMemory` if an allocation failed.
+    pub fn check_for_index(&self, alloc: A) -> Result<(), DiscoverError<A>> {
+        check_index(alloc, &self.entries)
+    }
+
+    /// Checks the settings of all branches and remotes, as git does before it looks for a sibling.
+    ///
+    /// A sibling is the upstream of a branch, or what it is pushed to (gitrevisions, `@{upstream}`
+    /// and `@{push}`). git checks each value of each of these settings, whatever branch or remote
+    /// it is about (git-config, "branch.<name>.remote", "remote.<name>.url",
+    /// "url.<base>.insteadOf").
+    ///
+    /// # Errors
+    ///
+    /// - `MissingValue` if a setting has no `=`, and needs a value.
+    /// - `BadBoolean` if a value is not a boolean.
+    /// - `BadRefspec` if a value of `fetch` or `push` is not a refspec (git-fetch, "<refspec>").
+    /// - `BadConfigKey` if a branch has an empty name.
+    /// - `OutOfMemory` if an allocation failed.
+    pub fn check_remotes(&self, alloc: A) -> Result<(), DiscoverError<A>> {
+        check_remotes(alloc, &self.entries)
     }
 
     /// Returns the last value of `branch.NAME.KEY`, as of `remote`, `merge` or `pushremote`.

@@ -1,6 +1,7 @@
 //! Opens and reads whole files, and names the path in each error.
 
 use crate::error::{DiscoverError, Reason, about};
+use crate::paths::folder_of;
 use crate::places::{PathKind, Place, Places};
 use gix_odb::files::{FileError, Folders, Opened};
 use std::alloc::Allocator;
@@ -82,6 +83,38 @@ pub(crate) fn place<F: Places, A: Allocator + Copy>(
     match files.place(path) {
         Ok(place) => Ok(place),
         Err(error) => Err(about(alloc, reason_of(error), path)),
+    }
+}
+
+/// Tells whether something is at a path, which may be a symbolic link that leads nowhere.
+pub(crate) fn is_there<F: Places, A: Allocator + Copy>(
+    alloc: A,
+    files: &F,
+    path: &[u8],
+) -> Result<bool, DiscoverError<A>> {
+    match files.link_place(path) {
+        Ok(place) => Ok(place.is_some()),
+        Err(error) => Err(about(alloc, reason_of(error), path)),
+    }
+}
+
+/// Tells whether something is at a path, or only its last name is missing, as git wants of paths.
+///
+/// A symbolic link that leads nowhere does not count.
+pub(crate) fn is_known<F: Places, A: Allocator + Copy>(
+    alloc: A,
+    files: &F,
+    path: &[u8],
+) -> Result<bool, DiscoverError<A>> {
+    if place(alloc, files, path)?.is_some() {
+        return Ok(true);
+    }
+    if is_there(alloc, files, path)? {
+        return Ok(false);
+    }
+    match folder_of(path) {
+        [] => Ok(!path.is_empty()),
+        folder => is_folder(alloc, files, folder),
     }
 }
 

@@ -8,7 +8,7 @@ use crate::layout::Layout;
 use crate::owner::{check_bare, check_named, is_own};
 use crate::paths::{absolute, is_absolute, resolved, within};
 use crate::places::{PathKind, Places};
-use crate::source::{place, reason_of};
+use crate::source::{is_folder, is_known, place, reason_of};
 use std::alloc::Allocator;
 
 /// Says how a git folder was found.
@@ -242,6 +242,32 @@ impl<'a, F: Places, A: Allocator + Copy> Search<'a, F, A> {
         }
     }
 
+    /// Checks the path of a work tree, of which only the last name may be missing.
+    fn check_work_tree(&self, path: &[u8]) -> Result<(), DiscoverError<A>> {
+        if is_known(self.alloc, self.files, path)? {
+            Ok(())
+        } else {
+            Err(about(self.alloc, Reason::NoWorkTree, path))
+        }
+    }
+
+    /// Returns the work tree that `core.worktree` names. A relative path has to lead to a folder.
+    fn configured_work_tree(
+        &self,
+        git_dir: &[u8],
+        path: &[u8],
+    ) -> Result<Vec<u8, A>, DiscoverError<A>> {
+        let top = resolved(self.alloc, git_dir, path)?;
+        if is_absolute(path) {
+            self.check_work_tree(path)?;
+        } else if path.is_empty()
+            || !is_folder(self.alloc, self.files, &within(self.alloc, &top, b".")?)?
+        {
+            return Err(about(self.alloc, Reason::NoWorkTree, path));
+        }
+        Ok(top)
+    }
+
     /// Returns the top folder of the work tree, as for `GIT_DIR`; `None` if there is none.
     fn explicit_work_tree(
         &self,
@@ -250,13 +276,14 @@ impl<'a, F: Places, A: Allocator + Copy> Search<'a, F, A> {
         is_bare: bool,
     ) -> Result<Option<Vec<u8, A>>, DiscoverError<A>> {
         if let Some(path) = self.environment.get(Variable::WorkTree) {
+            self.check_work_tree(path)?;
             return Ok(Some(path.to_vec(self.alloc)?));
         }
         if is_bare {
             return Ok(None);
         }
         if let Some(path) = &format.work_tree {
-            return Ok(Some(resolved(self.alloc, git_dir, path)?));
+            return Ok(Some(self.configured_work_tree(git_dir, path)?));
         }
         if self.environment.is_set(Variable::ImplicitWorkTree, true) {
             Ok(Some(Vec::new(self.alloc)))
@@ -391,6 +418,7 @@ impl<'a, F: Places, A: Allocator + Copy> Search<'a, F, A> {
 /// - `NoRepository` or `NoRepositoryUpToMount` if there is no repository.
 /// - `NotARepository`, `GitfileFormat`, `GitfileNoPath`, `GitfileTooLarge` or `EmptyCommonDir` if
 ///   `GIT_DIR` or a file does not lead to one.
+/// - `NoWorkTree` if `GIT_WORK_TREE` or `core.worktree` does not lead to a work tree.
 /// - `DubiousOwnership` if it belongs to another user.
 /// - `BareRepositoryRefused` or `BadBareRepository`, by `safe.bareRepository`.
 /// - `FormatVersion`, `UnknownExtension`, `ExtensionNeedsVersion1`, `ObjectFormat` or `RefStorage` if
