@@ -12,8 +12,19 @@ use gix_odb::Store;
 use gix_odb::files::Folders;
 use gix_revision::graph::SourceCommit;
 use gix_revision::hash::ObjectId;
+use gix_revision::object::Kind;
 use std::alloc::{AllocError, Allocator};
-use std::collections::BTreeMap;
+use std::collections::{BTreeMap, BTreeSet};
+
+/// How many changed objects are looked at when a repository is opened.
+const MOST_LOOKED_AT: usize = 1024;
+
+/// How many commits of the commit-graph are compared with their objects, before a batch goes on to
+/// the next question.
+const MOST_COMPARED: usize = 16;
+
+/// The bits of a commit date that a commit-graph file has (gitformat-commit-graph, "Commit Data").
+const DATE_BITS: i64 = 0x3_ffff_ffff;
 
 /// The commits whose parents, or whose content, the repository changes.
 #[derive(Drop)]
@@ -66,6 +77,28 @@ impl<A: Allocator + Copy> Changes<A> {
         }
     }
 
+    /// Returns whether each commit that is given parents is one, and each object that is replaced
+    /// stands for one of its own kind.
+    ///
+    /// Only the first 1,024 of each are looked at. One that is not read counts as right.
+    pub(crate) fn are_of_right_kind<F: Folders + Drop>(
+        &self,
+        alloc: A,
+        store: &mut Store<F, A>,
+    ) -> Result<bool, AllocError> {
+        for id in self.parents.keys().take(MOST_LOOKED_AT) {
+            if kind_of(alloc, store, *id)?.unwrap_or(Kind::Commit) != Kind::Commit {
+                return Ok(false);
+            }
+        }
+        for (id, by) in self.replaced.iter().take(MOST_LOOKED_AT) {
+            if !are_of_one_kind(alloc, store, *id, *by)? {
+                return Ok(false);
+            }
+        }
+        Ok(true)
+    }
+
     /// Returns the object that stands for `id`: itself, or what leads on from it in at most four
     /// steps. Returns `None` if there are more. git then fails.
     pub(crate) fn stand_in(&self, id: ObjectId) -> Option<ObjectId> {
@@ -80,6 +113,39 @@ impl<A: Allocator + Copy> Changes<A> {
     }
 }
 
+/// Returns the kind of an object; `None` if it is not read.
+fn kind_of<F: Folders + Drop, A: Allocator + Copy>(
+    alloc: A,
+    store: &mut Store<F, A>,
+    id: ObjectId,
+) -> Result<Option<Kind>, AllocError> {
+    match store.kind(alloc, id) {
+        Ok(kind) => Ok(Some(kind)),
+        Err(gix_odb::Error::OutOfMemory) => Err(AllocError),
+        Err(_) => Ok(None),
+    }
+}
+
+/// Returns whether two objects have the same kind. One that is not read has any.
+fn are_of_one_kind<F: Folders + Drop, A: Allocator + Copy>(
+    alloc: A,
+    store: &mut Store<F, A>,
+    first: ObjectId,
+    second: ObjectId,
+) -> Result<bool, AllocError> {
+    let first = kind_of(alloc, store, first)?;
+    let second = kind_of(alloc, store, second)?;
+    Ok(first.is_none() || second.is_none() || first == second)
+}
+
+/// Returns whether a commit-graph file says of a commit what its object says.
+///
+/// The file has the lower 34 bits of a date.
+fn is_same<A: Allocator>(row: &SourceCommit<A>, object: &SourceCommit<A>) -> bool {
+    row.parents.as_slice() == object.parents.as_slice()
+        && row.time & DATE_BITS == object.time & DATE_BITS
+}
+
 /// Reads the commits of a repository.
 #[derive(Drop)]
 pub(crate) struct Commits<F: Folders + Drop, A: Allocator + Copy> {
@@ -92,6 +158,8 @@ pub(crate) struct Commits<F: Folders + Drop, A: Allocator + Copy> {
     pub(crate) error: Option<gix_odb::Error>,
     /// Why the commit-graph cannot be used further.
     pub(crate) damage: Option<gix_graph_rows::Error>,
+    /// The commits of the commit-graph that were compared with their objects.
+    pub(crate) compared: BTreeSet<ObjectId, A>,
 }
 
 /// Returns the error of a history for one of the object database.
@@ -131,6 +199,32 @@ impl<F: Folders + Drop, A: Allocator + Copy> Commits<F, A> {
             Ok(is_there) => Ok(is_there),
             Err(gix_graph_rows::Error::OutOfMemory) => Err(AllocError),
             Err(_) => Ok(false),
+        }
+    }
+
+    /// Compares a commit of the commit-graph with its object. Returns `false` if the file says
+    /// something else.
+    ///
+    /// A commit is compared once, and at most 16 are. One that the file lacks, or whose object is
+    /// not read, counts as right.
+    pub(crate) fn is_row_right(&mut self, id: ObjectId) -> Result<bool, AllocError> {
+        let Some(rows) = self.rows.as_mut() else {
+            return Ok(true);
+        };
+        if self.compared.len() >= MOST_COMPARED || self.compared.contains(&id) {
+            return Ok(true);
+        }
+        let row = match rows.commit(self.alloc, id) {
+            Ok(Some(row)) => row,
+            Ok(None) => return Ok(true),
+            Err(gix_graph_rows::Error::OutOfMemory) => return Err(AllocError),
+            Err(_) => return Ok(false),
+        };
+        self.compared.insert(id)?;
+        match self.store.commit(self.alloc, id) {
+            Ok(object) => Ok(is_same(&row, &object)),
+            Err(gix_odb::Error::OutOfMemory) => Err(AllocError),
+            Err(_) => Ok(true),
         }
     }
 

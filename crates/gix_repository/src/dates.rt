@@ -72,22 +72,26 @@ fn push_time<A: Allocator>(to: &mut Vec<u8, A>, clock: DateTime, zone: i32) -> R
     }
 }
 
-/// Adds a date in the form `Thu, 7 Apr 2005 15:13:13 -0700`, of which `zone` is -700. A date that
-/// has none is that of the epoch, as in git.
+/// Adds a date in the form `Thu, 7 Apr 2005 15:13:13 -0700`, of which `zone` is -700.
+///
+/// # Errors
+///
+/// - `NotSupported` if its clock shows a year before 1970 or after 9999. git refuses some of these
+///   dates.
+/// - `OutOfMemory` if an allocation failed.
 pub(crate) fn push_full_date<A: Allocator>(
     to: &mut Vec<u8, A>,
     seconds: u64,
     zone: i32,
 ) -> Result<(), Refusal> {
     let offset = offset_of(i64::from(zone)).unwrap_or(0);
-    match clock(i64::try_from(seconds).unwrap_or(i64::MAX), offset) {
-        Some(clock) => {
-            push_day(to, clock)?;
-            push_time(to, clock, zone)
-        }
-        None => {
-            to.extend_from_slice(b"Thu, 1 Jan 1970 00:00:00 +0000")?;
-            Ok(())
-        }
+    let seconds = i64::try_from(seconds).unwrap_or(i64::MAX);
+    if seconds.saturating_add(offset) < 0 {
+        return Err(Refusal::NotSupported);
     }
+    let Some(clock) = clock(seconds, offset) else {
+        return Err(Refusal::NotSupported);
+    };
+    push_day(to, clock)?;
+    push_time(to, clock, zone)
 }

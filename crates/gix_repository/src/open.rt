@@ -15,6 +15,7 @@ use gix_revision::Seed;
 use gix_revision::date::Time;
 use gix_revision::hash::ObjectId;
 use std::alloc::{AllocError, AllocFailed, Allocator, Global};
+use std::collections::BTreeSet;
 
 /// The id with zeros only, which no object has.
 const ZEROS: ObjectId = ObjectId([0u8; 20]);
@@ -41,6 +42,9 @@ pub enum OpenError<A: Allocator = Global> {
     Reference(gix_ref::Error),
     /// The file `shallow` or `info/grafts` is not read, or is malformed.
     Changes,
+    /// The file `shallow` or `info/grafts` names an object that is no commit, or an object is
+    /// replaced by one of another kind.
+    WrongKind,
     /// In authentic mode, the repository changes commits.
     IsChanged,
     /// An allocation failed.
@@ -187,8 +191,9 @@ fn changes_of<F: Folders + Drop, A: Allocator + Copy>(
     references: &mut References<F, A>,
 ) -> Result<Changes<A>, OpenError<A>> {
     let mut changes = Changes::new(alloc);
-    changes.add_shallow(alloc, files, &layout.shallow)?;
+    // A commit in both files has no parents, as in git.
     changes.add_grafts(alloc, files, &layout.grafts)?;
+    changes.add_shallow(alloc, files, &layout.shallow)?;
     let is_switched_off = environment.get(Variable::NoReplaceObjects).is_some();
     if settings.uses_replace_refs(alloc)? && !is_switched_off {
         let base = environment.get(Variable::ReplaceRefBase);
@@ -242,6 +247,7 @@ impl<F: Places + Copy + Drop, A: Allocator + Copy> Repository<F, A> {
     ///
     /// - `Discover` if it is not found, or if it or its settings are refused.
     /// - `Object`, `Reference` or `Changes` if files were not read.
+    /// - `WrongKind` if a change is about an object of another kind.
     /// - `IsChanged` if commits are changed, and the mode is authentic.
     /// - `OutOfMemory` if an allocation failed.
     pub fn open(
@@ -265,6 +271,10 @@ impl<F: Places + Copy + Drop, A: Allocator + Copy> Repository<F, A> {
         if is_authentic && !changes.is_empty() {
             return Err(OpenError::IsChanged);
         }
+        let mut store = store_of(alloc, files, &layout)?;
+        if !changes.are_of_right_kind(alloc, &mut store)? {
+            return Err(OpenError::WrongKind);
+        }
         let uses_rows = !is_authentic && changes.is_empty() && settings.uses_commit_graph(alloc)?;
         let rows = if uses_rows {
             rows_of(alloc, files, &layout.objects)?
@@ -273,11 +283,12 @@ impl<F: Places + Copy + Drop, A: Allocator + Copy> Repository<F, A> {
         };
         let commits = Commits {
             alloc,
-            store: store_of(alloc, files, &layout)?,
+            store,
             rows,
             changes,
             error: None,
             damage: None,
+            compared: BTreeSet::new(alloc),
         };
         Ok(Repository {
             alloc,

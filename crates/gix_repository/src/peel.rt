@@ -37,6 +37,9 @@ impl<F: Folders + Drop, A: Allocator + Copy> Repository<F, A> {
 
     /// Returns the kind of an object, of the one that stands for it if it is replaced.
     ///
+    /// A commit of the commit-graph is compared with its object, as git reads the commits from which
+    /// a question starts. If they differ, the commit-graph is used no more.
+    ///
     /// # Errors
     ///
     /// - `Object` if the object was not read.
@@ -45,18 +48,23 @@ impl<F: Folders + Drop, A: Allocator + Copy> Repository<F, A> {
     pub fn kind(&mut self, id: ObjectId) -> Result<Kind, Refusal> {
         // A commit that was read is one.
         if self.origin(id).is_some() {
+            self.compare_start(id)?;
             return Ok(Kind::Commit);
         }
         let alloc = self.alloc;
         let by = self.stand_in(id)?;
         match self.history.reader.store.kind(alloc, by) {
+            Ok(Kind::Commit) => {
+                self.compare_start(id)?;
+                Ok(Kind::Commit)
+            }
             Ok(kind) => Ok(kind),
             Err(error) => Err(not_read(id, by, error)),
         }
     }
 
     /// Returns whether the commit-graph has the commit `id`, and the object database has an object
-    /// with this id. The object is not read.
+    /// with this id. The commit is compared as [`Repository::kind`] does it.
     ///
     /// # Errors
     ///
@@ -64,6 +72,7 @@ impl<F: Folders + Drop, A: Allocator + Copy> Repository<F, A> {
     /// - `OutOfMemory` if an allocation failed.
     pub fn is_in_graph(&mut self, id: ObjectId) -> Result<bool, Refusal> {
         let alloc = self.alloc;
+        self.compare_start(id)?;
         if !self.history.reader.has_row(id)? {
             return Ok(false);
         }

@@ -13,7 +13,7 @@ use gix_revision::Seed;
 use gix_revision::date::Time;
 use gix_revision::graph::SourceCommit;
 use gix_revision::hash::ObjectId;
-use std::alloc::{Allocator, Global};
+use std::alloc::{AllocError, Allocator, Global};
 
 /// Reads a repository, and answers questions about it.
 ///
@@ -150,6 +150,7 @@ impl<F: Folders + Drop, A: Allocator + Copy> Repository<F, A> {
         self.messages.clear();
         self.is_quiet = false;
         self.is_silent = false;
+        self.history.reader.compared.clear();
         self.references.refresh();
     }
 
@@ -160,6 +161,19 @@ impl<F: Folders + Drop, A: Allocator + Copy> Repository<F, A> {
         self.history.reader.rows = None;
         self.history.reader.damage = None;
         self.history.forget(self.alloc);
+    }
+
+    /// Compares a commit from which a question starts with its object, as git reads it. If the
+    /// commit-graph says something else of it, the file is used no more.
+    ///
+    /// # Errors
+    ///
+    /// Fails if an allocation failed.
+    pub(crate) fn compare_start(&mut self, id: ObjectId) -> Result<(), AllocError> {
+        if !self.history.reader.is_row_right(id)? {
+            self.leave_graph();
+        }
+        Ok(())
     }
 
     /// Answers a question about the history.

@@ -4,6 +4,7 @@
 use crate::error::Refusal;
 use crate::names::{Named, read, unabbreviated};
 use crate::repository::Repository;
+use gix_discover::Reason;
 use gix_odb::files::Folders;
 use gix_revision::spec::parse::delegate::SiblingBranch;
 use std::alloc::{AllocError, Allocator};
@@ -238,6 +239,18 @@ impl<F: Folders + Drop, A: Allocator + Copy> Repository<F, A> {
         }
     }
 
+    /// Checks the settings of all branches and remotes, as git does before it looks for a sibling.
+    fn check_remotes(&self) -> Result<(), Refusal> {
+        let Err(error) = self.settings.check_remotes(self.alloc) else {
+            return Ok(());
+        };
+        if error.reason == Reason::OutOfMemory {
+            Err(Refusal::OutOfMemory)
+        } else {
+            Err(Refusal::NotSupported)
+        }
+    }
+
     /// Returns what the sibling of the branch stands for whose short name is written.
     pub(crate) fn sibling_of(
         &mut self,
@@ -247,6 +260,7 @@ impl<F: Folders + Drop, A: Allocator + Copy> Repository<F, A> {
         if unabbreviated(written) == b"HEAD".as_slice() {
             self.sibling_here(kind)
         } else {
+            self.check_remotes()?;
             self.sibling(written, kind)
         }
     }
@@ -259,6 +273,7 @@ impl<F: Folders + Drop, A: Allocator + Copy> Repository<F, A> {
 
     /// Returns what the sibling of the current branch stands for.
     pub(crate) fn sibling_here(&mut self, kind: SiblingBranch) -> Result<Named<A>, Refusal> {
+        self.check_remotes()?;
         let Some(branch) = self.branch()? else {
             return self.no_branch();
         };
