@@ -28,6 +28,9 @@ use gix_repository::Refusal;
 use gix_revision::hash::ObjectId;
 use gix_revision::object::Kind;
 
+/// How many commits with names are compared with their objects.
+const MOST_COMPARED: usize = 16;
+
 /// Describes commits, one after another.
 #[derive(Drop)]
 struct Describer<'w> {
@@ -258,6 +261,14 @@ impl<'w> Describer<'w> {
         }
     }
 
+    /// Has the first commits with names compared with their objects, as git reads these commits.
+    fn compare_named(&self, session: &mut Session<'_>) -> Result<(), Stop> {
+        for name in self.table.names().iter().take(MOST_COMPARED) {
+            session.repository.is_in_graph(name.object)?;
+        }
+        Ok(())
+    }
+
     /// Returns the nearest name of an ancestor; `None` if there is none.
     fn nearest(
         &mut self,
@@ -267,6 +278,7 @@ impl<'w> Describer<'w> {
         if !self.table.has_taken() {
             return Ok(None);
         }
+        self.compare_named(session)?;
         let search = self.search();
         let found = walk_from(session, commit, &self.table, search)?;
         if self.question.is_none() {

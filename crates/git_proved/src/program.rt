@@ -4,7 +4,7 @@ use crate::answer::{Finished, answer, ended};
 use crate::batch::batch;
 use crate::rev_list::wants_input;
 use crate::session::Session;
-use crate::stop::{NOT_READ, Stop, fatal, not_read};
+use crate::stop::{NOT_READ, Stop, fatal, not_read, refused};
 use gix_discover::{DiscoverError, Environment, Reason};
 use gix_odb::System;
 use gix_repository::{OpenError, Opening, Repository};
@@ -90,17 +90,7 @@ fn undiscovered(alloc: Global, error: &DiscoverError) -> Stop {
                 b"'",
             ],
         ),
-        Reason::OutOfMemory => Stop::OutOfMemory,
-        _ => told(alloc, error),
-    }
-}
-
-/// Returns the end that tells what is not read.
-fn told(alloc: Global, error: &DiscoverError) -> Stop {
-    let mut text = Vec::new(alloc);
-    match write!(text, "{error}") {
-        Ok(()) => Stop::NotRead(text),
-        Err(_) => Stop::OutOfMemory,
+        _ => refused(alloc, error),
     }
 }
 
@@ -113,6 +103,10 @@ fn unopened(alloc: Global, error: &OpenError) -> Stop {
         OpenError::Changes => not_read(
             alloc,
             &[b"the file 'shallow' or 'info/grafts' cannot be read"],
+        ),
+        OpenError::WrongKind => not_read(
+            alloc,
+            &[b"'shallow', 'info/grafts' or a replacement names an object of the wrong kind"],
         ),
         OpenError::IsChanged => not_read(
             alloc,

@@ -1,7 +1,9 @@
 //! Says why a word ends without its answer.
 
+use gix_discover::{DiscoverError, Reason};
 use gix_repository::Refusal;
 use std::alloc::{AllocError, AllocFailed, Global};
+use std::io::Write;
 
 /// The status of git if it is asked for what is not there.
 pub(crate) const FATAL: u8 = 128;
@@ -58,6 +60,15 @@ pub(crate) fn not_read(alloc: Global, parts: &[&[u8]]) -> Stop {
     match joined(alloc, parts) {
         Ok(text) => Stop::NotRead(text),
         Err(_) => Stop::OutOfMemory,
+    }
+}
+
+/// Returns the end for a repository, or for settings, that are refused.
+pub(crate) fn refused(alloc: Global, error: &DiscoverError) -> Stop {
+    let mut text = Vec::new(alloc);
+    match write!(text, "{error}") {
+        Ok(()) if error.reason != Reason::OutOfMemory => Stop::NotRead(text),
+        _ => Stop::OutOfMemory,
     }
 }
 

@@ -6,7 +6,7 @@
 use crate::describe::head::{files_of, head_tree};
 use crate::describe::work_tree::{open_tree, read_index, top_of};
 use crate::session::Session;
-use crate::stop::{Stop, not_read};
+use crate::stop::{Stop, not_read, refused};
 use gix_index::{
     Difference, Entry, FileKind, Index, Look, Looked, WorkTree, are_sorted, first_difference,
 };
@@ -125,6 +125,14 @@ fn counts(session: &Session<'_>, difference: Difference<'_>) -> Result<bool, Sto
     }
 }
 
+/// Checks the settings that git reads with the index. It may refuse one that is malformed.
+fn check_settings(session: &Session<'_>) -> Result<(), Stop> {
+    match session.repository.settings().check_for_index(session.alloc) {
+        Ok(()) => Ok(()),
+        Err(error) => Err(refused(session.alloc, &error)),
+    }
+}
+
 /// Returns whether the working tree differs from the commit of `HEAD`, as git says it.
 ///
 /// # Errors
@@ -134,6 +142,7 @@ fn counts(session: &Session<'_>, difference: Difference<'_>) -> Result<bool, Sto
 /// - `OutOfMemory` if an allocation failed.
 pub(crate) fn is_dirty(session: &mut Session<'_>) -> Result<bool, Stop> {
     let top = top_of(session)?;
+    check_settings(session)?;
     let (index, written) = read_index(session, &top)?;
     let head = head_tree(session)?;
     let looked = look_at_tree(session, &index, &top, written)?;

@@ -135,20 +135,29 @@ fn followed(session: &mut Session<'_>, id: ObjectId) -> Result<Peeled, Stop> {
     }
 }
 
-/// Returns where a reference leads. `packed-refs` may say it.
+/// Returns where a reference leads. `packed-refs` may say it: to the id itself if that is no tag.
+///
+/// # Errors
+///
+/// - `Refused` if the id is that of a tag all the same. git then follows it in some questions.
+/// - Those of [`said`].
 fn leads_to(
     session: &mut Session<'_>,
     id: ObjectId,
     told: Option<ObjectId>,
 ) -> Result<Peeled, Stop> {
-    match told {
-        Some(object) => Ok(Peeled {
+    if let Some(object) = told.filter(|object| *object != id) {
+        return Ok(Peeled {
             object,
-            is_annotated: object != id,
+            is_annotated: true,
             date: None,
-        }),
-        None => followed(session, id),
+        });
     }
+    let found = followed(session, id)?;
+    if found.is_annotated && told.is_some() {
+        return Err(Stop::Refused(Refusal::NotSupported));
+    }
+    Ok(found)
 }
 
 /// Says, as git does, that an annotated tag is not read.
