@@ -1,6 +1,6 @@
 //! Has the environment variables that git reads (git, "Environment variables").
 
-use crate::error::{DiscoverError, Reason};
+use crate::error::{DiscoverError, Reason, about};
 use gix_config::{boolean, decimal};
 use std::alloc::{AllocError, Allocator, Global};
 use std::env::{Env, FillError};
@@ -314,6 +314,29 @@ impl<A: Allocator + Copy> Environment<A> {
             Some(text) => boolean(text).unwrap_or(usual),
             None => usual,
         }
+    }
+
+    /// Tells whether a variable is set, has to be a boolean, and is none.
+    fn is_bad_boolean(&self, variable: Variable) -> bool {
+        match (variable, self.get(variable)) {
+            (
+                Variable::ConfigNoSystem
+                | Variable::DiscoveryAcrossFilesystem
+                | Variable::ImplicitWorkTree,
+                Some(text),
+            ) => boolean(text).is_none(),
+            _ => false,
+        }
+    }
+
+    /// Checks the variables that have to be booleans.
+    pub(crate) fn check_booleans(&self, alloc: A) -> Result<(), DiscoverError<A>> {
+        for named in &NAMES {
+            if self.is_bad_boolean(named.variable) {
+                return Err(about(alloc, Reason::BadBoolean, named.name.as_bytes()));
+            }
+        }
+        Ok(())
     }
 
     /// Returns the settings of `GIT_CONFIG_KEY_n` and `GIT_CONFIG_VALUE_n`.

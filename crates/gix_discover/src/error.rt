@@ -11,8 +11,10 @@ pub enum Reason {
     NoRepository,
     /// There is none up to the mount point, and `GIT_DISCOVERY_ACROSS_FILESYSTEM` is not set.
     NoRepositoryUpToMount,
-    /// The path, from `GIT_DIR` or from a file `.git`, does not lead to a repository.
+    /// The path in `GIT_DIR` does not lead to a repository.
     NotARepository,
+    /// A file `.git` does not lead to a repository. The subject is the path to which it leads.
+    GitfileTarget,
     /// The file `.git` does not begin with `gitdir: `.
     GitfileFormat,
     /// The file `.git` has no path.
@@ -21,6 +23,9 @@ pub enum Reason {
     GitfileTooLarge,
     /// The file `commondir` is empty, or a symbolic link that leads nowhere.
     EmptyCommonDir,
+    /// `GIT_COMMON_DIR` names another folder than the repository itself. git then reads references
+    /// from one repository and objects from the other.
+    OtherCommonDir,
     /// `core.worktree` or `GIT_WORK_TREE` names a path that does not lead to a work tree.
     NoWorkTree,
     /// The repository belongs to another user, and `safe.directory` does not name it.
@@ -191,11 +196,12 @@ fn reason_text(reason: Reason) -> &'static str {
         Reason::NoRepository | Reason::NoRepositoryUpToMount => {
             "not a git repository (or any of the parent directories): .git"
         }
-        Reason::NotARepository => "not a git repository",
+        Reason::NotARepository | Reason::GitfileTarget => "not a git repository",
         Reason::GitfileFormat => "invalid gitfile format",
         Reason::GitfileNoPath => "no path in gitfile",
         Reason::GitfileTooLarge => "too large to be a .git file",
         Reason::EmptyCommonDir => "failed to read",
+        Reason::OtherCommonDir => "unsupported value of GIT_COMMON_DIR",
         Reason::NoWorkTree => "cannot enter the work tree",
         Reason::DubiousOwnership => "detected dubious ownership in repository at",
         Reason::BareRepositoryRefused => "cannot use bare repository",

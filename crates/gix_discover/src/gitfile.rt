@@ -81,19 +81,12 @@ fn named_dir<F: Places, A: Allocator + Copy>(
     }
 }
 
-/// Returns the folder that the worktrees of a repository share.
-pub(crate) fn common_dir<F: Places, A: Allocator + Copy>(
+/// Returns the folder that the worktrees of a repository share, as the repository itself names it.
+fn own_common_dir<F: Places, A: Allocator + Copy>(
     alloc: A,
     files: &F,
-    environment: &Environment<A>,
     git_dir: &[u8],
 ) -> Result<Common<A>, DiscoverError<A>> {
-    if let Some(path) = environment.get(Variable::CommonDir) {
-        return Ok(Common {
-            path: path.to_vec(alloc)?,
-            is_named: true,
-        });
-    }
     match named_dir(alloc, files, git_dir)? {
         Some(path) => Ok(Common {
             path,
@@ -104,6 +97,25 @@ pub(crate) fn common_dir<F: Places, A: Allocator + Copy>(
             is_named: false,
         }),
     }
+}
+
+/// Returns the folder that the worktrees of a repository share.
+///
+/// `GIT_COMMON_DIR` may only name the folder that the repository itself names.
+pub(crate) fn common_dir<F: Places, A: Allocator + Copy>(
+    alloc: A,
+    files: &F,
+    environment: &Environment<A>,
+    git_dir: &[u8],
+) -> Result<Common<A>, DiscoverError<A>> {
+    let mut common = own_common_dir(alloc, files, git_dir)?;
+    if let Some(path) = environment.get(Variable::CommonDir) {
+        if path != common.path.as_slice() {
+            return Err(about(alloc, Reason::OtherCommonDir, path));
+        }
+        common.is_named = true;
+    }
+    Ok(common)
 }
 
 /// Tells whether a folder has a valid `HEAD`: a file, or a symbolic link to a name below `refs/`.

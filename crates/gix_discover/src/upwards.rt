@@ -6,7 +6,7 @@ use crate::format::{Format, read_format};
 use crate::gitfile::{Common, common_dir, is_git_dir, read_gitfile};
 use crate::layout::Layout;
 use crate::owner::{check_bare, check_named, is_own};
-use crate::paths::{absolute, is_absolute, resolved, within};
+use crate::paths::{absolute, folder_of, is_absolute, resolved, within};
 use crate::places::{PathKind, Places};
 use crate::source::{is_folder, is_known, place, reason_of};
 use std::alloc::Allocator;
@@ -39,6 +39,24 @@ struct Search<'a, F: Places, A: Allocator + Copy> {
     alloc: A,
     files: &'a F,
     environment: &'a Environment<A>,
+}
+
+/// Returns the error about a file `.git` that leads to no repository. Its path is in `top`, whose
+/// absolute path is `folder`.
+fn leads_nowhere<A: Allocator + Copy>(
+    alloc: A,
+    folder: &[u8],
+    top: &[u8],
+    git_dir: &[u8],
+) -> DiscoverError<A> {
+    if is_absolute(git_dir) {
+        return about(alloc, Reason::GitfileTarget, git_dir);
+    }
+    let rest = git_dir.get(top.len()..).unwrap_or(git_dir);
+    match within(alloc, folder, rest.strip_prefix(b"/").unwrap_or(rest)) {
+        Ok(path) => about(alloc, Reason::GitfileTarget, &path),
+        Err(error) => DiscoverError::from(error),
+    }
 }
 
 /// Returns the top folder of a work tree in which the current folder is, or else an empty path.
@@ -134,7 +152,7 @@ impl<'a, F: Places, A: Allocator + Copy> Search<'a, F, A> {
             Some(place) if place.kind == PathKind::File => {
                 let git_dir = read_gitfile(self.alloc, self.files, top, &path)?;
                 if !is_git_dir(self.alloc, self.files, self.environment, &git_dir)? {
-                    return Err(about(self.alloc, Reason::NotARepository, &git_dir));
+                    return Err(leads_nowhere(self.alloc, folder, top, &git_dir));
                 }
                 self.check_owner(Some(&path), Some(own), &git_dir, folder)?;
                 Ok(Some(git_dir))
@@ -216,15 +234,15 @@ impl<'a, F: Places, A: Allocator + Copy> Search<'a, F, A> {
 
     /// Returns the git folder that `GIT_DIR` names.
     fn explicit(&self, path: &[u8]) -> Result<Found<A>, DiscoverError<A>> {
-        let git_dir = match place(self.alloc, self.files, path)? {
+        let (git_dir, reason) = match place(self.alloc, self.files, path)? {
             Some(place) if place.kind == PathKind::File => {
-                let folder = crate::paths::folder_of(path);
-                read_gitfile(self.alloc, self.files, folder, path)?
+                let git_dir = read_gitfile(self.alloc, self.files, folder_of(path), path)?;
+                (git_dir, Reason::GitfileTarget)
             }
-            _ => path.to_vec(self.alloc)?,
+            _ => (path.to_vec(self.alloc)?, Reason::NotARepository),
         };
         if !is_git_dir(self.alloc, self.files, self.environment, &git_dir)? {
-            return Err(about(self.alloc, Reason::NotARepository, path));
+            return Err(about(self.alloc, reason, &git_dir));
         }
         Ok(Found {
             way: Way::Explicit,
@@ -237,6 +255,7 @@ impl<'a, F: Places, A: Allocator + Copy> Search<'a, F, A> {
     /// Finds the git folder.
     fn find(&self) -> Result<Found<A>, DiscoverError<A>> {
         match self.environment.get(Variable::GitDir) {
+            Some([]) => Err(about(self.alloc, Reason::NotARepository, b"")),
             Some(path) => self.explicit(path),
             None => self.upwards(),
         }
@@ -416,15 +435,17 @@ impl<'a, F: Places, A: Allocator + Copy> Search<'a, F, A> {
 /// # Errors
 ///
 /// - `NoRepository` or `NoRepositoryUpToMount` if there is no repository.
-/// - `NotARepository`, `GitfileFormat`, `GitfileNoPath`, `GitfileTooLarge` or `EmptyCommonDir` if
-///   `GIT_DIR` or a file does not lead to one.
+/// - `NotARepository`, `GitfileTarget`, `GitfileFormat`, `GitfileNoPath`, `GitfileTooLarge` or
+///   `EmptyCommonDir` if `GIT_DIR` or a file does not lead to one.
+/// - `OtherCommonDir` if `GIT_COMMON_DIR` names another folder than the repository.
 /// - `NoWorkTree` if `GIT_WORK_TREE` or `core.worktree` does not lead to a work tree.
 /// - `DubiousOwnership` if it belongs to another user.
 /// - `BareRepositoryRefused` or `BadBareRepository`, by `safe.bareRepository`.
 /// - `FormatVersion`, `UnknownExtension`, `ExtensionNeedsVersion1`, `ObjectFormat` or `RefStorage` if
 ///   the format of the repository is not supported.
 /// - Those of [`Settings::read`](crate::Settings::read) if a config file is refused; `BadBoolean` or
-///   `BadNumber` if a setting of the format is.
+///   `BadNumber` if a setting of the format is. `BadBoolean` also if a variable has to be a boolean
+///   and is none.
 /// - `QuotedPath` if `GIT_ALTERNATE_OBJECT_DIRECTORIES` has a path in quotes.
 /// - `NotUtf8` or `Failed` if a file or folder cannot be read.
 /// - `OutOfMemory` if an allocation failed.
@@ -433,6 +454,7 @@ pub fn discover<F: Places, A: Allocator + Copy>(
     files: &F,
     environment: &Environment<A>,
 ) -> Result<Layout<A>, DiscoverError<A>> {
+    environment.check_booleans(alloc)?;
     let search = Search {
         alloc,
         files,
