@@ -18,6 +18,7 @@ mod commits;
 mod dates;
 mod digits;
 mod error;
+mod marks;
 mod messages;
 mod names;
 mod open;

@@ -2,6 +2,7 @@
 
 use crate::dates::push_full_date;
 use crate::error::Refusal;
+use crate::marks::Doubt;
 use crate::names::{Named, read, unabbreviated};
 use crate::repository::Repository;
 use gix_odb::files::Folders;
@@ -11,6 +12,14 @@ use gix_revision::spec::parse::delegate::ReflogLookup;
 use std::alloc::Allocator;
 use std::io::Write;
 
+/// Tests whether a reflog has one entry for all dates that are in doubt. None of them may be before
+/// 1970.
+fn is_sure<A: Allocator>(reflog: &Reflog<A>, seconds: i64, doubt: Doubt) -> bool {
+    let first = seconds.saturating_sub(doubt.before);
+    let last = seconds.saturating_add(doubt.after);
+    first > 0 && reflog.place_at(first.cast_unsigned()) == reflog.place_at(last.cast_unsigned())
+}
+
 impl<F: Folders + Drop, A: Allocator + Copy> Repository<F, A> {
     /// Returns the object that an entry of a reflog names, by the first rule that reads the name as
     /// a reference with a reflog.
@@ -19,10 +28,12 @@ impl<F: Folders + Drop, A: Allocator + Copy> Repository<F, A> {
     ///
     /// - `Unknown` if no rule does.
     /// - `Fatal` if the reflog has too few entries. The message has the name as it was written.
+    /// - `NotSupported` if the reflog has several entries for the dates that are in doubt.
     pub(crate) fn logged(
         &mut self,
         written: &[u8],
         query: ReflogLookup,
+        doubt: Doubt,
     ) -> Result<ObjectId, Refusal> {
         let Some(logged) = self.references.short_logged(unabbreviated(written))? else {
             return Err(Refusal::Unknown);
@@ -30,11 +41,15 @@ impl<F: Folders + Drop, A: Allocator + Copy> Repository<F, A> {
         if logged.is_ambiguous || self.is_one_id(written)? {
             self.warn_ambiguous(written)?;
         }
-        self.entry_of(&logged, written, query)
+        self.entry_of(&logged, written, query, doubt)
     }
 
     /// Returns the object that an entry of the current branch's reflog names.
-    pub(crate) fn logged_here(&mut self, query: ReflogLookup) -> Result<ObjectId, Refusal> {
+    pub(crate) fn logged_here(
+        &mut self,
+        query: ReflogLookup,
+        doubt: Doubt,
+    ) -> Result<ObjectId, Refusal> {
         let Some(reference) = self.references.follow(b"HEAD")? else {
             return Err(Refusal::Unknown);
         };
@@ -52,7 +67,7 @@ impl<F: Folders + Drop, A: Allocator + Copy> Repository<F, A> {
             reflog,
             is_ambiguous: false,
         };
-        self.entry_of(&logged, &written, query)
+        self.entry_of(&logged, &written, query, doubt)
     }
 
     /// Returns the object that an entry of a reflog names.
@@ -61,6 +76,7 @@ impl<F: Folders + Drop, A: Allocator + Copy> Repository<F, A> {
         logged: &Logged<A>,
         written: &[u8],
         query: ReflogLookup,
+        doubt: Doubt,
     ) -> Result<ObjectId, Refusal> {
         match query {
             ReflogLookup::Entry(0) => Ok(logged.reflog.nth(0).unwrap_or(logged.id)),
@@ -69,6 +85,9 @@ impl<F: Folders + Drop, A: Allocator + Copy> Repository<F, A> {
                 Err(Refusal::Fatal)
             }
             ReflogLookup::Entry(number) => self.nth_entry(logged, written, number),
+            ReflogLookup::Date(time) if !is_sure(&logged.reflog, time.seconds, doubt) => {
+                Err(Refusal::NotSupported)
+            }
             ReflogLookup::Date(time) => self.entry_at(logged, written, time.seconds),
         }
     }

@@ -1,6 +1,7 @@
 //! Reads revisions (gitrevisions, "Specifying Revisions"): the delegate that answers the parser.
 
 use crate::error::Refusal;
+use crate::marks::{doubt_about, first_mark};
 use crate::names::{Named, NamedReference, Wanted};
 use crate::repository::Repository;
 use gix_odb::files::Folders;
@@ -156,14 +157,17 @@ impl<'r, 't, F: Folders + Drop, A: Allocator + Copy> Lookup<'r, 't, F, A> {
 
     /// Returns the object that an entry of the reflog names.
     fn logged(&mut self, query: ReflogLookup) -> Result<ObjectId, Refusal> {
+        let Some(doubt) = doubt_about(first_mark(self.text), query) else {
+            return Err(Refusal::NotSupported);
+        };
         if is_too_great(marked(self.text)) {
             return Err(Refusal::NotSupported);
         }
         let name = self.name.take();
         match name {
-            Some(name) => self.repository.logged(&name, query),
+            Some(name) => self.repository.logged(&name, query, doubt),
             None if self.at.is_some() => Err(Refusal::NotSupported),
-            None => self.repository.logged_here(query),
+            None => self.repository.logged_here(query, doubt),
         }
     }
 
