@@ -82,6 +82,7 @@ fn undiscovered(alloc: Global, error: &DiscoverError) -> Stop {
             &[b"not a git repository (or any of the parent directories): .git"],
         ),
         Reason::NotARepository => fatal(alloc, &[b"not a git repository: '", subject, b"'"]),
+        Reason::GitfileTarget => fatal(alloc, &[b"not a git repository: ", subject]),
         Reason::DubiousOwnership => fatal(
             alloc,
             &[
