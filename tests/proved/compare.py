@@ -143,7 +143,8 @@ class Comparison:
         """Notes a command that is refused, or returns that it has to be answered."""
         if found.out:
             return f"status 129 with output {found.out[:60]!r}"
-        why = refusal(command.before, command.words, command.data, command.cwd)
+        why = refusal(command.before, command.words, command.data, command.cwd,
+                      command.environment)
         if command.place.may_be_refused:
             why = why or "the repository"
         if command.place.twin:

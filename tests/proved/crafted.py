@@ -399,6 +399,29 @@ def branches(room: Room) -> list[Command]:
     return commands
 
 
+# Dates that have to be read: their moments are known, or no entry of a reflog is near them.
+DATES = (
+    "now", "yesterday", "1 second ago", "5.days.ago", "2 weeks ago", "1000 days ago",
+    "1 month ago", "2.years.ago", "20 years ago", "2005-05-25", "2005-05-29", "2024-02-29",
+    "2005-05-25 12:00:00", "2005-05-28T00:00:00", "2005-05-26 23:32:05 +0000",
+    "2005-05-26T23:32:35Z", "2005-05-27 01:32:35 +0200", "2005-05-26T15:32:35-08:00",
+    "1117150335 +0000", "1117150365 -0700",
+)
+
+# Dates that git may read otherwise than the program. It may refuse these.
+DOUBTED = (
+    "2005-05-26", "2005-05-27", "2005-05-26 23:32:35", "2005-05-27T01:32:35", "21 years ago",
+    "258 months ago", "+1", "-0", "1 +0000", "-5 +0000", "001 day ago", "010 days ago",
+    "20050526 +0000", "1960-01-01", "1969-12-31", "1970-01-01 00:00:00 +0000", "2100-01-01",
+    "2100-01-01 00:00:00 +0000", "71 years ago", "24856 days ago", "9999 weeks ago",
+    "100000000 seconds ago", "20000101 seconds 100000 seconds ago", "1 day 1 month ago",
+    "27 May 2005 00:00 CET", "27 May 2005 00:00 +2400", "27 May 05 10:00 Z",
+    "Fri, 27 May 2005 01:32:35 +0200", "Fri May 27 01:32:35 2005", "2005-05-26 23:32:35 -0001",
+    "2005-05-26 23:32:35 CET", "2005-05-26 23:32", "2005-05-26 23:32:60 +0000", "noon", "never",
+    "last friday", "tea", "12:00", "May 27", "5/27/2005", "5 days", "1.day.2.hours.ago", "today",
+)
+
+
 def reflogs(room: Room) -> list[Command]:
     """Reflogs with gaps, reflogs that end with another commit, and empty ones."""
     made = logged(room)
@@ -408,6 +431,14 @@ def reflogs(room: Room) -> list[Command]:
     for name in (*LOGS, "junk", "link", "bare", "heads/ended", "nosuch", "HEAD", "@", ""):
         commands += each(made, "rev-parse", *(f"{name}@{{{it}}}" for it in (*dates, *range(6), 99)),
                          is_strict=True)
+    # git takes the local time of day for a day, and the local zone for a time without one.
+    zones = ("UTC", "Europe/Berlin", "Pacific/Kiritimati", "America/Los_Angeles")
+    for zone in zones:
+        for name in ("gap", "early"):
+            commands += each(made, "rev-parse", *(f"{name}@{{{it}}}" for it in DATES),
+                             environment={b"TZ": zone.encode()}, is_strict=True)
+            commands += each(made, "rev-parse", *(f"{name}@{{{it}}}" for it in DOUBTED),
+                             environment={b"TZ": zone.encode()})
     for name in ("gap", "ended", "none", ""):
         few = [f"{name}@{{{it}}}" for it in ("2005-05-25", 1117150351, "2030-01-01", 2, 99)]
         for text in few:
@@ -647,6 +678,57 @@ def separate(room: Room, base: Repository) -> list[Command]:
         commands += rows(settled, "rev-parse --short HEAD", "describe --tags --long",
                          "describe --match v* --always", "merge-base HEAD HEAD~1",
                          "rev-list -n 2 HEAD", "rev-parse --abbrev-ref HEAD")
+    return commands + variables(room, base) + gitfiles(room, base)
+
+
+def variables(room: Room, base: Repository) -> list[Command]:
+    """Repositories that the environment puts together, and malformed variables."""
+    other = room.copy(base, "with another folder")
+    other.git("branch", "--force", "only-other", other.ids[3])
+    bare = room.clone(base, "bare for variables", "--bare")
+    emptied = room.copy(base, "without objects")
+    shutil.rmtree(emptied.path + b"/.git/objects")
+    os.makedirs(emptied.path + b"/.git/objects")
+    objects = base.path + b"/.git/objects"
+    commands = []
+    for place, environment in (
+        (emptied, {b"GIT_ALTERNATE_OBJECT_DIRECTORIES": objects}),
+        (emptied, {b"GIT_ALTERNATE_OBJECT_DIRECTORIES": b"../base/.git/objects"}),
+        (emptied, {b"GIT_OBJECT_DIRECTORY": objects}),
+        (other, {b"GIT_DIR": b".git", b"GIT_COMMON_DIR": b".git"}),
+        (other, {b"GIT_COMMON_DIR": b".git"}),
+        (other, {b"GIT_COMMON_DIR": base.path + b"/.git"}),
+        (other, {b"GIT_DIR": base.path + b"/.git", b"GIT_COMMON_DIR": other.path + b"/.git"}),
+        (other, {b"GIT_COMMON_DIR": b""}),
+        (other, {b"GIT_DIR": b""}), (bare, {b"GIT_DIR": b""}), (bare, {b"GIT_DIR": b"."}),
+        (other, {b"GIT_CONFIG_NOSYSTEM": b"bad"}), (other, {b"GIT_CONFIG_NOSYSTEM": b""}),
+        (other, {b"GIT_DISCOVERY_ACROSS_FILESYSTEM": b"x"}),
+        (other, {b"GIT_DISCOVERY_ACROSS_FILESYSTEM": b"on"}),
+    ):
+        commands += common(place, environment=environment)[::3]
+        commands += rows(place, "rev-parse only-other", "rev-list --all --count",
+                         environment=environment)
+    return commands
+
+
+def gitfiles(room: Room, base: Repository) -> list[Command]:
+    """Submodules, and a linked working tree, whose repositories are there or have gone."""
+    commands = []
+    for name in ("above a submodule", "above a lost submodule"):
+        above = room.random(name, 90, "rising", 12)
+        above.git("-c", "protocol.file.allow=always", "submodule", "add", "-q", base.path, "sub")
+        inside = Repository(above.path + b"/sub", base.ids, base.names)
+        if "lost" in name:
+            os.rename(above.path + b"/.git/modules", above.path + b"/.git/gone")
+        inside.write("folder/file", "text")
+        commands += common(inside)[::2] + common(inside, folder=inside.path + b"/folder")[::4]
+        commands += common(above)[::4]
+    moved = room.copy(base, "to be moved")
+    moved.git("worktree", "add", "-q", "--detach", room.path("left behind"))
+    os.rename(moved.path, room.path("moved away"))
+    left = Repository(room.path("left behind"), base.ids, base.names)
+    commands += common(left)[::3]
+    commands += common(left, environment={b"GIT_DIR": left.path + b"/.git"})[::6]
     return commands
 
 

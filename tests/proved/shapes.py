@@ -140,9 +140,21 @@ def is_text(word: bytes) -> bool:
     return True
 
 
-def refusal(before: tuple[bytes, ...], words: tuple[bytes, ...], data: bytes,
-            folder: bytes) -> str | None:
+def refused_variable(environment: dict[bytes, bytes]) -> str | None:
+    """Returns why a command may be refused by the environment."""
+    if environment.get(b"GIT_COMMON_DIR") not in (None, environment.get(b"GIT_DIR", b".git")):
+        return "another common folder"
+    for name in (b"GIT_CONFIG_NOSYSTEM", b"GIT_DISCOVERY_ACROSS_FILESYSTEM"):
+        if not re.fullmatch(rb"|on|off|true|false|yes|no|\d+", environment.get(name, b"")):
+            return "a variable that is no boolean"
+    return None
+
+
+def refusal(before: tuple[bytes, ...], words: tuple[bytes, ...], data: bytes, folder: bytes,
+            environment: dict[bytes, bytes]) -> str | None:
     """Returns why a command may be refused; None if it has to be answered."""
+    if refused_variable(environment):
+        return refused_variable(environment)
     for option in before:
         if option.startswith(b"-") and option.partition(b"=")[0] not in BEFORE:
             return "an option before the word"
