@@ -97,6 +97,12 @@ fn is_in_spaces(name: &[u8], byte: u8) -> bool {
     }
 }
 
+/// Tells whether a byte is in a range. As in git, its first byte always is, also if it is greater
+/// than the last one.
+fn is_in_range(from: u8, to: u8, byte: u8) -> bool {
+    byte == from || (from <= byte && byte <= to)
+}
+
 /// Tells whether a byte is in the first member of a class, and returns what follows the member.
 fn first_member(class: &[u8], byte: u8) -> (bool, &[u8]) {
     match class {
@@ -108,11 +114,11 @@ fn first_member(class: &[u8], byte: u8) -> (bool, &[u8]) {
             }
             None => (byte == b'[', class.get(1..).unwrap_or(&[])),
         },
-        [b'\\', from, b'-', b'\\', to, rest @ ..] => (*from <= byte && byte <= *to, rest),
-        [b'\\', from, b'-', to, rest @ ..] => (*from <= byte && byte <= *to, rest),
+        [b'\\', from, b'-', b'\\', to, rest @ ..] => (is_in_range(*from, *to, byte), rest),
+        [b'\\', from, b'-', to, rest @ ..] => (is_in_range(*from, *to, byte), rest),
         [b'\\', only, rest @ ..] => (*only == byte, rest),
-        [from, b'-', b'\\', to, rest @ ..] => (*from <= byte && byte <= *to, rest),
-        [from, b'-', to, rest @ ..] => (*from <= byte && byte <= *to, rest),
+        [from, b'-', b'\\', to, rest @ ..] => (is_in_range(*from, *to, byte), rest),
+        [from, b'-', to, rest @ ..] => (is_in_range(*from, *to, byte), rest),
         [only, rest @ ..] => (*only == byte, rest),
     }
 }
