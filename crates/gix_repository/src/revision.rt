@@ -308,6 +308,15 @@ fn has_braces(text: &[u8]) -> bool {
     text.windows(2).any(|two| two == b"@{".as_slice())
 }
 
+/// Returns whether a step follows an `@` that ends a name, as in `x@^`. To git it is part of the
+/// name, and the parser does not read it.
+fn has_bare_at(text: &[u8]) -> bool {
+    let behind = text.get(1..).unwrap_or(&[]);
+    behind
+        .windows(2)
+        .any(|two| matches!(two, [b'@', b'^' | b'~']))
+}
+
 /// What came of a look-up.
 #[derive(Drop)]
 struct Outcome<A: Allocator> {
@@ -460,6 +469,9 @@ impl<F: Folders + Drop, A: Allocator + Copy> Repository<F, A> {
         text: &[u8],
         wanted: Wanted,
     ) -> Result<(ObjectId, Option<NamedReference<A>>), Refusal> {
+        if has_bare_at(text) {
+            return Err(Refusal::NotSupported);
+        }
         let Outcome {
             parsed,
             at,
