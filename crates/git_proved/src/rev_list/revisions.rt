@@ -192,7 +192,9 @@ fn add_word(
         is_turned,
         is_no_file: flags.is_no_file,
     };
-    if add_marked(session, flags, text, starts)? {
+    // As in git, the first mark of the whole word counts: `^@^@` has none at its end.
+    let is_marked = shorthand_of(session.alloc, word)?.is_some();
+    if is_marked && add_marked(session, flags, text, starts)? {
         return Ok(true);
     }
     if has_bad_number(session, text)? {
