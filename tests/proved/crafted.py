@@ -145,6 +145,31 @@ def names(room: Room) -> list[Command]:
     return commands
 
 
+def signs(room: Room) -> list[Command]:
+    """Names that end with a sign, and patterns whose ranges run backwards."""
+    made = one_line(room, "signs", 5)
+    for at, name in enumerate(("b1", "b2", "x@")):
+        made.git("branch", name, made.ids[at])
+    for at, name in enumerate(("v2", "v@")):
+        made.tag(name, made.ids[at + 1], 1000)
+    commands = each(made, "for-each-ref --format=%(refname)", "refs/heads/b[2-1]",
+                    "refs/heads/b[!2-1]", "refs/heads/b[1-2]", "refs/heads/[z-a]1",
+                    "refs/heads/[b-a][3-1]", "refs/heads/b[\\2-1]", "refs/heads/b[2-\\1]",
+                    is_strict=True)
+    commands += each(made, "rev-list", "--branches=b[2-1]", "--tags=v[3-0]", "--tags=v[2-0]",
+                     is_strict=True)
+    commands += each(made, "describe --always", "--match=v[2-1]", "--match=v[3-1]",
+                     "--exclude=v[2-0]", "--exclude=v[!2-0]", "--exclude=[v-a]*", is_strict=True)
+    for front in ("rev-parse", "rev-parse --revs-only", "rev-parse --verify -q",
+                  "rev-list --count", "rev-list main", "merge-base HEAD", "describe --always",
+                  "for-each-ref --format=%(refname) --merged"):
+        commands += each(made, front, "x@", "x@^", "x@~1", "x@^{}", "^x@^", "x@^..HEAD",
+                         "HEAD..x@^0", "heads/x@^", "v@", "v@^{}", "v@^{tag}", "@^", "@~1^0",
+                         "HEAD@^", "HEAD@^2~1", "x@@{0}", "^@^@", "^@^!", "^@", "@^@", "x@^@",
+                         "x@^!", "x@..HEAD", "^HEAD^@", "HEAD^@^@")
+    return commands
+
+
 def lists(odd: Repository) -> list[Command]:
     """Options and revisions of rev-list."""
     commands = each(odd, "rev-list", "HEAD", "light", "outer", "other", "twice", "heads/twice",
@@ -964,7 +989,7 @@ def many(room: Room) -> list[Command]:
     return commands
 
 
-MAKERS = (names, digits, branches, reflogs, working_trees, indexes, unusual, graphs, lost, nowhere, ties,
+MAKERS = (names, signs, digits, branches, reflogs, working_trees, indexes, unusual, graphs, lost, nowhere, ties,
           crossed, hostile, many)
 
 

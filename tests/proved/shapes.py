@@ -75,6 +75,8 @@ def refused_text(text: bytes, folder: bytes) -> str | None:
         return "two marks"
     if b"\n" in text:
         return "a line feed"
+    if re.search(rb".@[\^~]", text):
+        return "a name that ends in @"
     if re.search(rb"\^-?\d{10}|~\d{10}", text):
         return "a number that is none"
     if b".." in text and re.search(rb"-g[0-9a-f]{1,3}(?![0-9a-f])", text):
