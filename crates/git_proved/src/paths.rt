@@ -5,7 +5,7 @@ use crate::forms::{Form, before_path, form_of};
 use crate::session::Session;
 use crate::stop::{Stop, fatal, joined, not_read};
 use gix_discover::Places;
-use gix_odb::files::FileError;
+use gix_files::FileError;
 use std::alloc::Global;
 
 /// Says which word of a command line may be the name of a file.

@@ -6,7 +6,7 @@ use crate::rev_list::wants_input;
 use crate::session::Session;
 use crate::stop::{NOT_READ, Stop, fatal, not_read, refused};
 use gix_discover::{DiscoverError, Environment, Reason};
-use gix_odb::System;
+use gix_files::System;
 use gix_repository::{OpenError, Opening, Repository};
 use std::alloc::Global;
 use std::io::{self, BufRead, ErrorKind, Write};

@@ -2,7 +2,7 @@
 
 use crate::stop::Stop;
 use gix_discover::Environment;
-use gix_odb::System;
+use gix_files::System;
 use gix_repository::Repository;
 use gix_revision::hash::ObjectId;
 use std::alloc::{AllocError, Global};

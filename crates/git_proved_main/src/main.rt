@@ -5,7 +5,7 @@
 use git_proved::front::{Asked, Front};
 use git_proved::{HELP, Streams, VERSION, print_text, run};
 use gix_discover::{Environment, Variable};
-use gix_odb::System;
+use gix_files::System;
 use gix_repository::{Mode, Opening};
 use gix_revision::Seed;
 use gix_revision::date::Time;

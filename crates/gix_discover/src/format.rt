@@ -4,7 +4,7 @@ use crate::error::{DiscoverError, Reason, about, about_value};
 use crate::paths::within;
 use crate::source::read_file;
 use gix_config::{Entry, ParseError, boolean, entries, is_name, number, value_of};
-use gix_odb::files::Folders;
+use gix_files::Folders;
 use std::alloc::Allocator;
 
 /// Is what a repository's own config says of its format.

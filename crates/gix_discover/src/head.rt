@@ -5,7 +5,7 @@ use crate::paths::within;
 use crate::source::{read_front, reason_of};
 use gix_base::hash::ObjectId;
 use gix_config::is_blank;
-use gix_odb::files::{FileError, Folders};
+use gix_files::{FileError, Folders};
 use std::alloc::Allocator;
 use std::io::ErrorKind;
 

@@ -7,7 +7,7 @@
 //!   keys that reading a history needs, and [`Settings::values`] for every other.
 //! - [`shallow`] and [`grafts`] read two small files of a repository.
 //! - [`wildmatch::is_match`] compares a text with a pattern, as git does.
-//! - [`Places`] is the trait by which all of them reach files, beyond `gix_odb::files`.
+//! - [`Places`] is the trait by which all of them reach files, beyond `gix_files`.
 //!
 //! Nothing in a repository makes these calls run a command or fetch. They open only files that git
 //! opens, too. What git refuses is refused, and each [`Reason`] has a name.

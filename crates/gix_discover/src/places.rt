@@ -1,7 +1,6 @@
 //! Has the trait by which discovery looks at paths, and implements it over the file system.
 
-use gix_odb::System;
-use gix_odb::files::{FileError, Folders};
+use gix_files::{FileError, Folders, System};
 use std::fs::{Files, Metadata};
 use std::io::{self, ErrorKind};
 use std::os::unix::fs::MetadataExt;

@@ -3,7 +3,7 @@
 use crate::error::{DiscoverError, Reason, about};
 use crate::paths::folder_of;
 use crate::places::{PathKind, Place, Places};
-use gix_odb::files::{FileError, Folders, Opened};
+use gix_files::{FileError, Folders, Opened};
 use std::alloc::Allocator;
 
 /// Returns the reason for a failed call on a file.

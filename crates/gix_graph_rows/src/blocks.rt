@@ -2,7 +2,7 @@
 
 use crate::error::{Damage, Error};
 use crate::source::Source;
-use gix_odb::files::Opened;
+use gix_files::Opened;
 use std::alloc::Allocator;
 
 /// Blocks begin at the multiples of this number.

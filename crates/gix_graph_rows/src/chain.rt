@@ -3,7 +3,7 @@
 use crate::error::{Damage, Error, GraphFile};
 use crate::source::open;
 use gix_base::hash::ObjectId;
-use gix_odb::files::Folders;
+use gix_files::Folders;
 use std::alloc::{AllocError, Allocator};
 
 /// Joins three parts of a path.

@@ -10,7 +10,7 @@ use crate::layer::{Child, Layer};
 use crate::place::{Place, locate};
 use crate::row::{EDGE_BIT, NO_PARENT, Row};
 use gix_base::hash::ObjectId;
-use gix_odb::files::Opened;
+use gix_files::Opened;
 use gix_revwalk::graph::SourceCommit;
 use std::alloc::Allocator;
 

@@ -4,7 +4,7 @@ ghost use Rattle.std.specs.Prelude.{Some};
 ghost use Rattle.gix_graph_rows.specs.ErrorTexts.{damage_text, feature_text};
 
 use gix_base::hash::ObjectId;
-use gix_odb::files::FileError;
+use gix_files::FileError;
 use std::alloc::{AllocError, AllocFailed};
 use std::fmt;
 use std::io::ErrorKind;

@@ -4,8 +4,8 @@
 use crate::error::{Damage, Error, Feature};
 use crate::source::Source;
 use gix_base::hash::ObjectId;
+use gix_files::Opened;
 use gix_ids::{Span, Table, check_fanout, word_at};
-use gix_odb::files::Opened;
 use std::alloc::Allocator;
 
 /// The length of a header with the longest table of contents.

@@ -10,7 +10,7 @@ use crate::place::Place;
 use crate::row::Row;
 use crate::source::Source;
 use gix_base::hash::ObjectId;
-use gix_odb::files::Opened;
+use gix_files::Opened;
 use std::alloc::Allocator;
 
 /// Is an open file, with what was read of it.

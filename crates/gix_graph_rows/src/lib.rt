@@ -7,7 +7,7 @@
 //! history reads a small part of the files. A damaged row is an error only if it is asked for.
 //! [`laws`] states that a row says the same as the whole file.
 //!
-//! The calls reach files by the traits of `gix_odb`, which promise nothing of the bytes that a file
+//! The calls reach files by the traits of `gix_files`, which promise nothing of the bytes that a file
 //! has. The clauses therefore speak of the bytes that were read. That these bytes come from the
 //! right places is tested, not proved. So are the ids of the parents and the checks of a row.
 #![tactic(auto)]

@@ -3,8 +3,8 @@
 use crate::error::{Damage, Error};
 use crate::source::Source;
 use gix_base::hash::ObjectId;
+use gix_files::Opened;
 use gix_ids::Span;
-use gix_odb::files::Opened;
 use gix_pack::part::{NEAR, Told, around, near, position};
 use std::alloc::Allocator;
 

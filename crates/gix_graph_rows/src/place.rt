@@ -7,7 +7,7 @@ ghost use Rattle.gix_graph_rows.specs.PlaceForm.{IsPlace};
 use crate::error::Error;
 use crate::layer::Layer;
 use gix_base::hash::ObjectId;
-use gix_odb::files::Opened;
+use gix_files::Opened;
 use std::alloc::Allocator;
 
 /// Says where a commit is: the number of its file in the chain, and the number of its row there.

@@ -3,7 +3,7 @@
 ghost use Rattle.std.specs.Prelude.{◌≤◌, length, IfOk};
 
 use crate::error::{Damage, Error, Feature, GraphFile, error_of};
-use gix_odb::files::{Folders, Opened};
+use gix_files::{Folders, Opened};
 use std::alloc::Allocator;
 
 /// Is an open file with its name.

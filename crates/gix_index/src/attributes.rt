@@ -2,7 +2,7 @@
 //! checking-in").
 
 use crate::files::Statuses;
-use gix_odb::files::{FileError, Opened};
+use gix_files::{FileError, Opened};
 use std::alloc::Allocator;
 
 /// Says what git may do to the content of a file before it is hashed.

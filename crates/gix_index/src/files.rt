@@ -3,8 +3,7 @@
 ghost use Rattle.std.specs.Prelude.{◌≡◌, ◌%◌, ◌^◌};
 
 use crate::status::Status;
-use gix_odb::System;
-use gix_odb::files::{FileError, Folders};
+use gix_files::{FileError, Folders, System};
 use std::fs::{Files, Metadata};
 use std::io::{self, ErrorKind};
 use std::os::unix::fs::MetadataExt;

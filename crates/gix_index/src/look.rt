@@ -8,8 +8,8 @@ use crate::mode::FileKind;
 use crate::status::Status;
 use gix_base::hash::ObjectId;
 use gix_base::object::Kind;
+use gix_files::FileError;
 use gix_object::object_id;
-use gix_odb::files::FileError;
 use std::alloc::{AllocError, Allocator, Global};
 
 /// The name of a file of attributes.

@@ -4,9 +4,9 @@ mod text;
 
 use crate::error::{FileKind, FileName};
 use crate::failure::Fault;
-use crate::files::Folders;
 use crate::paths::joined;
 use crate::source::{fault_of, open};
+use gix_files::Folders;
 use std::alloc::Allocator;
 use text::next_path;
 

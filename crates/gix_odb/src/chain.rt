@@ -3,12 +3,12 @@
 use crate::cache::Cache;
 use crate::error::{Damage, Feature};
 use crate::failure::Fault;
-use crate::files::Opened;
 use crate::index::Index;
 use crate::source::Source;
 use crate::stream::inflated;
 use crate::windows::Windows;
 use gix_base::object::Kind;
+use gix_files::Opened;
 use gix_pack::delta::{ApplyError, apply};
 use gix_pack::entry::{self, Body as Form, Entry};
 use std::alloc::Allocator;

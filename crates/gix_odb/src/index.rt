@@ -3,9 +3,9 @@
 use crate::completions::Completions;
 use crate::error::{Damage, Feature};
 use crate::failure::Fault;
-use crate::files::Opened;
 use crate::source::Source;
 use gix_base::hash::ObjectId;
+use gix_files::Opened;
 use gix_ids::Span;
 use gix_pack::index::OpenFault;
 use gix_pack::part::{

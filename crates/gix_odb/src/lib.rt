@@ -8,8 +8,7 @@
 //! - [`Store::read`] returns an object, [`Store::commit`] the parents and the commit date of a
 //!   commit, and [`Store::tag`] what an annotated tag says.
 //! - [`Store::has`] and [`Store::completions`] look ids up, and read no object.
-//! - [`files`] has the traits by which a store reaches files, and [`System`] implements them over
-//!   the file system.
+//! - A store reaches files by the traits of `gix_files`.
 //! - Each call that fails can be repeated.
 //! - [`laws`] states what the ids of commits determine, up to a collision of SHA-1 that is at hand.
 #![tactic(auto)]
@@ -20,7 +19,6 @@ mod chain;
 mod completions;
 pub mod error;
 mod failure;
-pub mod files;
 mod index;
 pub mod laws;
 mod loose;
@@ -31,12 +29,10 @@ mod paths;
 mod source;
 mod store;
 mod stream;
-mod system;
 mod tag;
 mod windows;
 
 pub use error::Error;
 pub use object::Object;
 pub use store::Store;
-pub use system::System;
 pub use tag::Tag;

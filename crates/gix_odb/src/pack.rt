@@ -8,12 +8,12 @@ use crate::chain::{Body, Chains};
 use crate::completions::Completions;
 use crate::error::{FileKind, FileName, PackName};
 use crate::failure::{Failure, Fault};
-use crate::files::Folders;
 use crate::index::Index;
 use crate::object::{Object, accepted};
 use crate::paths::joined;
 use crate::source::open;
 use gix_base::hash::ObjectId;
+use gix_files::Folders;
 use std::alloc::Allocator;
 
 /// A pack of an `objects` folder. Its index and the pack itself are opened when they are needed.

@@ -3,10 +3,10 @@
 use crate::alternates::{Folder, pass_over};
 use crate::error::{FileKind, FileName};
 use crate::failure::Fault;
-use crate::files::Folders;
 use crate::pack::Pack;
 use crate::paths::joined;
 use crate::source::fault_of;
+use gix_files::Folders;
 use std::alloc::Allocator;
 
 /// Moves a pack from the old packs to the new ones, or adds it to these if it is new.

@@ -4,7 +4,7 @@ ghost use Rattle.std.specs.Prelude.{◌≤◌, length, IfOk};
 
 use crate::error::{Damage, Feature, FileName};
 use crate::failure::Fault;
-use crate::files::{FileError, Folders, Opened};
+use gix_files::{FileError, Folders, Opened};
 use std::alloc::Allocator;
 
 /// An open file with its name.

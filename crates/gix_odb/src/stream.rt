@@ -2,8 +2,8 @@
 
 use crate::error::Damage;
 use crate::failure::Fault;
-use crate::files::Opened;
 use crate::source::Source;
+use gix_files::Opened;
 use gix_zlib::{InflateError, inflate};
 use std::alloc::Allocator;
 

@@ -1,8 +1,8 @@
 //! Keeps parts of a pack in memory.
 
 use crate::failure::Fault;
-use crate::files::Opened;
 use crate::source::Source;
+use gix_files::Opened;
 use std::alloc::Allocator;
 
 /// How many bytes a window shows.

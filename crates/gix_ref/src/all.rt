@@ -9,7 +9,7 @@ use crate::name::is_full_name;
 use crate::packed::{peeled_after, peeled_in, record};
 use crate::store::References;
 use gix_base::hash::ObjectId;
-use gix_odb::files::{FileError, Folders};
+use gix_files::{FileError, Folders};
 use std::alloc::{Allocator, Global};
 use std::io::ErrorKind;
 

@@ -2,7 +2,7 @@
 
 use crate::error::{ErrorName, Fault};
 use crate::lines::cut;
-use gix_odb::files::{FileError, Folders, Opened};
+use gix_files::{FileError, Folders, Opened};
 use std::alloc::Allocator;
 use std::io::ErrorKind;
 

@@ -14,7 +14,7 @@ use crate::name::is_full_name;
 use crate::packed::Packed;
 use crate::store::References;
 use gix_base::hash::ObjectId;
-use gix_odb::files::Folders;
+use gix_files::Folders;
 use std::alloc::{Allocator, Global};
 
 /// How many references are read at most, one leading to the next, as in git.

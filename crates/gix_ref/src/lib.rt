@@ -1,6 +1,6 @@
 //! Reads the references and the reflogs of a repository (gitrepository-layout, "refs").
 //!
-//! [`References`] is opened on a `.git` folder, and reaches files by the traits of `gix_odb` alone.
+//! [`References`] is opened on a `.git` folder, and reaches files by the traits of `gix_files` alone.
 //! A reference is a loose file or, if there is no such file, a line of `packed-refs`.
 //!
 //! - [`References::find`] returns what one reference says, and [`References::follow`] the id at

@@ -9,7 +9,7 @@ use crate::files::read;
 use crate::lines::{cut, id_of};
 use crate::store::References;
 use gix_base::hash::ObjectId;
-use gix_odb::files::Folders;
+use gix_files::Folders;
 use std::alloc::{Allocator, Global};
 
 /// An entry of a reflog.

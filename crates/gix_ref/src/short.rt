@@ -14,7 +14,7 @@ use crate::loose::{self, Said};
 use crate::name::is_full_name;
 use crate::store::References;
 use gix_base::hash::ObjectId;
-use gix_odb::files::Folders;
+use gix_files::Folders;
 use std::alloc::{AllocError, Allocator, Global};
 
 /// What the full names begin with by the rules, the rule that wins first.

@@ -11,7 +11,7 @@ use crate::loose::is_untrimmed;
 use crate::name::is_full_name;
 use crate::place::located;
 use crate::snapshot::Snapshot;
-use gix_odb::files::{FileError, Folders};
+use gix_files::{FileError, Folders};
 use std::alloc::{Allocator, Global};
 use std::io::ErrorKind;
 

@@ -6,10 +6,10 @@ ghost use Rattle.gix_revwalk.specs.Held.{entry_of};
 ghost use Rattle.gix_history.specs.Origins.{IsReadOf};
 ghost use Rattle.gix_odb.specs.Stores.{IsCommitOf};
 
+use gix_files::Folders;
 use gix_graph_rows::GraphRows;
 use gix_history::{Origin, Read, ReadError, Reader};
 use gix_odb::Store;
-use gix_odb::files::Folders;
 use gix_revision::graph::SourceCommit;
 use gix_revision::hash::ObjectId;
 use gix_revision::object::Kind;

@@ -3,7 +3,7 @@
 use crate::error::Refusal;
 use crate::repository::Repository;
 use gix_discover::Abbrev;
-use gix_odb::files::Folders;
+use gix_files::Folders;
 use gix_revision::hash::{ObjectId, Prefix};
 use std::alloc::Allocator;
 

@@ -1,7 +1,7 @@
 //! Writes what git prints on standard error about names.
 
 use crate::repository::Repository;
-use gix_odb::files::Folders;
+use gix_files::Folders;
 use gix_ref::Why;
 use std::alloc::{AllocError, Allocator};
 

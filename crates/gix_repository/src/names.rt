@@ -2,7 +2,7 @@
 
 use crate::error::Refusal;
 use crate::repository::Repository;
-use gix_odb::files::Folders;
+use gix_files::Folders;
 use gix_revision::hash::{ObjectId, Prefix};
 use gix_revision::object::Kind;
 use std::alloc::Allocator;

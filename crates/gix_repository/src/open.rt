@@ -6,10 +6,10 @@ use gix_discover::{
     DiscoverError, Environment, Layout, Places, Settings, SmallFileError, Variable, discover,
     grafts, shallow,
 };
+use gix_files::{FileError, Folders, Opened};
 use gix_graph_rows::GraphRows;
 use gix_history::{History, Loaded};
 use gix_odb::Store;
-use gix_odb::files::{FileError, Folders, Opened};
 use gix_ref::References;
 use gix_revision::Seed;
 use gix_revision::date::Time;

@@ -2,7 +2,7 @@
 
 use crate::error::Refusal;
 use crate::repository::Repository;
-use gix_odb::files::Folders;
+use gix_files::Folders;
 use gix_odb::{Object, Tag};
 use gix_revision::hash::ObjectId;
 use gix_revision::object::Kind;

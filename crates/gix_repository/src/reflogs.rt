@@ -5,7 +5,7 @@ use crate::error::Refusal;
 use crate::marks::Doubt;
 use crate::names::{Named, read, unabbreviated};
 use crate::repository::Repository;
-use gix_odb::files::Folders;
+use gix_files::Folders;
 use gix_ref::{AtDate, Logged, Reflog, Target};
 use gix_revision::hash::ObjectId;
 use gix_revision::spec::parse::delegate::ReflogLookup;

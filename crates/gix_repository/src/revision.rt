@@ -4,7 +4,7 @@ use crate::error::Refusal;
 use crate::marks::{doubt_about, first_mark};
 use crate::names::{Named, NamedReference, Wanted};
 use crate::repository::Repository;
-use gix_odb::files::Folders;
+use gix_files::Folders;
 use gix_revision::date::Time;
 use gix_revision::error::Exn;
 use gix_revision::hash::{ObjectId, Prefix};

@@ -4,7 +4,7 @@
 
 use crate::error::Refusal;
 use crate::repository::Repository;
-use gix_odb::files::Folders;
+use gix_files::Folders;
 use gix_revision::hash::ObjectId;
 use std::alloc::Allocator;
 use std::collections::{BinaryHeap, HashMap};

@@ -5,7 +5,7 @@ use crate::error::Refusal;
 use crate::names::{Named, read, unabbreviated};
 use crate::repository::Repository;
 use gix_discover::Reason;
-use gix_odb::files::Folders;
+use gix_files::Folders;
 use gix_revision::spec::parse::delegate::SiblingBranch;
 use std::alloc::{AllocError, Allocator};
 

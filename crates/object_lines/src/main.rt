@@ -15,8 +15,9 @@
 #![tactic(auto)]
 
 use gix_base::hash::{ObjectId, Prefix};
+use gix_files::System;
 use gix_object::kind_name;
-use gix_odb::{Error, Object, Store, System};
+use gix_odb::{Error, Object, Store};
 use std::alloc::Global;
 use std::env;
 use std::io::{self, BufRead, BufReader, BufWriter, Write};

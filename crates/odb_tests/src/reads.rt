@@ -3,7 +3,7 @@
 use crate::fake::{Fake, Turn};
 use crate::tables::{IDS, all_written};
 use gix_base::hash::{ObjectId, Prefix};
-use gix_odb::files::Folders;
+use gix_files::Folders;
 use gix_odb::{Error, Store};
 use refusing::Refusing;
 use std::alloc::{Allocator, Global};

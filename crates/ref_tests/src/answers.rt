@@ -3,7 +3,7 @@
 use crate::questions::{Ask, Row};
 use crate::texts::Text;
 use gix_base::hash::ObjectId;
-use gix_odb::files::Folders;
+use gix_files::Folders;
 use gix_ref::{AtDate, Error, Listed, References, Skipped, Target};
 use std::alloc::Allocator;
 use std::io::ErrorKind;

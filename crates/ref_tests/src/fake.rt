@@ -3,7 +3,7 @@
 ghost use Rattle.std.specs.Prelude.{◌≤◌, length, IfOk};
 
 use crate::files::Written;
-use gix_odb::files::{FileError, Folders, Opened};
+use gix_files::{FileError, Folders, Opened};
 use std::alloc::Allocator;
 use std::cell::Cell;
 use std::io::ErrorKind;

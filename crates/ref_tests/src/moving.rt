@@ -2,7 +2,7 @@
 
 ghost use Rattle.std.specs.Prelude.{◌≤◌, length, IfOk};
 
-use gix_odb::files::{FileError, Folders, Opened};
+use gix_files::{FileError, Folders, Opened};
 use gix_ref::References;
 use std::alloc::{Allocator, Global};
 use std::cell::Cell;

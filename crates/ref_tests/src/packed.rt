@@ -6,7 +6,7 @@ use crate::answers::{Outcome, asked};
 use crate::packed_rows::{DAMAGED, DANGEROUS, PACKED, WHOLE};
 use crate::questions::{Ask, row_of};
 use crate::texts::written_out;
-use gix_odb::files::{FileError, Folders, Opened};
+use gix_files::{FileError, Folders, Opened};
 use gix_ref::{Error, References};
 use std::alloc::{AllocError, Allocator, Global};
 use std::test::Fail;

@@ -4,7 +4,7 @@ use crate::answers::{Outcome, asked};
 use crate::fake::Fake;
 use crate::files::{Written, files};
 use crate::questions::{Ask, Row, TABLES, row_of};
-use gix_odb::files::Folders;
+use gix_files::Folders;
 use gix_ref::References;
 use refusing::Refusing;
 use std::alloc::{AllocError, Allocator, Global};

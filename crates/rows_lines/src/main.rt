@@ -12,8 +12,8 @@
 #![tactic(auto)]
 
 use gix_base::hash::ObjectId;
+use gix_files::System;
 use gix_graph_rows::GraphRows;
-use gix_odb::System;
 use std::alloc::Global;
 use std::env;
 use std::io::{self, BufRead, BufReader, BufWriter, Write};

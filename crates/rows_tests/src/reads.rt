@@ -3,8 +3,8 @@
 use crate::fake::{Fake, Turn};
 use crate::tables::{COMMITS, Wanted, all_written};
 use gix_base::hash::ObjectId;
+use gix_files::Folders;
 use gix_graph_rows::{Error, GraphRows};
-use gix_odb::files::Folders;
 use gix_revwalk::graph::SourceCommit;
 use refusing::Refusing;
 use std::alloc::{Allocator, Global};

@@ -7,11 +7,10 @@ use crate::describe::head::{files_of, head_tree};
 use crate::describe::work_tree::{open_tree, read_index, top_of};
 use crate::session::Session;
 use crate::stop::{Stop, not_read, refused};
+use gix_files::{FileError, System};
 use gix_index::{
     Difference, Entry, FileKind, Index, Look, Looked, WorkTree, are_sorted, first_difference,
 };
-use gix_odb::System;
-use gix_odb::files::FileError;
 use gix_revision::hash::ObjectId;
 
 /// Returns the end for what only git decides about a path.

@@ -3,11 +3,10 @@
 use crate::session::Session;
 use crate::stop::{Stop, fatal, joined, not_read};
 use gix_discover::{PathKind, Places, Variable};
+use gix_files::{FileError, System};
 use gix_index::{
     Checks, Conversion, FileKind, Index, Statuses, WorkTree, add_conversion, read_file,
 };
-use gix_odb::System;
-use gix_odb::files::FileError;
 use std::io::Write;
 
 /// Returns the end for a file that is not read.

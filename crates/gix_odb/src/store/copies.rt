@@ -6,12 +6,12 @@ ghost use Rattle.gix_odb.specs.Stores.{IsObject};
 
 use crate::error::Error;
 use crate::failure::{Failure, Fault};
-use crate::files::Folders;
 use crate::loose;
 use crate::object::Object;
 use crate::packs::listed;
 use crate::store::Store;
 use gix_base::hash::ObjectId;
+use gix_files::Folders;
 use std::alloc::Allocator;
 
 impl<F: Folders + Drop, A: Allocator + Copy> Store<F, A> {

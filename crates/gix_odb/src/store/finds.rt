@@ -2,10 +2,10 @@
 
 use crate::completions::Completions;
 use crate::failure::{Failure, Fault};
-use crate::files::Folders;
 use crate::loose;
 use crate::store::Store;
 use gix_base::hash::ObjectId;
+use gix_files::Folders;
 use std::alloc::{AllocError, Allocator};
 
 /// Tells whether a look-up found a copy. Remembers its failure if it is another one than `Missing`.

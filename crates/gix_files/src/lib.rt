@@ -1,9 +1,17 @@
-//! The traits by which a store reaches folders and files, so that a test can stand in for them.
+//! Reaches folders and files.
+//!
+//! - [`Folders`] and [`Opened`] are the traits by which the crates above read files, so that a test
+//!   can stand in for the file system.
+//! - [`System`] implements them over the file system.
+#![tactic(auto)]
 
 ghost use Rattle.std.specs.Prelude.{◌≤◌, length, IfOk};
 
+mod system;
+
 use std::alloc::{AllocError, AllocFailed, Allocator};
 use std::io::ErrorKind;
+pub use system::System;
 
 /// Says why a file was not opened, listed or read.
 #[derive(Clone, Copy, Debug, PartialEq, Eq)]

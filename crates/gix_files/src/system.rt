@@ -2,7 +2,7 @@
 
 ghost use Rattle.std.specs.Prelude.{◌≤◌, length, IfOk};
 
-use crate::files::{FileError, Folders, Opened};
+use crate::{FileError, Folders, Opened};
 use std::alloc::Allocator;
 use std::fs::{File, Files, OpenFile};
 use std::io::{self, ErrorKind, Read};
