@@ -1,12 +1,12 @@
 //! Answers one question.
 
-use crate::describe::describe;
-use crate::for_each_ref::for_each_ref;
 use crate::merge_base::merge_base;
-use crate::rev_list::rev_list;
 use crate::rev_parse::rev_parse;
-use crate::session::Session;
-use crate::stop::{FATAL, NOT_READ, Stop, not_read};
+use git_describe::describe;
+use git_for_each_ref::for_each_ref;
+use git_rev_list::rev_list;
+use git_session::session::Session;
+use git_session::stop::{FATAL, NOT_READ, Stop, not_read};
 use std::alloc::{AllocError, Global};
 use std::io::Write;
 

@@ -3,8 +3,8 @@
 use crate::answer::{Finished, answer, ended};
 use crate::program::Streams;
 use crate::quoted::split_words;
-use crate::session::Session;
-use crate::stop::{NOT_READ, Stop, not_read};
+use git_session::session::Session;
+use git_session::stop::{NOT_READ, Stop, not_read};
 use std::alloc::Global;
 use std::io::{self, BufRead, Write};
 

@@ -3,8 +3,9 @@
 //!
 //! Merge bases, ancestry, depths, and which commits a whole list has are answers of proved
 //! questions of `gix_history` about the repository (`gix_repository`). The forms of options are
-//! those of `parse_options`. All else is made here and tested against git: what options mean, the
-//! order of lists, first parents, filters, what is printed, and the status.
+//! those of `parse_options`. All else is made here and in the crates `git_describe`, `git_rev_list`,
+//! `git_for_each_ref` and `git_session`, and tested against git: what options mean, the order of
+//! lists, first parents, filters, what is printed, and the status.
 //!
 //! - [`front`] reads the options before the word, which say where the repository is.
 //! - [`run`] opens the repository, answers, and returns the status.
@@ -14,28 +15,13 @@
 #![tactic(auto)]
 
 mod answer;
-mod bases;
 mod batch;
-mod describe;
-mod for_each_ref;
-mod forms;
 pub mod front;
 mod help;
-mod integer;
 mod merge_base;
-mod names;
-mod options;
-mod paths;
 mod program;
-mod queue;
 mod quoted;
-mod ranges;
-mod rev_list;
 mod rev_parse;
-mod session;
-mod stop;
-mod unpeeled;
-mod words;
 
 pub use help::{HELP, VERSION};
 pub use program::{Streams, print_text, run};

@@ -1,12 +1,12 @@
 //! Answers `merge-base` (git-merge-base).
 
-use crate::bases::{bases_in_order, merge_bases, octopus_in_order};
-use crate::forms::asks_entry;
-use crate::names::{commit, commit_of, commits, commits_last_first};
-use crate::options::next_item;
-use crate::ranges::revision;
-use crate::session::Session;
-use crate::stop::{Stop, fatal, not_read};
+use git_session::bases::{bases_in_order, merge_bases, octopus_in_order};
+use git_session::forms::asks_entry;
+use git_session::names::{commit, commit_of, commits, commits_last_first};
+use git_session::options::next_item;
+use git_session::ranges::revision;
+use git_session::session::Session;
+use git_session::stop::{Stop, fatal, not_read};
 use gix_history::questions::{Independent, IsAncestor};
 use gix_repository::Refusal;
 use gix_revision::hash::ObjectId;

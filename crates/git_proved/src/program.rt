@@ -2,9 +2,9 @@
 
 use crate::answer::{Finished, answer, ended};
 use crate::batch::batch;
-use crate::rev_list::wants_input;
-use crate::session::Session;
-use crate::stop::{NOT_READ, Stop, fatal, not_read, refused};
+use git_rev_list::wants_input;
+use git_session::session::Session;
+use git_session::stop::{NOT_READ, Stop, fatal, not_read, refused};
 use gix_discover::{DiscoverError, Environment, Reason};
 use gix_files::System;
 use gix_repository::{OpenError, Opening, Repository};

@@ -1,6 +1,6 @@
 //! Splits a line into words, as a shell does with quotes.
 
-use crate::stop::{Stop, not_read};
+use git_session::stop::{Stop, not_read};
 use std::alloc::Global;
 
 /// Says in which quotes a byte stands.

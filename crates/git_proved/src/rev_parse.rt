@@ -3,13 +3,13 @@
 mod asked;
 mod show;
 
-use crate::forms::{asks_sibling, is_counted};
-use crate::paths::{Turn, verify_file};
-use crate::ranges::{Tip, several_tips, single_tip};
 use crate::rev_parse::asked::{Asked, Place};
 use crate::rev_parse::show::{show_default, show_text, show_tip};
-use crate::session::Session;
-use crate::stop::{Stop, fatal};
+use git_session::forms::{asks_sibling, is_counted};
+use git_session::paths::{Turn, verify_file};
+use git_session::ranges::{Tip, several_tips, single_tip};
+use git_session::session::Session;
+use git_session::stop::{Stop, fatal};
 
 /// Ends if git wants exactly one revision: with status 1 and no message if it is to be quiet.
 fn no_single(session: &Session<'_>, asked: &Asked<'_>) -> Result<u8, Stop> {

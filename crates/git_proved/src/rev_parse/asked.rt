@@ -1,8 +1,8 @@
 //! Reads the options of `rev-parse`, which git reads word by word.
 
-use crate::ranges::Tip;
-use crate::stop::{Stop, fatal, not_read};
-use crate::words::Words;
+use git_session::ranges::Tip;
+use git_session::stop::{Stop, fatal, not_read};
+use git_session::words::Words;
 use parse_options::{Exact, Holds, Takes, exact_option};
 use std::alloc::Global;
 

@@ -1,9 +1,9 @@
 //! Prints revisions and other words.
 
-use crate::ranges::{Name, Tip, revision};
 use crate::rev_parse::asked::{Asked, Digits, Symbolic};
-use crate::session::Session;
-use crate::stop::{Stop, not_read};
+use git_session::ranges::{Name, Tip, revision};
+use git_session::session::Session;
+use git_session::stop::{Stop, not_read};
 use gix_repository::Refusal;
 use gix_revision::hash::ObjectId;
 use std::alloc::{AllocError, Global};

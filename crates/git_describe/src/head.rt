@@ -1,0 +1,81 @@
+//! Lists the files of the commit of `HEAD`.
+
+use git_session::names::commit_of;
+use git_session::ranges::revision;
+use git_session::session::Session;
+use git_session::stop::{Stop, fatal, not_read};
+use gix_index::tree::{Listed, TREE, TreeEntry, first};
+use gix_revision::hash::ObjectId;
+use gix_revision::object::Kind;
+
+/// Returns the tree of the commit of `HEAD`.
+///
+/// # Errors
+///
+/// `Fatal`, with git's message, if there is none.
+pub(crate) fn head_tree(session: &mut Session<'_>) -> Result<ObjectId, Stop> {
+    let Some(id) = revision(session, b"HEAD")? else {
+        return Err(fatal(session.alloc, &[b"bad revision 'HEAD'"]));
+    };
+    match commit_of(session, id)? {
+        Some(commit) => Ok(session.repository.tree(commit)?),
+        None => Err(not_read(session.alloc, &[b"HEAD is no commit"])),
+    }
+}
+
+/// Returns an entry of a tree with its path.
+fn with_path(session: &Session<'_>, folder: &[u8], entry: &TreeEntry<'_>) -> Result<Listed, Stop> {
+    let mut path = folder.to_vec(session.alloc)?;
+    path.extend_from_slice(entry.name)?;
+    if entry.is_tree() {
+        path.push(b'/')?;
+    }
+    Ok(Listed {
+        path,
+        mode: entry.mode,
+        id: entry.id,
+    })
+}
+
+/// Returns the entries of a tree, the last one first.
+fn entries_of(session: &mut Session<'_>, tree: &Listed) -> Result<Vec<Listed>, Stop> {
+    let object = session.repository.read_object(tree.id)?;
+    let mut entries = Vec::new(session.alloc);
+    let mut rest = object.content.as_slice();
+    for _ in 0..object.content.len() {
+        let Some((entry, after)) = first(rest) else {
+            break;
+        };
+        entries.push(with_path(session, &tree.path, &entry)?)?;
+        rest = after;
+    }
+    if object.kind != Kind::Tree || !rest.is_empty() {
+        return Err(not_read(session.alloc, &[b"a tree of HEAD is malformed"]));
+    }
+    entries.reverse();
+    Ok(entries)
+}
+
+/// Returns all files below a tree, in the order of their paths.
+pub(crate) fn files_of(session: &mut Session<'_>, tree: ObjectId) -> Result<Vec<Listed>, Stop> {
+    let mut waiting = Vec::new(session.alloc);
+    waiting.push(Listed {
+        path: Vec::new(session.alloc),
+        mode: TREE,
+        id: tree,
+    })?;
+    let mut files = Vec::new(session.alloc);
+    for _ in 0..u64::MAX {
+        let Some(one) = waiting.pop() else {
+            break;
+        };
+        if one.mode == TREE {
+            for entry in entries_of(session, &one)? {
+                waiting.push(entry)?;
+            }
+        } else {
+            files.push(one)?;
+        }
+    }
+    Ok(files)
+}

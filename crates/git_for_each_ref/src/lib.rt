@@ -1,0 +1,297 @@
+//! Answers `for-each-ref` (git-for-each-ref).
+#![tactic(auto)]
+
+mod filter;
+mod format;
+mod list;
+mod patterns;
+
+use crate::filter::{Filter, apply};
+use crate::format::{Part, expect_names, look_up, print_reference, read_format};
+use crate::list::{Candidate, list_wanted};
+use git_session::integer::integer;
+use git_session::names::commit_of;
+use git_session::options::next_item;
+use git_session::ranges::revision;
+use git_session::session::Session;
+use git_session::stop::{Stop, fatal, not_read};
+use gix_revision::hash::ObjectId;
+use parse_options::{Choice, Given, Item, Reader, Value};
+use std::alloc::Global;
+
+/// The format if none is given.
+const FORMAT: &[u8] = b"%(objectname) %(objecttype)\t%(refname)";
+
+/// Names an option.
+#[derive(Clone, Copy)]
+enum Key {
+    Contains,
+    NoContains,
+    Merged,
+    NoMerged,
+    Format,
+    Count,
+    Sort,
+    /// An option of git that is not supported.
+    Other,
+}
+
+/// The options of `for-each-ref`.
+static CHOICES: [Choice<Key>; 14] = [
+    Choice {
+        key: Key::Other,
+        short: b's',
+        long: "shell",
+        value: Value::Never,
+        has_no: true,
+    },
+    Choice {
+        key: Key::Other,
+        short: b'p',
+        long: "perl",
+        value: Value::Never,
+        has_no: true,
+    },
+    Choice {
+        key: Key::Other,
+        short: 0,
+        long: "python",
+        value: Value::Never,
+        has_no: true,
+    },
+    Choice {
+        key: Key::Other,
+        short: 0,
+        long: "tcl",
+        value: Value::Never,
+        has_no: true,
+    },
+    Choice {
+        key: Key::Count,
+        short: 0,
+        long: "count",
+        value: Value::Always,
+        has_no: true,
+    },
+    Choice {
+        key: Key::Format,
+        short: 0,
+        long: "format",
+        value: Value::Always,
+        has_no: true,
+    },
+    Choice {
+        key: Key::Other,
+        short: 0,
+        long: "color",
+        value: Value::Joined,
+        has_no: true,
+    },
+    Choice {
+        key: Key::Sort,
+        short: 0,
+        long: "sort",
+        value: Value::Always,
+        has_no: true,
+    },
+    Choice {
+        key: Key::Other,
+        short: 0,
+        long: "points-at",
+        value: Value::Always,
+        has_no: true,
+    },
+    Choice {
+        key: Key::Merged,
+        short: 0,
+        long: "merged",
+        value: Value::UnlessLast,
+        has_no: false,
+    },
+    Choice {
+        key: Key::NoMerged,
+        short: 0,
+        long: "no-merged",
+        value: Value::UnlessLast,
+        has_no: false,
+    },
+    Choice {
+        key: Key::Contains,
+        short: 0,
+        long: "contains",
+        value: Value::UnlessLast,
+        has_no: false,
+    },
+    Choice {
+        key: Key::NoContains,
+        short: 0,
+        long: "no-contains",
+        value: Value::UnlessLast,
+        has_no: false,
+    },
+    Choice {
+        key: Key::Other,
+        short: 0,
+        long: "ignore-case",
+        value: Value::Never,
+        has_no: true,
+    },
+];
+
+/// What the words ask for.
+#[derive(Drop)]
+struct Asked<'w> {
+    filter: Filter,
+    format: &'w [u8],
+    /// How many references are printed at most; all if it is 0.
+    count: i32,
+    /// Tells whether the last name comes first.
+    is_reversed: bool,
+    patterns: Vec<&'w [u8]>,
+}
+
+/// Returns the commit of `--contains` or `--no-contains`.
+fn contained(session: &mut Session<'_>, text: &[u8]) -> Result<ObjectId, Stop> {
+    let Some(id) = revision(session, text)? else {
+        return Err(not_read(session.alloc, &[b"malformed object name ", text]));
+    };
+    match commit_of(session, id)? {
+        Some(commit) => Ok(commit),
+        None => Err(not_read(session.alloc, &[b"no such commit ", text])),
+    }
+}
+
+/// Returns the commit of `--merged` or `--no-merged`.
+fn merged(session: &mut Session<'_>, text: &[u8]) -> Result<ObjectId, Stop> {
+    let Some(id) = revision(session, text)? else {
+        return Err(fatal(session.alloc, &[b"malformed object name ", text]));
+    };
+    match commit_of(session, id)? {
+        Some(commit) => Ok(commit),
+        None => Err(not_read(session.alloc, &[b"'", text, b"' is no commit"])),
+    }
+}
+
+/// Returns whether the key of `--sort` puts the last name first.
+fn is_falling(alloc: Global, key: &[u8]) -> Result<bool, Stop> {
+    if key == b"refname".as_slice() {
+        Ok(false)
+    } else if key == b"-refname".as_slice() {
+        Ok(true)
+    } else {
+        Err(not_read(alloc, &[b"the sort key '", key, b"' is not supported"]))
+    }
+}
+
+/// Returns the number of `--count`.
+fn count(alloc: Global, text: &[u8]) -> Result<i32, Stop> {
+    match integer(text) {
+        Some(count) => Ok(count),
+        None => Err(not_read(alloc, &[b"--count wants a number"])),
+    }
+}
+
+/// Returns the end for an option that is not supported.
+fn unsupported(alloc: Global) -> Stop {
+    not_read(alloc, &[b"an option of for-each-ref is not supported"])
+}
+
+impl<'w> Asked<'w> {
+    /// Notes an option. A commit that it names is looked up at once, as in git.
+    fn note(&mut self, session: &mut Session<'_>, given: Given<'w, Key>) -> Result<(), Stop> {
+        if given.is_no {
+            return self.take_back(session.alloc, given.key);
+        }
+        let value = given.value;
+        let commit = value.unwrap_or(b"HEAD");
+        match given.key {
+            Key::Contains => self.filter.contains.push(contained(session, commit)?)?,
+            Key::NoContains => self.filter.no_contains.push(contained(session, commit)?)?,
+            Key::Merged => self.filter.merged.push(merged(session, commit)?)?,
+            Key::NoMerged => self.filter.no_merged.push(merged(session, commit)?)?,
+            Key::Format => self.format = value.unwrap_or(b""),
+            Key::Count => self.count = count(session.alloc, value.unwrap_or(b""))?,
+            Key::Sort => self.is_reversed = is_falling(session.alloc, value.unwrap_or(b""))?,
+            Key::Other => return Err(unsupported(session.alloc)),
+        }
+        Ok(())
+    }
+
+    /// Notes an option of the form `--no-NAME`.
+    fn take_back(&mut self, alloc: Global, key: Key) -> Result<(), Stop> {
+        match key {
+            Key::Count => self.count = 0,
+            Key::Sort => self.is_reversed = false,
+            _ => return Err(unsupported(alloc)),
+        }
+        Ok(())
+    }
+
+    /// Notes a pattern. An empty one is not supported.
+    fn note_pattern(&mut self, alloc: Global, pattern: &'w [u8]) -> Result<(), Stop> {
+        if pattern.is_empty() {
+            return Err(not_read(alloc, &[b"an empty pattern is not supported"]));
+        }
+        self.patterns.push(pattern)?;
+        Ok(())
+    }
+
+    /// Reads the words behind `for-each-ref`.
+    fn read(session: &mut Session<'_>, words: &'w [&'w [u8]]) -> Result<Asked<'w>, Stop> {
+        let alloc = session.alloc;
+        let mut asked = Asked {
+            filter: Filter::new(alloc),
+            format: FORMAT,
+            count: 0,
+            is_reversed: false,
+            patterns: Vec::new(alloc),
+        };
+        let mut reader = Reader::new(&CHOICES, words);
+        for _ in 0..usize::MAX {
+            match next_item(alloc, &mut reader)? {
+                Some(Item::Option(given)) => asked.note(session, given)?,
+                Some(Item::Argument(text)) => asked.note_pattern(alloc, text)?,
+                None => break,
+            }
+        }
+        Ok(asked)
+    }
+}
+
+/// Returns how many references are printed at most.
+fn most(alloc: Global, count: i32) -> Result<usize, Stop> {
+    match usize::try_from(count) {
+        Ok(0) => Ok(usize::MAX),
+        Ok(count) => Ok(count),
+        Err(_) => Err(not_read(alloc, &[b"--count wants a number that is not negative"])),
+    }
+}
+
+/// Prints references, each on a line.
+fn print_all(
+    session: &mut Session<'_>,
+    format: &[Part],
+    candidates: &[Candidate],
+    most: usize,
+) -> Result<(), Stop> {
+    expect_names(session, format, candidates.len())?;
+    for candidate in candidates.iter().take(most) {
+        print_reference(session, format, candidate)?;
+    }
+    Ok(())
+}
+
+/// Answers `for-each-ref`, and returns the status.
+pub fn for_each_ref(session: &mut Session<'_>, words: &[&[u8]]) -> Result<u8, Stop> {
+    let asked = Asked::read(session, words)?;
+    let most = most(session.alloc, asked.count)?;
+    let format = read_format(session, asked.format)?;
+    let mut candidates = list_wanted(session, &asked.patterns)?;
+    apply(session, &asked.filter, &mut candidates)?;
+    look_up(session, &format, &mut candidates)?;
+    if asked.is_reversed {
+        candidates.reverse();
+    }
+    print_all(session, &format, &candidates, most)?;
+    Ok(0)
+}

@@ -1,0 +1,284 @@
+//! Reads the revisions of `rev-list`, on the command line and of standard input.
+
+use crate::files::{no_revision, refuse_file};
+use crate::starts::{Starts, bad_object, is_there};
+use git_session::bases::{bases_in_order, merge_bases};
+use git_session::ranges::{
+    Ends, Marked, commit_reference, committish, ends_of, revision, shorthand_of, shorthand_tips,
+};
+use git_session::session::Session;
+use git_session::stop::{Stop, fatal, not_read};
+use gix_revision::hash::ObjectId;
+
+/// Says how a revision is read.
+#[derive(Clone, Copy)]
+pub(crate) struct Flags {
+    /// Tells whether it is read after `--not`.
+    pub(crate) is_turned: bool,
+    /// Tells whether it cannot be a file: there is `--`, or it is from standard input.
+    pub(crate) is_no_file: bool,
+}
+
+/// Ends if a word may be a file, and is one.
+fn check_file(session: &Session<'_>, flags: Flags, word: &[u8]) -> Result<(), Stop> {
+    if flags.is_no_file {
+        return Ok(());
+    }
+    refuse_file(session, word)
+}
+
+/// Returns git's end for a range whose ends are not there, or are no commits.
+fn bad_range(session: &Session<'_>, word: &[u8], is_symmetric: bool) -> Stop {
+    let text: &[u8] = if is_symmetric {
+        b"Invalid symmetric difference expression "
+    } else {
+        b"Invalid revision range "
+    };
+    fatal(session.alloc, &[text, word])
+}
+
+/// Adds the ends of `A...B`, and their merge bases.
+fn add_symmetric(
+    session: &mut Session<'_>,
+    flags: Flags,
+    word: &[u8],
+    ends: &Ends<'_>,
+    starts: &mut Starts,
+) -> Result<(), Stop> {
+    let start = commit_reference(session, ends.start)?;
+    let end = commit_reference(session, ends.end)?;
+    let (Some(start), Some(end)) = (start, end) else {
+        return Err(bad_range(session, word, true));
+    };
+    // The order matters only if the list begins at them.
+    let bases = if flags.is_turned {
+        bases_in_order(session, start, &[end])?
+    } else {
+        merge_bases(session, start, &[end])?
+    };
+    starts.add_pair(ends.start, ends.end, &bases, flags.is_turned)?;
+    Ok(())
+}
+
+/// Adds the ends of a range. Returns whether the word is one.
+fn add_range(
+    session: &mut Session<'_>,
+    flags: Flags,
+    word: &[u8],
+    starts: &mut Starts,
+) -> Result<bool, Stop> {
+    let Some(ends) = ends_of(session, word)? else {
+        return Ok(false);
+    };
+    check_file(session, flags, word)?;
+    let is_symmetric = ends.range.is_symmetric;
+    if !is_there(session, ends.start)? || !is_there(session, ends.end)? {
+        return Err(bad_range(session, word, is_symmetric));
+    }
+    if is_symmetric {
+        add_symmetric(session, flags, word, &ends, starts)?;
+    } else {
+        starts.add(ends.start, !flags.is_turned)?;
+        starts.add(ends.end, flags.is_turned)?;
+    }
+    Ok(true)
+}
+
+/// Returns whether an object leads to a commit.
+fn is_committish(session: &mut Session<'_>, id: ObjectId) -> Result<bool, Stop> {
+    match session.repository.commit(id) {
+        Ok(commit) => Ok(commit.is_some()),
+        Err(refusal) => Err(Stop::from(refusal)),
+    }
+}
+
+/// Fails as git does if there is no object with an id that a text names.
+fn ensure_there(session: &mut Session<'_>, text: &[u8], id: ObjectId) -> Result<(), Stop> {
+    if is_there(session, id)? {
+        Ok(())
+    } else {
+        Err(bad_object(session.alloc, text))
+    }
+}
+
+/// Returns whether the text before a mark leads to a commit, which the mark needs.
+fn leads_to_commit(session: &mut Session<'_>, text: &[u8]) -> Result<bool, Stop> {
+    match committish(session, text)? {
+        Some(id) => {
+            ensure_there(session, text, id)?;
+            is_committish(session, id)
+        }
+        None => Ok(false),
+    }
+}
+
+/// Adds the commits of `A^@`, `A^!` and `A^-n`. Returns whether the word is one of these.
+fn add_marked(
+    session: &mut Session<'_>,
+    flags: Flags,
+    word: &[u8],
+    starts: &mut Starts,
+) -> Result<bool, Stop> {
+    let Some(shorthand) = shorthand_of(session.alloc, word)? else {
+        return Ok(false);
+    };
+    if !leads_to_commit(session, shorthand.text)? {
+        return Ok(false);
+    }
+    let Some(tips) = shorthand_tips(session, word)? else {
+        return Ok(false);
+    };
+    if !matches!(shorthand.marked, Marked::Parents) {
+        check_file(session, flags, shorthand.text)?;
+    }
+    for tip in tips.iter() {
+        starts.add(tip.id, tip.is_excluded != flags.is_turned)?;
+    }
+    Ok(true)
+}
+
+/// Returns whether a text has `^-` with a number behind it that git does not read: then it names
+/// nothing.
+fn has_bad_number(session: &Session<'_>, text: &[u8]) -> Result<bool, Stop> {
+    if !text.windows(2).any(|two| two == b"^-".as_slice()) {
+        return Ok(false);
+    }
+    Ok(shorthand_of(session.alloc, text)?.is_none())
+}
+
+/// Adds the object that a text names. Returns whether it names one.
+fn add_single(
+    session: &mut Session<'_>,
+    flags: Flags,
+    text: &[u8],
+    starts: &mut Starts,
+) -> Result<bool, Stop> {
+    let Some(id) = revision(session, text)? else {
+        return Ok(false);
+    };
+    check_file(session, flags, text)?;
+    add_there(session, flags, text, id, starts)?;
+    Ok(true)
+}
+
+/// Adds an object.
+fn add_there(
+    session: &mut Session<'_>,
+    flags: Flags,
+    name: &[u8],
+    id: ObjectId,
+    starts: &mut Starts,
+) -> Result<(), Stop> {
+    ensure_there(session, name, id)?;
+    starts.add(id, flags.is_turned)?;
+    Ok(())
+}
+
+/// Adds the objects that a word means. Returns whether it means any.
+fn add_word(
+    session: &mut Session<'_>,
+    flags: Flags,
+    word: &[u8],
+    starts: &mut Starts,
+) -> Result<bool, Stop> {
+    if add_range(session, flags, word, starts)? {
+        return Ok(true);
+    }
+    let (text, is_turned) = match word.strip_prefix(b"^") {
+        Some(text) => (text, !flags.is_turned),
+        None => (word, flags.is_turned),
+    };
+    let flags = Flags {
+        is_turned,
+        is_no_file: flags.is_no_file,
+    };
+    // As in git, the first mark of the whole word counts: `^@^@` has none at its end.
+    let is_marked = shorthand_of(session.alloc, word)?.is_some();
+    if is_marked && add_marked(session, flags, text, starts)? {
+        return Ok(true);
+    }
+    if has_bad_number(session, text)? {
+        return Ok(false);
+    }
+    add_single(session, flags, text, starts)
+}
+
+/// Reads a revision of the command line.
+///
+/// # Errors
+///
+/// - `Fatal`, with git's message, if it names nothing, or a file, too.
+/// - `NotRead` if it is a path, or not read.
+pub(crate) fn read(
+    session: &mut Session<'_>,
+    flags: Flags,
+    word: &[u8],
+    starts: &mut Starts,
+) -> Result<(), Stop> {
+    if word == b"..".as_slice() {
+        return Err(not_read(session.alloc, &[b"rev-list: '..' is not supported"]));
+    }
+    if add_word(session, flags, word, starts)? {
+        return Ok(());
+    }
+    if flags.is_no_file || word.starts_with(b"^") {
+        return Err(fatal(session.alloc, &[b"bad revision '", word, b"'"]));
+    }
+    Err(no_revision(session, word))
+}
+
+/// Returns whether a line of standard input ends the revisions, as `--` does.
+fn is_dashes(session: &Session<'_>, line: &[u8]) -> Result<bool, Stop> {
+    if line == b"--".as_slice() {
+        return Ok(true);
+    }
+    if line.starts_with(b"-") {
+        return Err(fatal(session.alloc, &[b"options not supported in --stdin mode"]));
+    }
+    if line.contains(&0) {
+        return Err(not_read(
+            session.alloc,
+            &[b"a line with a zero byte is not supported"],
+        ));
+    }
+    Ok(false)
+}
+
+/// Reads the revisions of standard input: one on each line, up to an empty line.
+///
+/// # Errors
+///
+/// - `Fatal`, with git's message, if one names nothing.
+/// - `NotRead` if paths follow, or if standard input is not there.
+pub(crate) fn read_input(session: &mut Session<'_>, starts: &mut Starts) -> Result<(), Stop> {
+    let Some(input) = session.input.take() else {
+        return Err(not_read(session.alloc, &[b"rev-list: standard input is not there"]));
+    };
+    let flags = Flags {
+        is_turned: false,
+        is_no_file: true,
+    };
+    let mut lines = input.split(|b| *b == b'\n');
+    for _ in 0..usize::MAX {
+        let Some(line) = lines.next() else {
+            return Ok(());
+        };
+        let line = line.strip_suffix(b"\r").unwrap_or(line);
+        if line.is_empty() {
+            return Ok(());
+        }
+        if is_dashes(session, line)? {
+            return end_input(session, lines.next(), lines.next().is_some());
+        }
+        read(session, flags, line, starts)?;
+    }
+    Ok(())
+}
+
+/// Ends the revisions of standard input with `--`, if no path is behind it.
+fn end_input(session: &Session<'_>, rest: Option<&[u8]>, is_more: bool) -> Result<(), Stop> {
+    match rest {
+        None | Some([]) if !is_more => Ok(()),
+        _ => Err(not_read(session.alloc, &[b"rev-list: paths are not supported"])),
+    }
+}
