@@ -1,7 +1,7 @@
 //! Reads the small files `shallow` and `info/grafts` (gitrepository-layout).
 
 use gix_base::hash::ObjectId;
-use gix_config::is_blank;
+use gix_config::{before_zero, is_blank};
 use std::alloc::{AllocError, AllocFailed, Allocator, Global};
 
 /// Says why a small file is not read.
@@ -135,7 +135,8 @@ pub fn grafts<A: Allocator + Copy>(alloc: A, text: &[u8]) -> Result<Vec<Graft<A>
             break;
         }
         let (line, after) = split_line(rest);
-        if let Some(graft) = read_graft(alloc, without_blanks(line))? {
+        // git ends a line at its first zero byte, once it has dropped the blanks at its end.
+        if let Some(graft) = read_graft(alloc, before_zero(without_blanks(line)))? {
             list.push(graft)?;
         }
         rest = after;

@@ -485,8 +485,20 @@ impl<F: Folders + Drop, A: Allocator + Copy> References<F, A> {
         Ok(head)
     }
 
+    /// Fails if the folder that worktrees share has a file `commondir` itself. git then looks for
+    /// the references of the main worktree in another folder, or fails.
+    fn expect_main_worktree(&self) -> Result<(), Fault> {
+        let mut path = self.common_dir.as_slice().to_vec(self.alloc)?;
+        path.extend_from_slice(b"/commondir")?;
+        match read(self.alloc, &self.files, &path, b"commondir")? {
+            Some(_) => Err(Fault::Damaged(ErrorName::new(b"commondir"))),
+            None => Ok(()),
+        }
+    }
+
     /// Returns what the `HEAD`s of linked worktrees stand for.
     fn heads_by_files(&mut self) -> Result<Vec<ObjectId, A>, Fault> {
+        self.expect_main_worktree()?;
         let names = self.worktree_names()?;
         let mut ids = Vec::new(self.alloc);
         for name in names.split(|b| *b == 0) {
@@ -506,7 +518,8 @@ impl<F: Folders + Drop, A: Allocator + Copy> References<F, A> {
     /// # Errors
     ///
     /// - Those of [`References::all`].
-    /// - `Damaged` if the file `commondir` of a worktree leads to another folder.
+    /// - `Damaged` if the file `commondir` of a worktree leads to another folder, or if the folder
+    ///   that they share has one.
     pub fn worktree_heads(&mut self) -> Result<Vec<ObjectId, A>, Error> {
         self.begin();
         match self.heads_by_files() {
