@@ -79,6 +79,38 @@ pub(crate) fn ended(alloc: Global, stop: &Stop) -> Result<Finished, AllocError> 
     })
 }
 
+/// How many bytes of a message git prints at most.
+const MOST_SAID: usize = 4095;
+
+/// Adds a line of standard error as git prints it. A message is cut if it is too long, and has `?` in
+/// place of each control byte but tabs. A hint is printed as it is.
+fn add_said(line: &[u8], said: &mut Vec<u8>) -> Result<(), AllocError> {
+    if line.starts_with(b"hint: ") {
+        said.extend_from_slice(line)?;
+        return Ok(());
+    }
+    for byte in line.get(..MOST_SAID).unwrap_or(line) {
+        let is_odd = byte.is_ascii_control() && *byte != b'\t';
+        said.push(if is_odd { b'?' } else { *byte })?;
+    }
+    Ok(())
+}
+
+/// Returns the lines of standard error as git prints them.
+fn as_said(alloc: Global, lines: &[u8]) -> Result<Vec<u8>, AllocError> {
+    let mut said = Vec::new(alloc);
+    for line in lines.split_inclusive(|byte| *byte == b'\n') {
+        match line.strip_suffix(b"\n") {
+            Some(text) => {
+                add_said(text, &mut said)?;
+                said.push(b'\n')?;
+            }
+            None => add_said(line, &mut said)?,
+        }
+    }
+    Ok(said)
+}
+
 /// Answers the words behind `git proved`. An end prints nothing on standard output.
 ///
 /// # Errors
@@ -96,14 +128,14 @@ pub(crate) fn answer(
         Ok(status) => Ok(Finished {
             status,
             output: session.output.as_slice().to_vec(session.alloc)?,
-            errors,
+            errors: as_said(alloc, &errors)?,
         }),
         Err(stop) => {
             let status = add_end(&stop, &mut errors)?;
             Ok(Finished {
                 status,
                 output: Vec::new(session.alloc),
-                errors,
+                errors: as_said(alloc, &errors)?,
             })
         }
     }

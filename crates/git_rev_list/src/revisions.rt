@@ -192,12 +192,13 @@ fn add_word(
         is_turned,
         is_no_file: flags.is_no_file,
     };
-    // As in git, the first mark of the whole word counts: `^@^@` has none at its end.
+    // As in git, the first mark of the whole word counts: `^@^@` has none at its end, and `^-x` has
+    // one.
     let is_marked = shorthand_of(session.alloc, word)?.is_some();
     if is_marked && add_marked(session, flags, text, starts)? {
         return Ok(true);
     }
-    if has_bad_number(session, text)? {
+    if has_bad_number(session, word)? {
         return Ok(false);
     }
     add_single(session, flags, text, starts)

@@ -224,14 +224,18 @@ fn known_peeled(id: ObjectId, said: Option<ObjectId>, is_told: bool) -> Option<O
     }
 }
 
+/// Tests whether a part of a name is empty, `.` or `..`. As a path it may lead to another folder.
+fn leads_away(name: &[u8]) -> bool {
+    name.split(|b| *b == b'/').any(|part| part.is_empty()
+        || part == b".".as_slice()
+        || part == b"..".as_slice())
+}
+
 /// Fails if a part of a name of `packed-refs` is empty, `.` or `..`: git then lists no reference.
 ///
 /// git still looks up a single name in such a file, so reading the file does not fail.
 fn ensure_below(name: &[u8]) -> Result<(), Fault> {
-    if name.split(|b| *b == b'/').any(|part| part.is_empty()
-        || part == b".".as_slice()
-        || part == b"..".as_slice())
-    {
+    if leads_away(name) {
         return Err(Fault::Damaged(ErrorName::new(b"packed-refs")));
     }
     Ok(())
@@ -305,10 +309,14 @@ impl<F: Folders + Drop, A: Allocator + Copy> References<F, A> {
         Ok(())
     }
 
-    /// Returns the folders in which the loose references with a prefix lie.
+    /// Returns the folders in which the loose references with a prefix lie. There are none if the
+    /// prefix leads to a folder by another path than the names of references, as `refs/../x` does.
     fn first_folders(&self, prefix: &[u8]) -> Result<Vec<Vec<u8, A>, A>, Fault> {
         let mut folders = Vec::new(self.alloc);
         let first = folder_of(prefix);
+        if leads_away(first.strip_suffix(b"/").unwrap_or(first)) {
+            return Ok(folders);
+        }
         folders.push(first.to_vec(self.alloc)?)?;
         if self.is_linked() {
             for own in &OWN_FOLDERS {

@@ -308,6 +308,12 @@ fn has_braces(text: &[u8]) -> bool {
     text.windows(2).any(|two| two == b"@{".as_slice())
 }
 
+/// Returns whether a mark follows another one, as in `@{-1}@{u}`. git reads more of these than the
+/// parser.
+fn has_two_marks(text: &[u8]) -> bool {
+    text.windows(3).any(|three| three == b"}@{".as_slice())
+}
+
 /// Returns whether a step follows an `@` that ends a name, as in `x@^`. To git it is part of the
 /// name, and the parser does not read it.
 fn has_bare_at(text: &[u8]) -> bool {
@@ -469,7 +475,7 @@ impl<F: Folders + Drop, A: Allocator + Copy> Repository<F, A> {
         text: &[u8],
         wanted: Wanted,
     ) -> Result<(ObjectId, Option<NamedReference<A>>), Refusal> {
-        if has_bare_at(text) {
+        if has_bare_at(text) || has_two_marks(text) {
             return Err(Refusal::NotSupported);
         }
         let Outcome {
@@ -481,7 +487,7 @@ impl<F: Folders + Drop, A: Allocator + Copy> Repository<F, A> {
         match (refusal, at) {
             (Some(refusal), _) => Err(refusal),
             (None, Some(id)) if parsed => Ok((id, reference)),
-            // git reads more than the grammar, such as `@{-1}@{u}`.
+            // git reads more than the grammar.
             _ if has_braces(text) => Err(Refusal::NotSupported),
             _ => Err(Refusal::Unknown),
         }

@@ -25,13 +25,12 @@ fn is_plain(text: &[u8]) -> bool {
         || !b.is_ascii())
 }
 
-/// Returns the message of a commit's content.
-fn message_of(content: &[u8]) -> &[u8] {
-    let at = content.windows(2).position(|two| two == b"\n\n".as_slice());
-    match at {
-        Some(at) => content.get(at.saturating_add(2)..).unwrap_or(&[]),
-        None => &[],
-    }
+/// Returns the message of a commit's content; `None` if no empty line ends the headers. As in git,
+/// the content ends at its first zero byte.
+fn message_of(content: &[u8]) -> Option<&[u8]> {
+    let text = content.split(|b| *b == 0).next().unwrap_or(&[]);
+    let at = text.windows(2).position(|two| two == b"\n\n".as_slice())?;
+    text.get(at.saturating_add(2)..)
 }
 
 /// Returns whether a text contains another one.
@@ -40,7 +39,8 @@ fn contains(text: &[u8], part: &[u8]) -> bool {
 }
 
 impl<F: Folders + Drop, A: Allocator + Copy> Repository<F, A> {
-    /// Returns the commits to which all references lead, and HEAD, in the order of their names.
+    /// Returns the commits to which HEAD and all references lead: HEAD first, and then the names from
+    /// the last one to the first, as git searches those with the same date.
     fn all_tips(&mut self) -> Result<Vec<ObjectId, A>, Refusal> {
         let listing = self.list_references(b"refs/")?;
         let mut tips = Vec::new(self.alloc);
@@ -55,13 +55,15 @@ impl<F: Folders + Drop, A: Allocator + Copy> Repository<F, A> {
         if let Some(reference) = self.references.follow(b"HEAD")? {
             tips.push(reference.id)?;
         }
+        tips.reverse();
         Ok(tips)
     }
 
-    /// Returns whether the message of a commit contains a text.
+    /// Returns whether the message of a commit contains a text. A commit without a message contains
+    /// none.
     fn says(&mut self, id: ObjectId, text: &[u8]) -> Result<bool, Refusal> {
         let object = self.read_object(id)?;
-        Ok(contains(message_of(&object.content), text))
+        Ok(message_of(&object.content).is_some_and(|message| contains(message, text)))
     }
 
     /// Adds those of some commits that were not met before to the ones that wait.

@@ -20,7 +20,7 @@ fn mapped<A: Allocator>(
     let Some(colon) = refspec.iter().position(|b| *b == b':') else {
         return Ok(None);
     };
-    let from = refspec.get(..colon).unwrap_or(&[]);
+    let from = unabbreviated(refspec.get(..colon).unwrap_or(&[]));
     let to = refspec.get(colon.saturating_add(1)..).unwrap_or(&[]);
     match (split_star(from), split_star(to)) {
         (None, None) if from == name => Ok(Some(to.to_vec(alloc)?)),
@@ -54,6 +54,12 @@ fn map_star<A: Allocator>(
     Ok(Some(mapped))
 }
 
+/// Tests whether a name can be that of no reference, since a part of it is empty or has dots alone.
+fn is_odd_path(name: &[u8]) -> bool {
+    name.split(|b| *b == b'/')
+        .any(|part| part.iter().all(|b| *b == b'.'))
+}
+
 /// Returns whether there are two names, and they are the same.
 fn are_same<A: Allocator>(first: &Option<Vec<u8, A>>, second: &Option<Vec<u8, A>>) -> bool {
     match (first, second) {
@@ -83,12 +89,13 @@ impl<F: Folders + Drop, A: Allocator + Copy> Repository<F, A> {
         Ok(None)
     }
 
-    /// Returns the remote-tracking branch of a remote's branch, by its settings `fetch`.
+    /// Returns the remote-tracking branch of a remote's branch, by its settings `fetch`. Without one,
+    /// a branch of the remote `.` is the local branch itself.
     fn tracking(&self, remote: &[u8], name: &[u8]) -> Result<Option<Vec<u8, A>>, Refusal> {
-        if remote == b".".as_slice() {
-            return Ok(Some(name.to_vec(self.alloc)?));
+        match self.mapped_by(remote, b"fetch", name)? {
+            None if remote == b".".as_slice() => Ok(Some(name.to_vec(self.alloc)?)),
+            mapped => Ok(mapped),
         }
-        self.mapped_by(remote, b"fetch", name)
     }
 
     /// Returns the remote and the branch there from which a local branch is merged, whose short
@@ -257,7 +264,9 @@ impl<F: Folders + Drop, A: Allocator + Copy> Repository<F, A> {
         written: &[u8],
         kind: SiblingBranch,
     ) -> Result<Named<A>, Refusal> {
-        if unabbreviated(written) == b"HEAD".as_slice() {
+        if is_odd_path(written) {
+            Err(Refusal::Unknown)
+        } else if unabbreviated(written) == b"HEAD".as_slice() {
             self.sibling_here(kind)
         } else {
             self.check_remotes()?;
