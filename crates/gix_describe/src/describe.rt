@@ -5,6 +5,7 @@ mod function;
 mod handing;
 mod key;
 mod met;
+mod nearest;
 mod options;
 mod outcome;
 mod queries;
@@ -14,8 +15,9 @@ mod tally;
 mod walk;
 
 pub use format::Format;
-pub use function::{counted, describe};
-pub use options::{Names, Options};
+pub use function::{counted, counted_by, describe};
+pub use nearest::Nearest;
+pub use options::{Manner, Names, Options};
 pub use outcome::Outcome;
 pub use queries::{Answer, Query, run};
 

@@ -8,10 +8,12 @@ ghost use Rattle.gix_describe.specs.DescribeRefusals.{is_source_fault};
 ghost use Rattle.gix_describe.specs.Described.{name_at, named, nothing_to_find, unnamed};
 ghost use Rattle.gix_describe.specs.Outcomes.{names_of, names_in, cap_of, description_of, Describes, Keeps, Walks, Refuses};
 ghost use Rattle.gix_describe.specs.Counted.{CountsPops};
+ghost use Rattle.gix_describe.specs.Lent.{NameMap, options_by, outcomes_by};
 ghost use Rattle.gix_describe.specs.Ties.{Holds, HoldsAtFault, Ties};
 ghost use Rattle.gix_revwalk.specs.Graph.{held_at};
 
-use crate::describe::options::{Names, Options};
+use crate::describe::nearest::Nearest;
+use crate::describe::options::{Manner, Names, Options};
 use crate::describe::outcome::Outcome;
 use crate::describe::walk::{Found, Search, find_name};
 use gix_base::error::Message;
@@ -22,19 +24,18 @@ use std::alloc::Allocator;
 /// Returns the answer without a name if it was asked for.
 fn without_name<'name, A: Allocator>(
     id: ObjectId,
-    name_by_oid: Names<'name, A>,
     fallback_to_oid: bool,
     commits_seen: u32,
-) -> Option<Outcome<'name, A>>
-    ensures answer { option_map description_of result ≡ unnamed fallback_to_oid commits_seen }
-    ensures kept { IfSome result (λ o. (o.id ≡ id) × (o.name_by_oid ≡ name_by_oid.entry)) }
+) -> Option<Nearest<'name, A>>
+    ensures answer { (names : NameMap A) → option_map description_of (outcomes_by names result)
+        ≡ unnamed fallback_to_oid commits_seen }
+    ensures id { IfSome result (λ n. n.id ≡ id) }
 {
     if fallback_to_oid {
-        Some(Outcome {
+        Some(Nearest {
             name: None,
             id,
             depth: 0,
-            name_by_oid,
             commits_seen,
         })
     } else {
@@ -47,25 +48,46 @@ fn with_name_of<'name, A: Allocator + Copy>(
     named_id: ObjectId,
     id: ObjectId,
     depth: u32,
-    name_by_oid: Names<'name, A>,
+    names: &Names<'name, A>,
     commits_seen: u32,
-) -> Result<Option<Outcome<'name, A>>, Message>
-    ensures answer { IfOk result (λ r. option_map description_of r
-        ≡ option_map (λ name. named name depth commits_seen) (name_at (names_of name_by_oid.entry.entries) named_id)) }
-    ensures kept { IfOk result (λ r. IfSome r (λ o. (o.id ≡ id) × (o.name_by_oid ≡ name_by_oid.entry))) }
+) -> Result<Option<Nearest<'name, A>>, Message>
+    ensures answer { IfOk result (λ r. option_map description_of (outcomes_by names.now r)
+        ≡ option_map (λ name. named name depth commits_seen) (name_at (names_of names.now.entries) named_id)) }
+    ensures id { IfOk result (λ r. IfSome r (λ n. n.id ≡ id)) }
     ensures refused { IfErr result (λ e. e ≡ Message.OutOfMemory) }
 {
-    let copied = match name_by_oid.get(&named_id) {
+    let copied = match names.get(&named_id) {
         Some(name) => name.clone()?,
         None => return Ok(None),
     };
-    Ok(Some(Outcome {
+    Ok(Some(Nearest {
         name: Some(copied),
+        id,
+        depth,
+        commits_seen,
+    }))
+}
+
+/// Returns an outcome that also has the names.
+fn with_names<'name, A: Allocator>(
+    found: Option<Nearest<'name, A>>,
+    name_by_oid: Names<'name, A>,
+) -> Option<Outcome<'name, A>>
+    ensures { result ≡ outcomes_by name_by_oid.entry found.entry }
+{
+    let Nearest {
+        name,
+        id,
+        depth,
+        commits_seen,
+    } = found?;
+    Some(Outcome {
+        name,
         id,
         depth,
         name_by_oid,
         commits_seen,
-    }))
+    })
 }
 
 /// Tests whether there are no names, or none may be taken.
@@ -80,6 +102,66 @@ fn room(max_candidates: usize) -> usize
     ensures { result ≡ min max_candidates 32 }
 {
     max_candidates.min(32)
+}
+
+/// Finds a name as [`counted`] does, by names that stay with the caller.
+///
+/// A program that describes many commits makes the map of names once. Answer, count, graph and
+/// errors are those of [`counted`] with options that have these names and this manner.
+///
+/// # Errors
+///
+/// Those of [`counted`].
+pub fn counted_by<'name, S: Find, A: Allocator + Copy>(
+    alloc: A,
+    commit: &ObjectId,
+    graph: &mut Graph<S, u32, A>,
+    names: &Names<'name, A>,
+    manner: Manner,
+) -> Result<(Option<Nearest<'name, A>>, u128), Message>
+    ensures described { IfOk result (λ r. Describes (S.history graph.old.source) commit.now
+        (options_by names.now manner) (outcomes_by names.now r.0)) }
+    ensures kept { IfOk result (λ r. IfSome r.0 (λ n. n.id ≡ commit.now)) }
+    ensures tied { IfOk result (λ r. Ties (S.history graph.old.source) commit.now
+        (options_by names.now manner) (outcomes_by names.now r.0)) }
+    ensures held { IfOk result (λ r. Holds (S.history graph.old.source) commit.now
+        (options_by names.now manner) (outcomes_by names.now r.0) (held_at graph.new)) }
+    ensures pops { IfOk result (λ r. CountsPops (S.history graph.old.source) commit.now
+        (options_by names.now manner) (outcomes_by names.now r.0) r.1) }
+    ensures refused { IfErr result
+        (Refuses (S.history graph.old.source) commit.now (options_by names.now manner)) }
+    ensures fault { IfErr result (λ e. HoldsAtFault (S.history graph.old.source) commit.now
+        (options_by names.now manner) e (held_at graph.new)) }
+    ensures untouched { (¬ Walks commit.now (options_by names.now manner)) → graph.new ≡ graph.old }
+    // Takes no memory if there is no name to find.
+    ensures no_walk { name_at (names_of names.now.entries) commit.now ≡ None
+        → IsTrue (nothing_to_find (names_of names.now.entries) (min manner.max_candidates 32))
+        → IsOk result }
+    ensures history { S.history graph.new.source ≡ S.history graph.old.source }
+    ensures count { S.fault_count graph.new.source
+        ≡ count_after (is_source_fault result) (S.fault_count graph.old.source) }
+{
+    if names.contains_key(commit) {
+        let own = with_name_of(*commit, *commit, 0, names, 0)?;
+        return Ok((own, 0));
+    }
+    if is_idle(names, manner.max_candidates) {
+        return Ok((without_name(*commit, manner.fallback_to_oid, 0), 0));
+    }
+    graph.clear();
+    let search = Search {
+        start: *commit,
+        cap: room(manner.max_candidates),
+        first_parent: manner.first_parent,
+    };
+    let found = find_name(alloc, names, search, graph)?;
+    let Found { best, seen, pops } = found;
+    let Some((id, depth)) = best else {
+        let answer = without_name(*commit, manner.fallback_to_oid, seen);
+        return Ok((answer, pops));
+    };
+    let named = with_name_of(id, *commit, depth, names, seen)?;
+    Ok((named, pops))
 }
 
 /// Finds a name as [`describe()`] does, and counts how many commits left the queue of the walk.
@@ -141,27 +223,13 @@ pub fn counted<'name, S: Find, A: Allocator + Copy>(
         fallback_to_oid,
         first_parent,
     } = options;
-    if name_by_oid.contains_key(commit) {
-        let own = with_name_of(*commit, *commit, 0, name_by_oid, 0)?;
-        return Ok((own, 0));
-    }
-    if is_idle(&name_by_oid, max_candidates) {
-        return Ok((without_name(*commit, name_by_oid, fallback_to_oid, 0), 0));
-    }
-    graph.clear();
-    let search = Search {
-        start: *commit,
-        cap: room(max_candidates),
+    let manner = Manner {
+        max_candidates,
+        fallback_to_oid,
         first_parent,
     };
-    let found = find_name(alloc, &name_by_oid, search, graph)?;
-    let Found { best, seen, pops } = found;
-    let Some((id, depth)) = best else {
-        let answer = without_name(*commit, name_by_oid, fallback_to_oid, seen);
-        return Ok((answer, pops));
-    };
-    let named = with_name_of(id, *commit, depth, name_by_oid, seen)?;
-    Ok((named, pops))
+    let (found, pops) = counted_by(alloc, commit, graph, &name_by_oid, manner)?;
+    Ok((with_names(found, name_by_oid), pops))
 }
 
 /// Finds a name for `commit`: its own, or that of a near ancestor.
