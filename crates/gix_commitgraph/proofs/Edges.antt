@@ -4,7 +4,6 @@ use Rattle.std.proofs.lemmas.Bool.{cases_lt}
 use Rattle.std.proofs.lemmas.Bool.Decides.{nat_tests}
 use Rattle.std.specs.List.{list_all}
 use Rattle.gix_base.specs.declared.hash.ObjectId.{ObjectId}
-use Rattle.gix_ids.specs.TableForm.{id_of}
 use Rattle.gix_commitgraph.specs.FileCommits.{edge_word, edge_list}
 use Rattle.gix_commitgraph.specs.declared.commit_graph.layout.Layout.{Layout}
 
@@ -44,15 +43,15 @@ module _ (s : List ℕ) (l : Layout) (k n w : ℕ) (below : k < n) (is : w ≡ e
     pub one-passes : w < 2 ^ 31 → f (w % 2 ^ 31) ≡ true → list_all f (edge_list s l (k + 1) (n - (k + 1))) ≡ list_all f (edge_list s l k (n - k))
     one-passes low passes = rw (more-edges low, passes) refl
 
-  module _ (old new target : List ObjectId) (x : ObjectId) (named : x ≡ id_of s l.table (w % 2 ^ 31)) (pushed : new ≡ old ++ x ∷ [])
-      (was : old ++ map (id_of s l.table) (edge_list s l k (n - k)) ≡ target) where
+  module _ (name : ℕ → ObjectId) (old new target : List ObjectId) (x : ObjectId) (named : x ≡ name (w % 2 ^ 31)) (pushed : new ≡ old ++ x ∷ [])
+      (was : old ++ map name (edge_list s l k (n - k)) ≡ target) where
     -- the last of a list is pushed
     pub pushed-last : 2 ^ 31 ≤ w → w < 2 ^ 32 → new ≡ target
-    pushed-last high fits = pushed ∙ ap (λ y. old ++ y ∷ []) named ∙ ap (λ ps. old ++ map (id_of s l.table) ps) (sym (last-edge high fits)) ∙ was
+    pushed-last high fits = pushed ∙ ap (λ y. old ++ y ∷ []) named ∙ ap (λ ps. old ++ map name ps) (sym (last-edge high fits)) ∙ was
 
     -- one that others follow is pushed
-    pub pushed-one : w < 2 ^ 31 → new ++ map (id_of s l.table) (edge_list s l (k + 1) (n - (k + 1))) ≡ target
+    pub pushed-one : w < 2 ^ 31 → new ++ map name (edge_list s l (k + 1) (n - (k + 1))) ≡ target
     pushed-one low =
-        let rest : List ObjectId = map (id_of s l.table) (edge_list s l (k + 1) (n - (k + 1))) in
+        let rest : List ObjectId = map name (edge_list s l (k + 1) (n - (k + 1))) in
         ap (λ xs. xs ++ rest) pushed ∙ append_assoc old (x ∷ []) rest ∙ ap (λ y. old ++ (y ∷ rest)) named
-        ∙ ap (λ ps. old ++ map (id_of s l.table) ps) (sym (more-edges low)) ∙ was
+        ∙ ap (λ ps. old ++ map name ps) (sym (more-edges low)) ∙ was

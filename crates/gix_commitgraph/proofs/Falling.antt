@@ -31,7 +31,7 @@ module _ (h : History) (falls : GenerationsFall h) where
 
 -- ---- a file's
 
-both : (x y : Bool) → (x && y) ≡ true → (x ≡ true) × (y ≡ true)
+pub both : (x y : Bool) → (x && y) ≡ true → (x ≡ true) × (y ≡ true)
 both true y e = (refl, e)
 both false y e = cc
 

@@ -25,7 +25,7 @@ pub first-lacks : (h k : History) (id : ObjectId) → entry_at h id ≡ None →
 first-lacks [] k id none = refl
 first-lacks (x ∷ h) k id none = one-lacks (same_id id x.0) x.1 (entry_at h id) (entry_at (h ++ k) id) (entry_at k id) (first-lacks h k id) none
 
-has-or-lacks : (o : Option Entry) → IsTrue (is_some o) ⊎ (o ≡ None)
+pub has-or-lacks : (o : Option Entry) → IsTrue (is_some o) ⊎ (o ≡ None)
 has-or-lacks None = inr refl
 has-or-lacks (Some e) = inl refl
 

@@ -7,3 +7,7 @@ pub mod Refusals
 pub mod Joins
 pub mod Hashed
 pub mod Grown
+pub mod Alone
+pub mod Layers
+pub mod Chains
+pub mod High

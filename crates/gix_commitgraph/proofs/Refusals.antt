@@ -2,7 +2,8 @@
 use Rattle.std.proofs.Common.{◌≡◌, ℕ, ◌+◌, ◌*◌, inl, inr, List, Option, Some, None, sym, ap, ◌∙◌, subst, arith}
 use Rattle.gix_ids.specs.TableBytes.{word}
 use Rattle.gix_commitgraph.specs.FileChunks.{chunk_at, start_of, layout_of, cdat, edge, oidf, oidl}
-use Rattle.gix_commitgraph.specs.FileFormat.{MustHave, MayHave, HasChunks, IsCommitGraph}
+use Rattle.gix_commitgraph.specs.FileFormat.{MustHave, MayHave, HasHeader, HasTable, HasChunks}
+use Rattle.gix_commitgraph.specs.FileChecks.{IsSoundIn}
 use Rattle.gix_commitgraph.specs.FileRefused.{IsWrong, IsMisshapen, IsLacking}
 use Rattle.gix_commitgraph.specs.declared.commit_graph.layout.Chunk.{Chunk}
 use Rattle.gix_commitgraph.specs.declared.commit_graph.layout.Layout.{Layout}
@@ -46,47 +47,47 @@ must-be : (o : Option Chunk) (n : ℕ) → MustHave o n → o ≡ None → ⊥
 must-be None n h e = h
 must-be (Some c) n h e = cc
 
-pub misshapen-refutes : (s : List ℕ) (e : OpenFault) → IsMisshapen s e → IsCommitGraph s → ⊥
-misshapen-refutes s TooShort m g = let t = g.header.table in omega arith
-misshapen-refutes s Signature m g = m g.header.signature
-misshapen-refutes s Version m g = m g.header.version
-misshapen-refutes s Hash m g = m g.header.hash
-misshapen-refutes s BaseGraphs m g = m g.header.no_base
-misshapen-refutes s NoChunkId m g = (g.table.rows m.0 m.1).named m.2
-misshapen-refutes s Repeated m g = m.2 (g.table.rows m.0 m.1).once
-misshapen-refutes s ChunkPlace (i, h, inl falls) g = let r = (g.table.rows i h).rises in omega arith
-misshapen-refutes s ChunkPlace (i, h, inr long) g = let r = (g.table.rows i h).inside in omega arith
-misshapen-refutes s TableEnd m g = m g.table.ended
-misshapen-refutes s NoFanout m g = must-be (chunk_at s oidf) 1024 g.chunks.fanout m
-misshapen-refutes s NoIds m g = must-be (chunk_at s oidl) (20 * (layout_of s).table.count) g.chunks.ids m
-misshapen-refutes s NoRows m g = must-be (chunk_at s cdat) (36 * (layout_of s).table.count) g.chunks.rows m
-misshapen-refutes s ChunkSize m g = m g.chunks
-misshapen-refutes s Fanout m g = m
-misshapen-refutes s IdOrder m g = m
-misshapen-refutes s IdPlace m g = m
-misshapen-refutes s Parent m g = m
-misshapen-refutes s EdgeParent m g = m
-misshapen-refutes s EdgeEnd m g = m
-misshapen-refutes s EdgeOrder m g = m
+pub misshapen-refutes : (s : List ℕ) (e : OpenFault) → IsMisshapen s e → HasHeader s → HasTable s → HasChunks s → ⊥
+misshapen-refutes s TooShort m header table chunks = let t = header.table in omega arith
+misshapen-refutes s Signature m header table chunks = m header.signature
+misshapen-refutes s Version m header table chunks = m header.version
+misshapen-refutes s Hash m header table chunks = m header.hash
+misshapen-refutes s BaseGraphs m header table chunks = m
+misshapen-refutes s NoChunkId m header table chunks = (table.rows m.0 m.1).named m.2
+misshapen-refutes s Repeated m header table chunks = m.2 (table.rows m.0 m.1).once
+misshapen-refutes s ChunkPlace (i, h, inl falls) header table chunks = let r = (table.rows i h).rises in omega arith
+misshapen-refutes s ChunkPlace (i, h, inr long) header table chunks = let r = (table.rows i h).inside in omega arith
+misshapen-refutes s TableEnd m header table chunks = m table.ended
+misshapen-refutes s NoFanout m header table chunks = must-be (chunk_at s oidf) 1024 chunks.fanout m
+misshapen-refutes s NoIds m header table chunks = must-be (chunk_at s oidl) (20 * (layout_of s).table.count) chunks.ids m
+misshapen-refutes s NoRows m header table chunks = must-be (chunk_at s cdat) (36 * (layout_of s).table.count) chunks.rows m
+misshapen-refutes s ChunkSize m header table chunks = m chunks
+misshapen-refutes s Fanout m header table chunks = m
+misshapen-refutes s IdOrder m header table chunks = m
+misshapen-refutes s IdPlace m header table chunks = m
+misshapen-refutes s Parent m header table chunks = m
+misshapen-refutes s EdgeParent m header table chunks = m
+misshapen-refutes s EdgeEnd m header table chunks = m
+misshapen-refutes s EdgeOrder m header table chunks = m
 
-pub wrong-refutes : (s : List ℕ) (e : OpenFault) → IsWrong s (layout_of s) e → IsCommitGraph s → ⊥
-wrong-refutes s Fanout w g = w.2 (g.sound.sorted.fans w.0 w.1)
-wrong-refutes s IdPlace w g = w.2 (g.sound.sorted.fanned w.0 w.1)
-wrong-refutes s IdOrder w g = w.2 (g.sound.sorted.rises w.0 w.1)
-wrong-refutes s Parent w g = w.2 (g.sound.parents w.0 w.1)
-wrong-refutes s EdgeParent w g = w.2 (g.sound.edges w.0 w.1)
-wrong-refutes s EdgeEnd w g = let h = g.sound.ended w.0 in let b = w.1 in omega arith
-wrong-refutes s EdgeOrder (i, j, less, here, w) g = w (g.sound.lists i j less here)
-wrong-refutes s TooShort w g = w
-wrong-refutes s Signature w g = w
-wrong-refutes s Version w g = w
-wrong-refutes s Hash w g = w
-wrong-refutes s BaseGraphs w g = w
-wrong-refutes s NoChunkId w g = w
-wrong-refutes s Repeated w g = w
-wrong-refutes s ChunkPlace w g = w
-wrong-refutes s TableEnd w g = w
-wrong-refutes s NoFanout w g = w
-wrong-refutes s NoIds w g = w
-wrong-refutes s NoRows w g = w
-wrong-refutes s ChunkSize w g = w
+pub wrong-refutes : (s : List ℕ) (n : ℕ) (e : OpenFault) → IsWrong s (layout_of s) n e → IsSoundIn s (layout_of s) n → ⊥
+wrong-refutes s n Fanout w g = w.2 (g.sorted.fans w.0 w.1)
+wrong-refutes s n IdPlace w g = w.2 (g.sorted.fanned w.0 w.1)
+wrong-refutes s n IdOrder w g = w.2 (g.sorted.rises w.0 w.1)
+wrong-refutes s n Parent w g = w.2 (g.parents w.0 w.1)
+wrong-refutes s n EdgeParent w g = w.2 (g.edges w.0 w.1)
+wrong-refutes s n EdgeEnd w g = let h = g.ended w.0 in let b = w.1 in omega arith
+wrong-refutes s n EdgeOrder (i, j, less, here, w) g = w (g.lists i j less here)
+wrong-refutes s n TooShort w g = w
+wrong-refutes s n Signature w g = w
+wrong-refutes s n Version w g = w
+wrong-refutes s n Hash w g = w
+wrong-refutes s n BaseGraphs w g = w
+wrong-refutes s n NoChunkId w g = w
+wrong-refutes s n Repeated w g = w
+wrong-refutes s n ChunkPlace w g = w
+wrong-refutes s n TableEnd w g = w
+wrong-refutes s n NoFanout w g = w
+wrong-refutes s n NoIds w g = w
+wrong-refutes s n NoRows w g = w
+wrong-refutes s n ChunkSize w g = w

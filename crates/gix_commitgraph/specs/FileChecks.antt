@@ -1,5 +1,6 @@
--- What is checked of the commits of a file when it is opened: each look-up and each parent leads to
--- a commit of the file.
+-- What is checked of the commits of a file when it is opened: each look-up leads to a commit of the
+-- file, and each parent to one of n commits. They are the commits of the file and, if the file is
+-- one of a chain, those of the files below it.
 use Rattle.std.specs.Prelude.{◌≢◌, ℕ, ◌+◌, ◌-◌, ◌*◌, ◌%◌, ◌^◌, ◌≤◌, ◌<◌, List, length}
 use Rattle.gix_ids.specs.TableForm.{IsSorted}
 use Rattle.gix_commitgraph.specs.FileCommits.{row_word, edge_word, edge_list}
@@ -11,16 +12,16 @@ pub record Fits (s : List ℕ) (l : Layout) : Type 0 where
   pub edges : l.edges + 4 * l.edge_count ≤ length s
 
 module _ (s : List ℕ) (l : Layout) where
-  -- The first parent of the commit at position i is none, or the position of a commit. The second
-  -- is none, the position of a commit, or the place of a list in EDGE.
-  pub record HasParents (i : ℕ) : Type 0 where
-    pub first : row_word s l i 20 ≢ 0x7000_0000 → row_word s l i 20 < l.table.count
-    pub second : row_word s l i 24 ≢ 0x7000_0000 → row_word s l i 24 < 2 ^ 31 → row_word s l i 24 < l.table.count
+  -- The first parent of the commit at position i is none, or a number less than n. The second is
+  -- none, a number less than n, or the place of a list in EDGE.
+  pub record HasParents (n i : ℕ) : Type 0 where
+    pub first : row_word s l i 20 ≢ 0x7000_0000 → row_word s l i 20 < n
+    pub second : row_word s l i 24 ≢ 0x7000_0000 → row_word s l i 24 < 2 ^ 31 → row_word s l i 24 < n
     pub others : 2 ^ 31 ≤ row_word s l i 24 → row_word s l i 24 - 2 ^ 31 < l.edge_count
 
-  -- The number k of EDGE, without its highest bit, is the position of a commit.
-  abbrev pub NamesCommit : ℕ → Type 0
-  NamesCommit k = edge_word s l k % 2 ^ 31 < l.table.count
+  -- The number k of EDGE, without its highest bit, is less than n.
+  abbrev pub NamesCommit : ℕ → ℕ → Type 0
+  NamesCommit n k = edge_word s l k % 2 ^ 31 < n
 
   -- The commit at position i has a list in EDGE.
   abbrev pub HasList : ℕ → Type 0
@@ -39,12 +40,17 @@ module _ (s : List ℕ) (l : Layout) where
   abbrev pub EndsBefore : ℕ → ℕ → Type 0
   EndsBefore i j = HasList i → HasList j → list_end i ≤ list_start j
 
-  pub record IsSound : Type 0 where
+  -- The commits are sound, and the positions of their parents are less than n.
+  pub record IsSoundIn (n : ℕ) : Type 0 where
     pub sorted : IsSorted s l.table
     pub fits : Fits s l
-    pub parents : (i : ℕ) → i < l.table.count → HasParents i
-    pub edges : (k : ℕ) → k < l.edge_count → NamesCommit k
+    pub parents : (i : ℕ) → i < l.table.count → HasParents n i
+    pub edges : (k : ℕ) → k < l.edge_count → NamesCommit n k
     -- The last number of EDGE ends a list.
     pub ended : 0 < l.edge_count → 2 ^ 31 ≤ edge_word s l (l.edge_count - 1)
     -- The lists in EDGE are in the order of their commits, and no two overlap.
     pub lists : (i j : ℕ) → i < j → j < l.table.count → EndsBefore i j
+
+  -- The commits are sound, and their parents are commits of the file.
+  abbrev pub IsSound : Type 0
+  IsSound = IsSoundIn l.table.count

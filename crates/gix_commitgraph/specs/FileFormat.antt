@@ -11,7 +11,6 @@ pub record HasHeader (s : List ℕ) : Type 0 where
   pub signature : take 4 s ≡ codes "CGPH"
   pub version : slice_index s 4 ≡ 1
   pub hash : slice_index s 5 ≡ 1
-  pub no_base : slice_index s 7 ≡ 0
   pub table : 40 + 12 * row_count s ≤ length s
 
 -- Row i of the table of contents has a chunk id, and no row before it has the same one. Its chunk
@@ -47,6 +46,7 @@ pub record HasChunks (s : List ℕ) : Type 0 where
 
 pub record IsCommitGraph (s : List ℕ) : Type 0 where
   pub header : HasHeader s
+  pub no_base : slice_index s 7 ≡ 0
   pub table : HasTable s
   pub chunks : HasChunks s
   pub sound : IsSound s (layout_of s)

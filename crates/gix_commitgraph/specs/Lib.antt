@@ -8,5 +8,9 @@ pub mod FileIds
 pub mod FileParents
 pub mod FileLevels
 pub mod FileHash
+pub mod ChainCommits
+pub mod ChainFormat
+pub mod ChainSteps
+pub mod ChainLevels
 pub mod NewerCommits
 pub mod OpenFaultText

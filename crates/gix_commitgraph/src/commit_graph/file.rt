@@ -1,6 +1,6 @@
 //! A commit-graph file as a source of commits.
 
-ghost use Rattle.std.specs.Prelude.{◌≡◌, ◌↔◌, ◌+◌, ◌*◌, ◌<◌, ◌≤◌, ◌^◌, length, slice_get, IsOk, IfOk, IfErr, OnOk, IsTrue, is_some};
+ghost use Rattle.std.specs.Prelude.{◌≡◌, ◌↔◌, ◌+◌, ◌*◌, ◌<◌, ◌≤◌, ◌^◌, ◌++◌, length, slice_get, IsOk, IfOk, IfErr, OnOk, IsTrue, is_some};
 ghost use Rattle.std.specs.Option.{option_map};
 ghost use Rattle.std.specs.List.Sorted.{IsStrictlySortedBy};
 ghost use Rattle.gix_revwalk.specs.Held.{entry_of};
@@ -11,6 +11,7 @@ ghost use Rattle.gix_commitgraph.specs.FileChunks.{layout_of};
 ghost use Rattle.gix_commitgraph.specs.FileCommits.{history_in};
 ghost use Rattle.gix_commitgraph.specs.FileChecks.{IsSound};
 ghost use Rattle.gix_commitgraph.specs.FileFormat.{IsCommitGraph};
+ghost use Rattle.gix_commitgraph.specs.ChainFormat.{hash_of};
 ghost use Rattle.gix_commitgraph.specs.FileIds.{ids_in};
 ghost use Rattle.gix_commitgraph.specs.FileHash.{HashIsRight};
 ghost use Rattle.gix_commitgraph.specs.FileLevels.{LevelsFall, IsLevelled};
@@ -21,6 +22,7 @@ use crate::commit_graph::check::check;
 use crate::commit_graph::commit::commit_at;
 use crate::commit_graph::fault::{OpenError, OpenFault};
 use crate::commit_graph::hints::Hints;
+use crate::commit_graph::layer::{add_hash, add_ids};
 use crate::commit_graph::layout::{Layout, read_layout};
 use crate::commit_graph::levels;
 use crate::commit_graph::lookup::position_near;
@@ -64,7 +66,10 @@ fn read(bytes: &[u8]) -> Result<Layout, OpenFault>
     ensures refused { IfErr result (IsRefused bytes.now) }
 {
     let layout = read_layout(bytes)?;
-    check(bytes, layout)?;
+    if bytes[7] != 0 {
+        return Err(OpenFault::BaseGraphs);
+    }
+    check(bytes, layout, layout.table.count)?;
     Ok(layout)
 }
 
@@ -128,6 +133,21 @@ impl<B: AsSlice<u8> + Drop> CommitGraph<B> {
         ensures { result ≡ length (history_in self.now) }
     {
         self.layout.table.count
+    }
+
+    /// Appends the ids of the commits to `ids`, and the trailing hash to `hashes`.
+    pub(crate) fn add_to<A: Allocator>(
+        &self,
+        ids: &mut Vec<ObjectId, A>,
+        hashes: &mut Vec<u8, A>,
+    ) -> Result<(), AllocError>
+        ensures ids { OnOk result (ids.new.items ≡ ids.old.items ++ ids_in self.now) }
+        ensures hashes { OnOk result (hashes.new.items ≡ hashes.old.items ++ hash_of self.now) }
+    {
+        let bytes = self.bytes.as_slice();
+        add_ids(bytes, self.layout.table, ids)?;
+        add_hash(bytes, hashes)?;
+        Ok(())
     }
 
     /// Guarantees that the commits have few parents. Does nothing else.

@@ -52,9 +52,6 @@ fn check_header(bytes: &[u8]) -> Result<(), OpenFault>
     if bytes[5] != 1 {
         return Err(OpenFault::Hash);
     }
-    if bytes[7] != 0 {
-        return Err(OpenFault::BaseGraphs);
-    }
     if bytes.len() < 40 + 12 * bytes[6] as usize {
         return Err(OpenFault::TooShort);
     }
@@ -116,7 +113,7 @@ fn check_table(bytes: &[u8]) -> Result<(), OpenFault>
 
 /// Finds the chunk that has the chunk id `tag`.
 #[tactic(auto, unfolding(crate::specs::FileChunks::chunk_at))]
-fn find_chunk(bytes: &[u8], tag: usize) -> Option<Chunk>
+pub(crate) fn find_chunk(bytes: &[u8], tag: usize) -> Option<Chunk>
     requires header { HasHeader bytes.now }
     requires table { HasTable bytes.now }
     ensures value { result ≡ chunk_at bytes.now tag }
