@@ -103,7 +103,7 @@ fn unopened(alloc: Global, error: &OpenError) -> Stop {
         OpenError::Reference(_) => not_read(alloc, &[b"the references cannot be read"]),
         OpenError::Changes => not_read(
             alloc,
-            &[b"the file 'shallow' or 'info/grafts' cannot be read"],
+            &[b"'shallow', 'info/grafts' or the name of a replacement cannot be read"],
         ),
         OpenError::WrongKind => not_read(
             alloc,

@@ -29,6 +29,7 @@ pub enum Variable {
     GraftFile,
     IndexFile,
     Namespace,
+    RefParanoia,
     SudoUid,
 }
 
@@ -39,7 +40,7 @@ struct Named {
 }
 
 /// The names of all variables.
-static NAMES: [Named; 22] = [
+static NAMES: [Named; 23] = [
     Named {
         variable: Variable::GitDir,
         name: "GIT_DIR",
@@ -123,6 +124,10 @@ static NAMES: [Named; 22] = [
     Named {
         variable: Variable::Namespace,
         name: "GIT_NAMESPACE",
+    },
+    Named {
+        variable: Variable::RefParanoia,
+        name: "GIT_REF_PARANOIA",
     },
     Named {
         variable: Variable::SudoUid,
@@ -316,7 +321,8 @@ impl<A: Allocator + Copy> Environment<A> {
         }
     }
 
-    /// Tells whether a variable is set, has to be a boolean, and is none.
+    /// Tells whether a variable is set, has to be a boolean, and is none. `GIT_REF_PARANOIA` has to be
+    /// true: else git leaves broken references out.
     fn is_bad_boolean(&self, variable: Variable) -> bool {
         match (variable, self.get(variable)) {
             (
@@ -325,6 +331,7 @@ impl<A: Allocator + Copy> Environment<A> {
                 | Variable::ImplicitWorkTree,
                 Some(text),
             ) => boolean(text).is_none(),
+            (Variable::RefParanoia, Some(text)) => boolean(text) != Some(true),
             _ => false,
         }
     }

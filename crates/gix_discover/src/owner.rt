@@ -29,9 +29,12 @@ pub(crate) fn is_own<F: Places, A: Allocator + Copy>(
     if user != 0 || owner == 0 {
         return Ok(owner == user);
     }
-    match environment.get(Variable::SudoUid) {
-        Some(text) => Ok(decimal(text) == Some(owner)),
-        None => Ok(false),
+    let text = environment.get(Variable::SudoUid).unwrap_or(&[]);
+    match decimal(text) {
+        Some(user) => Ok(user == owner),
+        None if text.is_empty() => Ok(false),
+        // git reads more texts as a number.
+        None => Err(about(alloc, Reason::BadNumber, b"SUDO_UID")),
     }
 }
 

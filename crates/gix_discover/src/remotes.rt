@@ -71,10 +71,10 @@ fn fault(kind: Kind, value: Option<&[u8]>) -> Option<Reason> {
 
 /// Returns the reason against a setting of a remote.
 ///
-/// A remote whose name begins with a slash does not count.
+/// A remote whose name begins with a slash is refused. git warns of it, and ignores its settings.
 fn remote_fault(remote: &[u8], key: &[u8], value: Option<&[u8]>) -> Option<Reason> {
     if remote.starts_with(b"/") {
-        return None;
+        return Some(Reason::BadConfigKey);
     }
     for (checked, kind) in REMOTE.iter() {
         if checked.as_bytes() == key {

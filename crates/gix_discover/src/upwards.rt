@@ -383,15 +383,17 @@ impl<'a, F: Places, A: Allocator + Copy> Search<'a, F, A> {
         Ok(list)
     }
 
-    /// Returns the path of a file or folder, unless a variable names it.
+    /// Returns the path of a file or folder, unless a variable names it. The path of a variable counts
+    /// from `top`.
     fn part(
         &self,
         variable: Variable,
+        top: &[u8],
         common_dir: &[u8],
         name: &[u8],
     ) -> Result<Vec<u8, A>, DiscoverError<A>> {
         match self.environment.get(variable) {
-            Some(path) => Ok(path.to_vec(self.alloc)?),
+            Some(path) => Ok(resolved(self.alloc, top, path)?),
             None => Ok(within(self.alloc, common_dir, name)?),
         }
     }
@@ -414,11 +416,11 @@ impl<'a, F: Places, A: Allocator + Copy> Search<'a, F, A> {
         let top = inside(&work_tree, prefix.is_some());
         Ok(Layout {
             git_dir: found.git_dir.as_slice().to_vec(self.alloc)?,
-            objects: self.part(Variable::ObjectDirectory, &path, b"objects")?,
+            objects: self.part(Variable::ObjectDirectory, top, &path, b"objects")?,
             alternates: self.alternates(top)?,
             is_bare: format.is_bare != Some(false) && work_tree.is_none(),
-            shallow: self.part(Variable::ShallowFile, &path, b"shallow")?,
-            grafts: self.part(Variable::GraftFile, &path, b"info/grafts")?,
+            shallow: self.part(Variable::ShallowFile, top, &path, b"shallow")?,
+            grafts: self.part(Variable::GraftFile, top, &path, b"info/grafts")?,
             worktree_config: format.worktree_config,
             common_dir: path,
             work_tree,

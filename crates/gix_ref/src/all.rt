@@ -504,11 +504,16 @@ impl<F: Folders + Drop, A: Allocator + Copy> References<F, A> {
         }
     }
 
-    /// Returns what the `HEAD`s of linked worktrees stand for.
+    /// Returns what the `HEAD`s of the other worktrees stand for, and of linked ones that of this.
     fn heads_by_files(&mut self) -> Result<Vec<ObjectId, A>, Fault> {
         self.expect_main_worktree()?;
         let names = self.worktree_names()?;
         let mut ids = Vec::new(self.alloc);
+        if self.is_linked() {
+            if let Some(reference) = self.sound(b"main-worktree/HEAD")? {
+                ids.push(reference.id)?;
+            }
+        }
         for name in names.split(|b| *b == 0) {
             if !is_hidden(name) && self.is_worktree(name)? {
                 let head = self.worktree_head(name)?;
@@ -520,8 +525,8 @@ impl<F: Folders + Drop, A: Allocator + Copy> References<F, A> {
         Ok(ids)
     }
 
-    /// Returns what `HEAD` of each linked worktree stands for, without those that are broken or
-    /// lead nowhere (git-worktree, "Details").
+    /// Returns what `HEAD` of each linked worktree stands for and, in a linked worktree, that of the
+    /// main one. Those that are broken or lead nowhere are left out (git-worktree, "Details").
     ///
     /// # Errors
     ///

@@ -20,6 +20,9 @@ use std::collections::BTreeSet;
 /// The id with zeros only, which no object has.
 const ZEROS: ObjectId = ObjectId([0u8; 20]);
 
+/// Where the references of replacements are, unless `GIT_REPLACE_REF_BASE` is set.
+const REPLACEMENTS: &[u8] = b"refs/replace/";
+
 /// Which files are believed.
 #[derive(Clone, Copy, Debug, PartialEq, Eq)]
 pub enum Mode {
@@ -40,7 +43,8 @@ pub enum OpenError<A: Allocator = Global> {
     Object(gix_odb::Error),
     /// References are not read.
     Reference(gix_ref::Error),
-    /// The file `shallow` or `info/grafts` is not read, or is malformed.
+    /// The file `shallow` or `info/grafts` is not read, or is malformed. Or `GIT_REPLACE_REF_BASE`,
+    /// or the name of a replacement, is none that git writes.
     Changes,
     /// The file `shallow` or `info/grafts` names an object that is no commit, or an object is
     /// replaced by one of another kind.
@@ -152,13 +156,16 @@ impl<A: Allocator + Copy> Changes<A> {
         Ok(())
     }
 
-    /// Puts an object in the place of the one that the name of a reference says.
+    /// Puts an object in the place of the one that the name of a reference below `base` says.
     ///
-    /// A name that is not 40 digits says none.
-    fn add_named(&mut self, digits: Option<&[u8]>, by: ObjectId) -> Result<(), AllocError> {
-        match ObjectId::from_hex(digits.unwrap_or(&[])) {
-            Ok(id) => self.replace(id, by),
-            Err(_) => Ok(()),
+    /// A name that is not 40 digits says none. But git reads what follows the last slash, so another
+    /// base than its own, or a further slash, is refused.
+    fn add_named(&mut self, base: &[u8], name: &[u8], by: ObjectId) -> Result<(), OpenError<A>> {
+        let digits = name.get(base.len()..).unwrap_or(&[]);
+        match ObjectId::from_hex(digits) {
+            Ok(id) => Ok(self.replace(id, by)?),
+            Err(_) if base == REPLACEMENTS && !digits.contains(&b'/') => Ok(()),
+            Err(_) => Err(OpenError::Changes),
         }
     }
 
@@ -170,12 +177,15 @@ impl<A: Allocator + Copy> Changes<A> {
         references: &mut References<F, A>,
         base: &[u8],
     ) -> Result<(), OpenError<A>> {
+        if !base.starts_with(b"refs/") || !base.ends_with(b"/") {
+            return Err(OpenError::Changes);
+        }
         let listing = references.all(base)?;
         for listed in listing.references.iter() {
-            self.add_named(listed.name.get(base.len()..), listed.id)?;
+            self.add_named(base, &listed.name, listed.id)?;
         }
         for skipped in listing.skipped.iter() {
-            self.add_named(skipped.name.get(base.len()..), ZEROS)?;
+            self.add_named(base, &skipped.name, ZEROS)?;
         }
         Ok(())
     }
@@ -197,7 +207,7 @@ fn changes_of<F: Folders + Drop, A: Allocator + Copy>(
     let is_switched_off = environment.get(Variable::NoReplaceObjects).is_some();
     if settings.uses_replace_refs(alloc)? && !is_switched_off {
         let base = environment.get(Variable::ReplaceRefBase);
-        changes.add_replaced(references, base.unwrap_or(b"refs/replace/"))?;
+        changes.add_replaced(references, base.unwrap_or(REPLACEMENTS))?;
     }
     Ok(changes)
 }

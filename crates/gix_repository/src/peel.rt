@@ -8,8 +8,9 @@ use gix_revision::hash::ObjectId;
 use gix_revision::object::Kind;
 use std::alloc::Allocator;
 
-/// How many tags are followed from one object. git follows any number; no repository has so many.
-const MOST_TAGS: u32 = 1 << 20;
+/// How many tags are followed from one object. git follows any number, also in a circle that
+/// replacements make.
+const MOST_TAGS: u32 = 1024;
 
 /// Returns the id in the line `tree ID` with which the content of a commit begins.
 fn tree_line(content: &[u8]) -> Option<ObjectId> {
@@ -140,19 +141,36 @@ impl<F: Folders + Drop, A: Allocator + Copy> Repository<F, A> {
         }
     }
 
+    /// Returns the object that a tag names, and its kind.
+    ///
+    /// # Errors
+    ///
+    /// - `NotSupported` if the tag says another kind. git then fails, or passes over the tag.
+    /// - Those of [`Repository::tag`] and [`Repository::kind`].
+    fn tagged(&mut self, tag: ObjectId) -> Result<(ObjectId, Kind), Refusal> {
+        let Tag { target, kind, .. } = self.tag(tag)?;
+        if self.kind(target)? == kind {
+            Ok((target, kind))
+        } else {
+            Err(Refusal::NotSupported)
+        }
+    }
+
     /// Returns the object to which `id` leads through all tags, and its kind (gitrevisions,
     /// `<rev>^{}`).
     ///
     /// # Errors
     ///
     /// - `Object` if an object on the way was not read.
+    /// - `NotSupported` if a tag says another kind than that of its object, or if there are more than
+    ///   1,024 tags on the way.
     /// - `OutOfMemory` if an allocation failed.
     pub fn peeled(&mut self, id: ObjectId) -> Result<(ObjectId, Kind), Refusal> {
-        let mut id = id;
+        let mut at = (id, self.kind(id)?);
         for _ in 0..MOST_TAGS {
-            match self.kind(id)? {
-                Kind::Tag => id = self.tag(id)?.target,
-                kind => return Ok((id, kind)),
+            match at {
+                (tag, Kind::Tag) => at = self.tagged(tag)?,
+                _ => return Ok(at),
             }
         }
         Err(Refusal::NotSupported)

@@ -377,7 +377,7 @@ impl<F: Folders + Drop, A: Allocator + Copy> Repository<F, A> {
     }
 
     /// Returns the object of a kind to which an object leads: through tags, and from a commit to
-    /// its tree.
+    /// its tree. Tags and commits on the way have to be well formed.
     pub(crate) fn peeled_to(
         &mut self,
         id: ObjectId,
@@ -385,13 +385,20 @@ impl<F: Folders + Drop, A: Allocator + Copy> Repository<F, A> {
     ) -> Result<ObjectId, Refusal> {
         if kind == object::Kind::Tag {
             return match self.kind(id)? {
-                object::Kind::Tag => Ok(id),
+                object::Kind::Tag => {
+                    self.tag(id)?;
+                    Ok(id)
+                }
                 _ => Err(Refusal::Unknown),
             };
         }
-        match self.peeled(id)? {
-            (id, found) if found == kind => Ok(id),
-            (id, object::Kind::Commit) if kind == object::Kind::Tree => self.tree(id),
+        let (id, found) = self.peeled(id)?;
+        if found == object::Kind::Commit {
+            self.entry(id)?;
+        }
+        match found {
+            found if found == kind => Ok(id),
+            object::Kind::Commit if kind == object::Kind::Tree => self.tree(id),
             _ => Err(Refusal::Unknown),
         }
     }

@@ -60,6 +60,13 @@ fn is_odd_path(name: &[u8]) -> bool {
         .any(|part| part.iter().all(|b| *b == b'.'))
 }
 
+/// Tests whether git reads `branch.<name>.merge` as a revision, or cuts it at a blank.
+fn is_odd_merge(name: &[u8]) -> bool {
+    name == b"@".as_slice()
+        || name.windows(2).any(|two| two == b"@{".as_slice())
+        || name.iter().any(|byte| *byte <= b' ')
+}
+
 /// Returns whether there are two names, and they are the same.
 fn are_same<A: Allocator>(first: &Option<Vec<u8, A>>, second: &Option<Vec<u8, A>>) -> bool {
     match (first, second) {
@@ -75,13 +82,25 @@ impl<F: Folders + Drop, A: Allocator + Copy> Repository<F, A> {
     }
 
     /// Returns the first name to which one of a remote's refspecs maps another.
+    ///
+    /// # Errors
+    ///
+    /// - `NotSupported` if a refspec begins with `^`, and leaves names out.
+    /// - `OutOfMemory` if an allocation failed.
     fn mapped_by(
         &self,
         remote: &[u8],
         key: &[u8],
         name: &[u8],
     ) -> Result<Option<Vec<u8, A>>, Refusal> {
-        for refspec in self.settings.remote(self.alloc, remote, key)?.iter() {
+        let refspecs = self.settings.remote(self.alloc, remote, key)?;
+        if refspecs
+            .iter()
+            .any(|one| one.unwrap_or(&[]).starts_with(b"^"))
+        {
+            return Err(Refusal::NotSupported);
+        }
+        for refspec in refspecs.iter() {
             if let Some(mapped) = mapped(self.alloc, refspec.unwrap_or(&[]), name)? {
                 return Ok(Some(mapped));
             }
@@ -100,6 +119,11 @@ impl<F: Folders + Drop, A: Allocator + Copy> Repository<F, A> {
 
     /// Returns the remote and the branch there from which a local branch is merged, whose short
     /// name is `short` (git-config, `branch.<name>.remote`, `branch.<name>.merge`).
+    ///
+    /// # Errors
+    ///
+    /// - `NotSupported` if the setting does not name the branch as it is.
+    /// - `OutOfMemory` if an allocation failed.
     fn merged_from(&self, short: &[u8]) -> Result<Option<(&[u8], &[u8])>, Refusal> {
         let Some(remote) = self.setting(b"branch", Some(short), b"remote") else {
             return Ok(None);
@@ -109,6 +133,7 @@ impl<F: Folders + Drop, A: Allocator + Copy> Repository<F, A> {
             .settings
             .values(self.alloc, b"branch", Some(short), b"merge")?;
         match merged.first() {
+            Some(Some(name)) if is_odd_merge(name) => Err(Refusal::NotSupported),
             Some(Some(name)) => Ok(Some((remote, *name))),
             _ => Ok(None),
         }
