@@ -944,6 +944,119 @@ def crossed(room: Room) -> list[Command]:
     return rows(made, *lines, is_strict=True) + rows(filed_too, *lines[::7])
 
 
+def searched(room: Room) -> list[Command]:
+    """Searches of messages, patterns that lead away, and words with a hyphen."""
+    made = room.init("searched")
+    root = made.commit(text="root")
+    for branch in ("a", "b", "-x"):
+        commit = made.commit(root, text=f"fix {branch}")
+        made.git("update-ref", f"refs/heads/{branch}", commit)
+    made.git("update-ref", "refs/heads/main", root)
+    made.git("update-ref", "refs/heads/nul", made.commit(root, text="x\0hidden"))
+    commands = each(made, "rev-parse", ":/fix", ":/!-fix", ":/hidden", "nul^{/hidden}", "nul^{/x}",
+                    ":/x")
+    commands += rows(made, "rev-list -n 1 :/fix", "rev-list --count b ^-x",
+                     "rev-list --count b ^-x --", "rev-list --count b ^-x~1")
+    commands += each(made, "for-each-ref", "refs/heads//a", "refs//heads", "refs/./heads",
+                     "refs/heads/./a", "refs/heads/d//", "refs/heads/x/../a", "refs/../objects",
+                     "refs/../../searched", "refs/../../../../../../usr/", "refs/..", "refs/.")
+    odd = ("a\x01b", "\x1b[31m", "a\x7f", "a\tb", "y" * 4050, "y" * 4100)
+    for front in ("merge-base HEAD", "rev-parse", "rev-parse --verify", "rev-list", "describe"):
+        commands += each(made, front, *odd)
+    return commands
+
+
+def strayed(room: Room) -> list[Command]:
+    """Siblings by unusual refspecs and names, and the detached HEAD of the main worktree."""
+    commands = []
+    for number, (remote, fetch, merge) in enumerate((
+            (".", "+refs/heads/*:refs/remotes/o/*", "refs/heads/main"),
+            (".", "+refs/heads/x:refs/remotes/o/x", "refs/heads/main"),
+            (".", None, "@"), (".", None, "@{-1}"), (".", None, "refs/heads/main\t"),
+            ("o", "@:refs/remotes/o/x", "HEAD"), ("o", "@:refs/remotes/o/x", "@"),
+            ("/srv/x", "+refs/heads/*:refs/remotes/o/*", "refs/heads/main"),
+            ("o", "refs/heads/main:refs/remotes/o/main", "refs/heads/main"))):
+        made = one_line(room, f"strayed {number}", 3)
+        made.may_be_refused = True
+        for name in ("o/main", "o/x"):
+            made.git("update-ref", f"refs/remotes/{name}", "HEAD~1")
+        for key, value in ((f"remote.{remote}.fetch", fetch), ("branch.main.remote", remote),
+                           ("branch.main.merge", merge)):
+            if value is not None:
+                made.git("config", key, value)
+        if number == 8:
+            made.git("config", "--add", "remote.o.fetch", "^refs/heads/main")
+        commands += rows(made, "rev-parse @{u}", "rev-parse --abbrev-ref @{u}",
+                         "rev-list --count @{u}..", "rev-parse @{push}")
+    plain = one_line(room, "strayed", 3)
+    plain.git("checkout", "-q", "-b", "gone")
+    plain.git("checkout", "-q", "main")
+    plain.git("branch", "-q", "-D", "gone")
+    plain.may_be_refused = True
+    for front in ("rev-parse -q --verify", "rev-parse --revs-only", "rev-parse"):
+        commands += each(plain, front, "/@{u}", "heads//main@{u}", "./main@{u}", "main/@{u}",
+                         "@{-1}@{u}", "@{-1}@{push}", "nosuch@{0}@{u}")
+    linked = Repository(room.path("strayed linked"), plain.ids, plain.names)
+    plain.git("worktree", "add", "-q", "-b", "linked", linked.path)
+    plain.git("checkout", "-q", "--detach")
+    plain.git("commit", "-q", "--allow-empty", "-m", "lonely", date=1_000_002_000)
+    for place in (plain, linked):
+        commands += rows(place, "rev-list --all", "rev-list --count --all", "rev-list --count HEAD",
+                         "rev-list --count main-worktree/HEAD --not --all")
+    return commands
+
+
+def deceived(room: Room) -> list[Command]:
+    """Tags that say another kind, objects that are malformed, and variables with odd values."""
+    made = one_line(room, "deceived", 3)
+    made.may_be_refused = True
+    head, tree = made.ids[-1], made.git("rev-parse", "HEAD^{tree}")
+    who = "a <a@example.org> 1 +0000"
+
+    def written(kind: str, text: str) -> str:
+        return made.git("hash-object", "-t", kind, "-w", "--stdin", "--literally",
+                        data=text.encode())
+
+    for kind in ("tree", "blob", "tag", "commit"):
+        tag = written("tag", f"object {head}\ntype {kind}\ntag odd\ntagger {who}\n\nx\n")
+        made.git("update-ref", f"refs/tags/{kind}", tag)
+        nested = written("tag", f"object {tag}\ntype {kind}\ntag odd\ntagger {who}\n\nx\n")
+        made.git("update-ref", f"refs/tags/nested-{kind}", nested)
+    commands = rows(made, "describe", "describe --tags", "describe --all", "for-each-ref",
+                    "for-each-ref --format=%(refname) --contains HEAD~1",
+                    "for-each-ref --format=%(refname) --merged HEAD")
+    for kind in ("tree", "commit", "nested-tree", "nested-commit", "nested-tag"):
+        commands += rows(made, f"merge-base {kind} HEAD~1", f"rev-list --count {kind}",
+                         f"rev-parse {kind}^{{commit}}", f"rev-parse {kind}^{{}}",
+                         f"merge-base --is-ancestor HEAD~1 {kind}")
+    commits = (f"tree {tree}\nparent {head} \nauthor {who}\ncommitter {who}\n\nx\n",
+               f"tree {tree[:39]}\nauthor {who}\ncommitter {who}\n\nx\n", "", f"tree {tree}\n",
+               f"author {who}\ncommitter {who}\n\nx\n")
+    for id in map(lambda text: written("commit", text), commits):
+        for mark in ("^{tree}", "^{commit}", "^{}", "^0", "^{object}"):
+            commands += each(made, "rev-parse --verify -q", id + mark)
+    for id in (written("tag", ""), written("tag", f"object {head}\n")):
+        commands += each(made, "rev-parse --verify -q", id + "^{tag}", id + "^{}")
+    plain = one_line(room, "deceived plain", 4)
+    plain.may_be_refused = True
+    plain.git("replace", "--graft", "HEAD~1")
+    for base in ("refs/replace", "refs", "refs/", "refs/repl", "", "refs/replace/", "refs/heads/"):
+        commands += rows(plain, "rev-list --count HEAD", "rev-list --all",
+                         environment={b"GIT_REPLACE_REF_BASE": base.encode()})
+    for value in (b"x", b"0", b"1", b"true"):
+        commands += rows(plain, "rev-list --all", environment={b"GIT_REF_PARANOIA": value})
+    below = os.path.join(plain.path, b"below")
+    os.mkdir(below)
+    plain.write("graft", f"{plain.ids[3]} {plain.ids[1]}\n")
+    for path in (b"graft", b"../graft"):
+        commands += rows(plain, "rev-list --count HEAD", folder=below,
+                         environment={b"GIT_GRAFT_FILE": path})
+    for path in (b".git/objects", b"../.git/objects"):
+        commands += rows(plain, "rev-list --count HEAD", folder=below,
+                         environment={b"GIT_OBJECT_DIRECTORY": path})
+    return commands
+
+
 def hostile(room: Room) -> list[Command]:
     """A repository that would have a command run: a promised object is missing."""
     made = one_line(room, "hostile", 3)
@@ -990,7 +1103,7 @@ def many(room: Room) -> list[Command]:
 
 
 MAKERS = (names, signs, digits, branches, reflogs, working_trees, indexes, unusual, graphs, lost, nowhere, ties,
-          crossed, hostile, many)
+          crossed, searched, strayed, deceived, hostile, many)
 
 
 def remove_made(room: Room) -> None:
