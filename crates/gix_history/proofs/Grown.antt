@@ -1,5 +1,5 @@
 -- The known part of a history grows.
-use Rattle.std.proofs.Common.{◌≡◌, true, false, cond, Option, Some, None, is_some, IfSome, refl, sym, ap, ◌∙◌, subst, List}
+use Rattle.std.proofs.Common.{◌≡◌, true, false, cond, Option, Some, None, is_some, IfSome, refl, sym, ap, ◌∙◌, subst, List, []}
 use Rattle.std.specs.Map.{lookup}
 use Rattle.gix_base.specs.declared.hash.ObjectId.{ObjectId}
 use Rattle.gix_revwalk.specs.History.{History, Entry, Has, entry_at, same_id}
@@ -87,3 +87,11 @@ module _ (h : History) (origins noted : List (ObjectId × Origin)) (k : ObjectId
         let had = are q e old in
         (had.0, (note q ∙ ap (λ b. cond b (Some o) (lookup (same_id q) origins)) apart) ∙ had.1, had.2))
         found
+
+-- Where no origin is noted, no commit is known.
+pub none-known : (known : Sourced) → known.origins ≡ [] → AreSourced known → (id : ObjectId) → entry_at known.commits id ≡ None
+none-known known none are id =
+    elim (entry_at known.commits id) as (λ o. entry_at known.commits id ≡ o → o ≡ None) [
+      | None ↦ λ e. refl
+      | Some commit ↦ λ e. let had = are id commit e in let wrong : None ≡ Some had.0 = ap (λ l. lookup (same_id id) l) (sym none) ∙ had.1 in cc
+    ] refl

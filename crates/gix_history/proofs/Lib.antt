@@ -5,3 +5,4 @@ pub mod Faults
 pub mod Contained
 pub mod Answered
 pub mod Plain
+pub mod Counted

@@ -9,3 +9,4 @@ pub mod DescribeQuestions
 pub mod Levels
 pub mod Waiting
 pub mod HistoryLaws
+pub mod Whole

@@ -54,6 +54,9 @@ impl<R: Reader + Drop, A: Allocator + Copy> History<R, A> {
     /// Ancestors are read by their commit dates, the newest first. Those that earlier calls have read
     /// are passed over. They count as read, except those newer than the wanted commit.
     ///
+    /// If no commit is known, and the answer is how many commits some of them reach
+    /// ([`Question::counts`]), all of these are read at once, and counted as they are read.
+    ///
     /// # Errors
     ///
     /// Any [`ReadError`] for a commit that the answer needs. A commit that is read ahead and fails
@@ -66,6 +69,9 @@ impl<R: Reader + Drop, A: Allocator + Copy> History<R, A> {
         ensures grown { Grows self.old.known self.new.known }
         ensures means { IfOk result (Q.means question.now (self.new.known.commits ++ K.beyond)) }
     {
+        if let Some(answer) = self.ask_count::<K, Q>(alloc, question)? {
+            return Ok(answer);
+        }
         let mut ahead = Ahead::new(alloc, &self.known, question.needs_all());
         self.read_named(alloc, question, &mut ahead)?;
         self.ask_over::<K, Q>(alloc, question, &mut ahead)

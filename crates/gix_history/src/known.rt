@@ -1,9 +1,9 @@
 //! The commits that are known of a history, and where they are from.
 
-ghost use Rattle.std.specs.Prelude.{◌≡◌, ◌++◌, IfOk, IfSome, OnOk, Some, None, is_some};
+ghost use Rattle.std.specs.Prelude.{◌≡◌, ◌++◌, IfOk, IfSome, IsTrue, OnOk, Some, None, cond, is_some};
 ghost use Rattle.gix_base.specs.declared.hash.ObjectId.{ObjectId};
 ghost use Rattle.gix_revwalk.specs.Held.{entry_of};
-ghost use Rattle.gix_revwalk.specs.History.{Entry, Has, entry_at};
+ghost use Rattle.gix_revwalk.specs.History.{Entry, Has, entry_at, same_id};
 ghost use Rattle.gix_history.specs.Origins.{IsFrom};
 ghost use Rattle.gix_history.specs.Grown.{AreSourced, Grows, origin_at};
 ghost use Rattle.gix_history.specs.Tries.{IsTried};
@@ -95,6 +95,13 @@ impl<A: Allocator + Copy> Known<A> {
         self.origins.len()
     }
 
+    /// Returns `true` only if no commit is known.
+    pub(crate) fn is_empty(&self) -> bool
+        ensures { IsTrue result → (id : ObjectId) → entry_at self.now.commits id ≡ None }
+    {
+        self.origins.is_empty()
+    }
+
     /// Returns whether the commit `id` is known.
     ///
     /// # Errors
@@ -141,6 +148,8 @@ impl<A: Allocator + Copy> Known<A> {
         requires new { entry_at self.old.commits id ≡ None }
         ensures grown { Grows self.old self.new }
         ensures there { OnOk result (Has self.new.commits id) }
+        ensures put { OnOk result ((q : ObjectId) → entry_at self.new.commits q
+            ≡ cond (same_id id q) (Some (entry_of read.commit)) (entry_at self.old.commits q)) }
     {
         let Read { commit, origin } = read;
         self.origins.insert(id, origin)?;

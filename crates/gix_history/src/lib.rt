@@ -26,6 +26,7 @@ mod partial;
 mod question;
 pub mod questions;
 mod reader;
+mod whole;
 
 pub use beyond::Beyond;
 pub use error::ReadError;

@@ -1,6 +1,8 @@
 //! What is asked of a history.
 
-ghost use Rattle.std.specs.Prelude.{IfOk};
+ghost use Rattle.std.specs.Prelude.{IfOk, IfSome};
+ghost use Rattle.gix_revwalk.specs.History.{IsAncestorOfOne};
+ghost use Rattle.gix_revwalk.specs.Sizes.{HasSize};
 
 use gix_base::hash::ObjectId;
 use gix_revwalk::Seed;
@@ -43,5 +45,18 @@ pub trait Question {
     /// once.
     fn needs_all(&self) -> bool {
         false
+    }
+
+    /// Returns the commits of whose ancestors the answer is the number; `None` if it is none.
+    fn counts(&self) -> Option<&[ObjectId]> {
+        None
+    }
+
+    /// Returns the answer, if so many commits are ancestors of `tips`, and the answer is that number.
+    fn counted(&self, tips: &[ObjectId], count: usize) -> Option<Self::Answer>
+        ensures { IfSome result (λ answer. (h : History)
+            → HasSize (IsAncestorOfOne h tips.now) count → means self.now h answer) }
+    {
+        None
     }
 }

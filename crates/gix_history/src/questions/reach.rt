@@ -1,5 +1,7 @@
 //! Asks for the commits that some commits reach and others do not, and how many they are.
 
+ghost use Rattle.std.specs.Prelude.{◌≡◌, IsTrue};
+
 use crate::question::{Question, Refused};
 use crate::questions::lists::list_refused;
 use gix_resolve::{ahead_behind, count_reachable, reachable_newest_first};
@@ -14,6 +16,13 @@ fn of_both(first: &[ObjectId], second: &[ObjectId], number: usize) -> Option<Obj
         None => first.get(number).copied(),
         Some(place) => second.get(place).copied(),
     }
+}
+
+/// Returns `true` only if two lists have the same ids.
+fn are_same(first: &[ObjectId], second: &[ObjectId]) -> bool
+    ensures { IsTrue result → first.now ≡ second.now }
+{
+    first == second
 }
 
 /// Asks for the commits that `include` reaches and `exclude` does not, newest first, each once.
@@ -93,6 +102,22 @@ impl<A: Allocator + Copy> Question for CountReachable<'_, A> {
 
     fn needs_all(&self) -> bool {
         self.exclude.is_empty()
+    }
+
+    fn counts(&self) -> Option<&[ObjectId]> {
+        if self.exclude.is_empty() {
+            Some(self.include)
+        } else {
+            None
+        }
+    }
+
+    fn counted(&self, tips: &[ObjectId], count: usize) -> Option<usize> {
+        if self.exclude.is_empty() && are_same(tips, self.include) {
+            Some(count)
+        } else {
+            None
+        }
     }
 }
 
