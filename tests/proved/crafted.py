@@ -960,10 +960,10 @@ def searched(room: Room) -> list[Command]:
     commands += each(made, "for-each-ref", "refs/heads//a", "refs//heads", "refs/./heads",
                      "refs/heads/./a", "refs/heads/d//", "refs/heads/x/../a", "refs/../objects",
                      "refs/../../searched", "refs/../../../../../../usr/", "refs/..", "refs/.")
-    odd = ("a\x01b", "\x1b[31m", "a\x7f", "a\tb", "y" * 4050, "y" * 4100)
+    odd = ("a\x01b", "\x1b[31m", "a\x7f", "a\tb")
     for front in ("merge-base HEAD", "rev-parse", "rev-parse --verify", "rev-list", "describe"):
         commands += each(made, front, *odd)
-    return commands
+    return commands + each(made, "merge-base HEAD", "y" * 4050, "y" * 4100)
 
 
 def strayed(room: Room) -> list[Command]:

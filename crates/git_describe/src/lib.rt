@@ -141,6 +141,19 @@ fn described(session: &mut Session<'_>, text: &[u8]) -> Result<(ObjectId, Object
     }
 }
 
+/// Ends if a tag says another kind than that of its object. git then reads the object as that kind,
+/// and fails.
+fn expect_kind(session: &mut Session<'_>, target: ObjectId, said: Kind) -> Result<(), Stop> {
+    match session.repository.kind(target) {
+        Ok(kind) if kind != said => Err(not_read(
+            session.alloc,
+            &[b"a tag that says another kind than its object has is not supported"],
+        )),
+        Ok(_) | Err(Refusal::Object(gix_odb::Error::Missing(_))) => Ok(()),
+        Err(refusal) => Err(Stop::from(refusal)),
+    }
+}
+
 /// Returns what an annotated tag says: its target, and its name.
 fn read_tag(
     session: &mut Session<'_>,
@@ -152,7 +165,10 @@ fn read_tag(
             session.alloc,
             &[b"a tag's name has a byte that is 0"],
         )),
-        Ok(tag) => Ok((tag.target, tag.name)),
+        Ok(tag) => {
+            expect_kind(session, tag.target, tag.kind)?;
+            Ok((tag.target, tag.name))
+        }
         Err(Refusal::Object(gix_odb::Error::Missing(_))) if !session.repository.is_partial() => {
             say_unread(session, name.id)?;
             Err(fatal(session.alloc, &[b"annotated tag ", path, b" not available"]))

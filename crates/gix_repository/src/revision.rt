@@ -144,11 +144,13 @@ impl<'r, 't, F: Folders + Drop, A: Allocator + Copy> Lookup<'r, 't, F, A> {
         match to {
             PeelTo::ObjectKind(kind) => self.repository.peeled_to(id, kind),
             PeelTo::ValidObject => {
-                self.repository.kind(id)?;
+                let kind = self.repository.kind(id)?;
+                self.repository.expect_sound(id, kind)?;
                 Ok(id)
             }
             PeelTo::RecursiveTagObject => {
-                let (id, _) = self.repository.peeled(id)?;
+                let (id, kind) = self.repository.peeled(id)?;
+                self.repository.expect_sound(id, kind)?;
                 Ok(id)
             }
             PeelTo::Path(_) => Err(Refusal::NotSupported),
@@ -376,6 +378,21 @@ impl<F: Folders + Drop, A: Allocator + Copy> Repository<F, A> {
         }
     }
 
+    /// Fails if an object is a commit or a tag, and is malformed.
+    pub(crate) fn expect_sound(&mut self, id: ObjectId, kind: object::Kind) -> Result<(), Refusal> {
+        match kind {
+            object::Kind::Commit => {
+                self.entry(id)?;
+                Ok(())
+            }
+            object::Kind::Tag => {
+                self.tag(id)?;
+                Ok(())
+            }
+            _ => Ok(()),
+        }
+    }
+
     /// Returns the object of a kind to which an object leads: through tags, and from a commit to
     /// its tree. Tags and commits on the way have to be well formed.
     pub(crate) fn peeled_to(
@@ -383,19 +400,12 @@ impl<F: Folders + Drop, A: Allocator + Copy> Repository<F, A> {
         id: ObjectId,
         kind: object::Kind,
     ) -> Result<ObjectId, Refusal> {
-        if kind == object::Kind::Tag {
-            return match self.kind(id)? {
-                object::Kind::Tag => {
-                    self.tag(id)?;
-                    Ok(id)
-                }
-                _ => Err(Refusal::Unknown),
-            };
-        }
-        let (id, found) = self.peeled(id)?;
-        if found == object::Kind::Commit {
-            self.entry(id)?;
-        }
+        let (id, found) = if kind == object::Kind::Tag {
+            (id, self.kind(id)?)
+        } else {
+            self.peeled(id)?
+        };
+        self.expect_sound(id, found)?;
         match found {
             found if found == kind => Ok(id),
             object::Kind::Commit if kind == object::Kind::Tree => self.tree(id),

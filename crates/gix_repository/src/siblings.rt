@@ -54,9 +54,14 @@ fn map_star<A: Allocator>(
     Ok(Some(mapped))
 }
 
-/// Tests whether a name can be that of no reference, since a part of it is empty or has dots alone.
+/// Tests whether git reads no name here, since a part before a slash is empty or has dots alone.
 fn is_odd_path(name: &[u8]) -> bool {
-    name.split(|b| *b == b'/')
+    let Some(slash) = name.iter().rposition(|b| *b == b'/') else {
+        return false;
+    };
+    let folders = name.get(..slash).unwrap_or(&[]);
+    folders
+        .split(|b| *b == b'/')
         .any(|part| part.iter().all(|b| *b == b'.'))
 }
 

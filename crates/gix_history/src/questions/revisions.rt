@@ -79,6 +79,14 @@ impl<'a, A: Allocator + Copy, I: Ids> Question for RevParse<'a, A, I> {
     fn needs_all(&self) -> bool {
         false
     }
+
+    fn counts(&self) -> Option<&[ObjectId]> {
+        None
+    }
+
+    fn counted(&self, _tips: &[ObjectId], _count: usize) -> Option<Result<Spec, Error<'a>>> {
+        None
+    }
 }
 
 /// Asks what a revision means, with abbreviated object names before refs.
@@ -126,5 +134,13 @@ impl<'a, A: Allocator + Copy, I: Ids> Question for Resolve<'a, A, I> {
 
     fn needs_all(&self) -> bool {
         false
+    }
+
+    fn counts(&self) -> Option<&[ObjectId]> {
+        None
+    }
+
+    fn counted(&self, _tips: &[ObjectId], _count: usize) -> Option<Result<Spec, Error<'a>>> {
+        None
     }
 }
