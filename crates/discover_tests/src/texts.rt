@@ -54,12 +54,12 @@ fn is_row(alloc: Global, row: &[u8]) -> Result<bool, AllocError> {
 
 /// Counts the rows that are read as git reads them, from the first one on.
 fn right_rows(alloc: Global) -> Result<usize, AllocError> {
-    let mut count = 0;
+    let mut count = 0usize;
     for row in ROWS.split(|byte| *byte == 0x1e) {
         if row.is_empty() || !is_row(alloc, row)? {
             break;
         }
-        count += 1;
+        count = count.saturating_add(1);
     }
     Ok(count)
 }
