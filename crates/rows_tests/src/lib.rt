@@ -1,4 +1,5 @@
-//! Tests of `gix_graph_rows` over files in memory: each read and each allocation fails in turn.
+//! Tests of `gix_graph_rows` over files in memory, and of whole chains of commit-graph files: each
+//! read and each allocation fails in turn.
 #![tactic(auto)]
 
 #[cfg(test)]
@@ -7,3 +8,5 @@ mod fake;
 mod reads;
 #[cfg(test)]
 mod tables;
+#[cfg(test)]
+mod whole;

@@ -48,7 +48,7 @@ fn is_id(id: &ObjectId, number: usize) -> bool {
 }
 
 /// Tells whether a commit is as it should be.
-fn is_right<A: Allocator>(commit: &SourceCommit<A>, wanted: &Wanted) -> bool {
+pub(crate) fn is_right<A: Allocator>(commit: &SourceCommit<A>, wanted: &Wanted) -> bool {
     commit.time == wanted.time
         && commit.generation == Some(wanted.level)
         && commit.parents.len() == wanted.parents.len()

@@ -1,0 +1,104 @@
+//! Opens the chain of the tables as a whole (`gix_commitgraph`), while each allocation fails in turn.
+
+use crate::reads::is_right;
+use crate::tables::{COMMITS, Wanted, all_written};
+use gix_base::hash::ObjectId;
+use gix_commitgraph::commit_graph::{Chain, ChainFault, CommitGraph, LevelledGraph};
+use gix_revwalk::Seed;
+use refusing::Refusing;
+use std::alloc::{Allocator, Global};
+use std::test::Fail;
+
+/// Opens a file that is below all others.
+fn lowest_of(alloc: Global, bytes: &[u8]) -> Option<LevelledGraph> {
+    let bytes = bytes.to_vec(alloc).ok()?;
+    let graph = CommitGraph::open(bytes).ok()?;
+    LevelledGraph::new(graph).ok()
+}
+
+/// Opens a chain of files, the lowest first. Returns `None` if they are none.
+fn chain_of<A: Allocator + Copy>(
+    global: Global,
+    alloc: A,
+    files: &[Vec<u8>],
+) -> Option<Result<Chain<A>, ChainFault>> {
+    let (lowest, others) = files.split_first()?;
+    let lowest = lowest_of(global, lowest)?;
+    Some(Chain::open(alloc, lowest, others, Seed::default()))
+}
+
+/// Tells whether a chain has a commit.
+fn has<A: Allocator + Copy>(alloc: A, chain: &Chain<A>, wanted: &Wanted) -> bool {
+    let Ok(id) = ObjectId::from_hex(wanted.id.as_bytes()) else {
+        return false;
+    };
+    match chain.commits.get(alloc, id) {
+        Ok(Some(commit)) => is_right(&commit, wanted),
+        _ => false,
+    }
+}
+
+/// Tells whether a chain has the commits of the table, and no others.
+fn has_all(alloc: Global, chain: &Chain<Global>) -> bool {
+    for wanted in &COMMITS {
+        if !has(alloc, chain, wanted) {
+            return false;
+        }
+    }
+    chain.ids.len() == COMMITS.len()
+}
+
+/// Tells whether files are a chain of all commits of the table.
+fn is_whole(alloc: Global, files: &[Vec<u8>]) -> bool {
+    match chain_of(alloc, alloc, files) {
+        Some(Ok(chain)) => has_all(alloc, &chain),
+        _ => false,
+    }
+}
+
+/// Tells whether files are refused as no chain. The first and the second are at these places.
+fn is_refused(alloc: Global, files: &mut [Vec<u8>], first: usize, second: usize) -> bool {
+    files.swap(0, first);
+    files.swap(1, second);
+    let found = chain_of(alloc, alloc, files.get(..2).unwrap_or(&[]));
+    files.swap(1, second);
+    files.swap(0, first);
+    matches!(found, Some(Err(ChainFault::NoChain)))
+}
+
+/// Returns how many allocations there are, each of which fails in turn. Returns 0 if one fails
+/// otherwise than by saying so.
+fn failed_allocations(alloc: Global, files: &[Vec<u8>]) -> u64 {
+    for before in 0..100_000u64 {
+        let memory = Refusing::new(alloc, before);
+        let is_out_of_memory = matches!(
+            chain_of(alloc, &memory, files),
+            Some(Err(ChainFault::OutOfMemory))
+        );
+        if !memory.has_refused() {
+            return before;
+        }
+        if !is_out_of_memory {
+            return 0;
+        }
+    }
+    0
+}
+
+#[test]
+fn opens_a_chain(rt: HostRuntime) -> Result<(), Fail> {
+    let files = all_written(rt.alloc())?;
+    assert!(rt; is_whole(rt.alloc(), files.get(1..3).unwrap_or(&[])));
+    assert!(rt; failed_allocations(rt.alloc(), files.get(1..3).unwrap_or(&[])) > 10);
+    Ok(())
+}
+
+#[test]
+fn refuses_what_is_no_chain(rt: HostRuntime) -> Result<(), Fail> {
+    let mut files = all_written(rt.alloc())?;
+    // A file of another chain, and one without base graphs above another.
+    assert!(rt; is_refused(rt.alloc(), &mut files, 0, 2));
+    assert!(rt; is_refused(rt.alloc(), &mut files, 1, 1));
+    assert!(rt; !is_whole(rt.alloc(), files.get(2..3).unwrap_or(&[])));
+    Ok(())
+}
