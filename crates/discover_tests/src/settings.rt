@@ -107,7 +107,6 @@ static REMOTES: &str = "\
 +[remote \"x\"]prunetags\n\
 -[remote \"x\"]prunetags=z\n\
 +[remote \"x\"]promisor=z\n\
-+[remote \"/x\"]url\n\
 -[remote \"\"]url\n\
 +[remote]url\n\
 -[url \"x\"]insteadof\n\
@@ -122,7 +121,6 @@ static REFSPECS: &str = "\
 +[branch \"nosuch\"]pushremote=\n\
 -[remote \"x\"]pushurl\n\
 +[remote \"x\"]pushurl=\n\
-+[remote \"/x\"]fetch=*\n\
 -[remote \"\"]fetch=*\n\
 -[remote]pushdefault\n\
 +[remote \"y\"]pushdefault\n\
