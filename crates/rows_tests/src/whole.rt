@@ -6,7 +6,7 @@ use gix_base::hash::ObjectId;
 use gix_commitgraph::commit_graph::{Chain, ChainFault, CommitGraph, LevelledGraph};
 use gix_revwalk::Seed;
 use refusing::Refusing;
-use std::alloc::{Allocator, Global};
+use std::alloc::{AllocError, Allocator, Global};
 use std::test::Fail;
 
 /// Opens a file that is below all others.
@@ -56,14 +56,30 @@ fn is_whole(alloc: Global, files: &[Vec<u8>]) -> bool {
     }
 }
 
-/// Tells whether files are refused as no chain. The first and the second are at these places.
-fn is_refused(alloc: Global, files: &mut [Vec<u8>], first: usize, second: usize) -> bool {
-    files.swap(0, first);
-    files.swap(1, second);
-    let found = chain_of(alloc, alloc, files.get(..2).unwrap_or(&[]));
-    files.swap(1, second);
-    files.swap(0, first);
-    matches!(found, Some(Err(ChainFault::NoChain)))
+/// Adds a copy of the file at a place.
+fn add_copy(
+    alloc: Global,
+    files: &[Vec<u8>],
+    place: usize,
+    to: &mut Vec<Vec<u8>>,
+) -> Result<(), AllocError> {
+    if let Some(file) = files.get(place) {
+        to.push(file.as_slice().to_vec(alloc)?)?;
+    }
+    Ok(())
+}
+
+/// Tells whether two of the files are refused as no chain, the lower one first.
+fn is_refused(
+    alloc: Global,
+    files: &[Vec<u8>],
+    lower: usize,
+    upper: usize,
+) -> Result<bool, AllocError> {
+    let mut two = Vec::new(alloc);
+    add_copy(alloc, files, lower, &mut two)?;
+    add_copy(alloc, files, upper, &mut two)?;
+    Ok(matches!(chain_of(alloc, alloc, &two), Some(Err(ChainFault::NoChain))))
 }
 
 /// Returns how many allocations there are, each of which fails in turn. Returns 0 if one fails
@@ -95,10 +111,10 @@ fn opens_a_chain(rt: HostRuntime) -> Result<(), Fail> {
 
 #[test]
 fn refuses_what_is_no_chain(rt: HostRuntime) -> Result<(), Fail> {
-    let mut files = all_written(rt.alloc())?;
+    let files = all_written(rt.alloc())?;
     // A file of another chain, and one without base graphs above another.
-    assert!(rt; is_refused(rt.alloc(), &mut files, 0, 2));
-    assert!(rt; is_refused(rt.alloc(), &mut files, 1, 1));
+    assert!(rt; is_refused(rt.alloc(), &files, 0, 2)?);
+    assert!(rt; is_refused(rt.alloc(), &files, 1, 0)?);
     assert!(rt; !is_whole(rt.alloc(), files.get(2..3).unwrap_or(&[])));
     Ok(())
 }
