@@ -19,6 +19,7 @@ mod layout;
 mod levelled;
 mod levels;
 mod lookup;
+mod trailer;
 
 pub use chain::{Chain, ChainFault};
 pub use fault::{OpenError, OpenFault};

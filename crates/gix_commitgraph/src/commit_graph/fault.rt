@@ -16,7 +16,7 @@ pub enum OpenFault {
     Version,
     /// The ids of the file are not SHA-1 ids.
     Hash,
-    /// The file has base graphs: it needs other files of a chain, which is not supported.
+    /// The file has base graphs: it is a file of a chain, above others.
     BaseGraphs,
     /// A row of the table of contents other than the last has no chunk id.
     NoChunkId,

@@ -26,10 +26,10 @@ use crate::commit_graph::layer::{add_hash, add_ids};
 use crate::commit_graph::layout::{Layout, read_layout};
 use crate::commit_graph::levels;
 use crate::commit_graph::lookup::position_near;
+use crate::commit_graph::trailer;
 use gix_base::hash::ObjectId;
 use gix_ids::{id_at, position, search};
 use gix_revwalk::graph::{Find, FindFault, SourceCommit};
-use sha1::Sha1;
 use std::alloc::{AllocError, Allocator, Global};
 use std::convert::AsSlice;
 use std::marker::Model;
@@ -208,9 +208,7 @@ impl<B: AsSlice<u8> + Drop> CommitGraph<B> {
     pub fn hash_is_right(&self) -> bool
         ensures { IsTrue result ↔ HashIsRight self.now }
     {
-        let bytes = self.bytes.as_slice();
-        let end = bytes.len() - 20;
-        &bytes[end..] == Sha1::digest(&bytes[..end]).as_slice()
+        trailer::hash_is_right(self.bytes.as_slice())
     }
 
     /// Returns whether the file has the commit `id`. Allocates nothing.

@@ -12,17 +12,16 @@ ghost use Rattle.gix_commitgraph.specs.ChainFormat.{IsLayer, IsOver, chunk_bytes
 ghost use Rattle.gix_commitgraph.specs.FileChecks.{IsSoundIn};
 ghost use Rattle.gix_commitgraph.specs.FileChunks.{chunk_at, layout_of};
 ghost use Rattle.gix_commitgraph.specs.FileFormat.{HasHeader, HasTable};
-ghost use Rattle.gix_commitgraph.specs.FileHash.{HashIsRight};
 ghost use Rattle.gix_commitgraph.specs.NewerCommits.{in_file};
 
 use crate::commit_graph::check::check;
 use crate::commit_graph::commit::commit_in;
 use crate::commit_graph::joined::Commits;
 use crate::commit_graph::layout::{Layout, find_chunk, read_layout};
+use crate::commit_graph::trailer::hash_is_right;
 use gix_base::hash::ObjectId;
 use gix_ids::{Table, id_at};
 use gix_revwalk::graph::{Insert, InsertError};
-use sha1::Sha1;
 use std::alloc::{AllocError, Allocator};
 
 /// The chunk id `BASE`.
@@ -55,15 +54,6 @@ fn is_over(bytes: &[u8], hashes: &[u8]) -> bool
     ensures { IsTrue result ↔ IsOver hashes.now bytes.now }
 {
     20 * bytes[7] as usize == hashes.len() && has_bases(bytes, hashes)
-}
-
-/// Returns whether the trailing hash is the SHA-1 of the bytes before it.
-fn hash_is_right(bytes: &[u8]) -> bool
-    requires { 20 ≤ length bytes.now }
-    ensures { IsTrue result ↔ HashIsRight bytes.now }
-{
-    let end = bytes.len() - 20;
-    &bytes[end..] == Sha1::digest(&bytes[..end]).as_slice()
 }
 
 /// Checks all of a file above those with these hashes, which have `below` commits in all. Finds its
