@@ -8,17 +8,33 @@ use gix_index::tree::{Listed, TREE, TreeEntry, first};
 use gix_revision::hash::ObjectId;
 use gix_revision::object::Kind;
 
+/// Fails if a tree is replaced: git then takes the other tree in some places only.
+fn expect_own(session: &Session<'_>, tree: ObjectId) -> Result<(), Stop> {
+    if session.repository.is_replaced(tree) {
+        return Err(not_read(
+            session.alloc,
+            &[b"a replaced tree of HEAD is not supported"],
+        ));
+    }
+    Ok(())
+}
+
 /// Returns the tree of the commit of `HEAD`.
 ///
 /// # Errors
 ///
-/// `Fatal`, with git's message, if there is none.
+/// - `Fatal`, with git's message, if there is none.
+/// - `NotRead` if it is replaced.
 pub(crate) fn head_tree(session: &mut Session<'_>) -> Result<ObjectId, Stop> {
     let Some(id) = revision(session, b"HEAD")? else {
         return Err(fatal(session.alloc, &[b"bad revision 'HEAD'"]));
     };
     match commit_of(session, id)? {
-        Some(commit) => Ok(session.repository.tree(commit)?),
+        Some(commit) => {
+            let tree = session.repository.tree(commit)?;
+            expect_own(session, tree)?;
+            Ok(tree)
+        }
         None => Err(not_read(session.alloc, &[b"HEAD is no commit"])),
     }
 }
@@ -39,6 +55,7 @@ fn with_path(session: &Session<'_>, folder: &[u8], entry: &TreeEntry<'_>) -> Res
 
 /// Returns the entries of a tree, the last one first.
 fn entries_of(session: &mut Session<'_>, tree: &Listed) -> Result<Vec<Listed>, Stop> {
+    expect_own(session, tree.id)?;
     let object = session.repository.read_object(tree.id)?;
     let mut entries = Vec::new(session.alloc);
     let mut rest = object.content.as_slice();

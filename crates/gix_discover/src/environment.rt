@@ -28,7 +28,7 @@ pub enum Variable {
     ShallowFile,
     GraftFile,
     IndexFile,
-    Namespace,
+    SuperPrefix,
     RefParanoia,
     SudoUid,
 }
@@ -122,8 +122,8 @@ static NAMES: [Named; 23] = [
         name: "GIT_INDEX_FILE",
     },
     Named {
-        variable: Variable::Namespace,
-        name: "GIT_NAMESPACE",
+        variable: Variable::SuperPrefix,
+        name: "GIT_INTERNAL_SUPER_PREFIX",
     },
     Named {
         variable: Variable::RefParanoia,
@@ -336,11 +336,15 @@ impl<A: Allocator + Copy> Environment<A> {
         }
     }
 
-    /// Checks the variables that have to be booleans.
-    pub(crate) fn check_booleans(&self, alloc: A) -> Result<(), DiscoverError<A>> {
+    /// Checks the variables that have to be booleans. `GIT_INTERNAL_SUPER_PREFIX`, with which git calls
+    /// itself, must not be set.
+    pub(crate) fn check_values(&self, alloc: A) -> Result<(), DiscoverError<A>> {
         for named in &NAMES {
             if self.is_bad_boolean(named.variable) {
                 return Err(about(alloc, Reason::BadBoolean, named.name.as_bytes()));
+            }
+            if named.variable == Variable::SuperPrefix && self.get(named.variable).is_some() {
+                return Err(about(alloc, Reason::BadValue, named.name.as_bytes()));
             }
         }
         Ok(())

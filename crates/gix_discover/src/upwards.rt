@@ -456,7 +456,7 @@ pub fn discover<F: Places, A: Allocator + Copy>(
     files: &F,
     environment: &Environment<A>,
 ) -> Result<Layout<A>, DiscoverError<A>> {
-    environment.check_booleans(alloc)?;
+    environment.check_values(alloc)?;
     let search = Search {
         alloc,
         files,

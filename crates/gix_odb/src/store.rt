@@ -39,6 +39,8 @@ pub struct Store<F: Folders + Drop, A: Allocator + Copy = Global> {
     packs: Vec<Pack<F, A>, A>,
     /// The first fault of a folder whose packs were not listed.
     packs_fault: Option<Fault>,
+    /// Whether a folder had a multi-pack-index when its packs were listed.
+    has_multi_pack_index: bool,
     chains: Chains<A>,
 }
 
@@ -103,6 +105,7 @@ impl<F: Folders + Drop, A: Allocator + Copy> Store<F, A> {
                 folders_fault: fault,
                 packs: Vec::new(alloc),
                 packs_fault: None,
+                has_multi_pack_index: false,
                 chains: Chains::new(alloc, LIMIT),
             }
             .with_packs(alloc),
@@ -270,13 +273,22 @@ impl<F: Folders + Drop, A: Allocator + Copy> Store<F, A> {
         }
     }
 
-    /// Returns how many objects the packs have, by their indexes. An object of several packs counts
-    /// for each. A pack whose index is not read counts for nothing, as in git.
+    /// Returns the least and the greatest number of objects that git may count in the packs.
+    ///
+    /// An object of several packs counts for each. A pack whose index is not read counts for nothing,
+    /// as in git. With a multi-pack-index git counts the objects in it once, and those of its packs
+    /// again once it has opened them: no fewer than the largest pack has, and no more than twice as
+    /// many as all packs have.
     ///
     /// # Errors
     ///
     /// [`AllocError`]: an allocation failed.
-    pub fn packed_len(&mut self, alloc: A) -> Result<u64, AllocError> {
-        self.packed(alloc)
+    pub fn packed_len(&mut self, alloc: A) -> Result<(u64, u64), AllocError> {
+        let (largest, all) = self.packed(alloc)?;
+        if self.has_multi_pack_index {
+            Ok((largest, all.saturating_add(all)))
+        } else {
+            Ok((all, all))
+        }
     }
 }

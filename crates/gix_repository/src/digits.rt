@@ -34,14 +34,20 @@ impl<F: Folders + Drop, A: Allocator + Copy> Repository<F, A> {
     ///
     /// # Errors
     ///
-    /// - `Object` if the indexes of packs were not read.
+    /// - `NotSupported` if it hangs on a multi-pack-index, and on the packs that git has opened.
     /// - `OutOfMemory` if an allocation failed.
     pub fn least_digits(&mut self) -> Result<usize, Refusal> {
         match self.abbrev {
             Abbrev::Digits(digits) => Ok(digits),
             Abbrev::Auto => {
                 let alloc = self.alloc;
-                Ok(digits_for(self.history.reader.store.packed_len(alloc)?))
+                let (least, most) = self.history.reader.store.packed_len(alloc)?;
+                let digits = digits_for(least);
+                if digits == digits_for(most) {
+                    Ok(digits)
+                } else {
+                    Err(Refusal::NotSupported)
+                }
             }
         }
     }

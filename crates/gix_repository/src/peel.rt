@@ -36,6 +36,11 @@ impl<F: Folders + Drop, A: Allocator + Copy> Repository<F, A> {
         }
     }
 
+    /// Returns whether another object stands for `id` (git-replace).
+    pub fn is_replaced(&self, id: ObjectId) -> bool {
+        self.history.reader.changes.stand_in(id) != Some(id)
+    }
+
     /// Returns the kind of an object, of the one that stands for it if it is replaced.
     ///
     /// A commit of the commit-graph is compared with its object, as git reads the commits from which

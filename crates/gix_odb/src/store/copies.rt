@@ -17,8 +17,14 @@ use std::alloc::Allocator;
 impl<F: Folders + Drop, A: Allocator + Copy> Store<F, A> {
     /// Lists the packs once more.
     pub(super) fn list_packs(&mut self, alloc: A) -> Result<(), Fault> {
-        let fault = &mut self.packs_fault;
-        self.packs = listed(alloc, &self.files, &self.folders, &mut self.packs, fault)?;
+        self.packs = listed(
+            alloc,
+            &self.files,
+            &self.folders,
+            &mut self.packs,
+            &mut self.packs_fault,
+            &mut self.has_multi_pack_index,
+        )?;
         Ok(())
     }
 

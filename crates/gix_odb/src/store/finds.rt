@@ -157,12 +157,15 @@ impl<F: Folders + Drop, A: Allocator + Copy> Store<F, A> {
         }
     }
 
-    /// Returns how many objects all packs have together.
-    pub(super) fn packed(&mut self, alloc: A) -> Result<u64, AllocError> {
-        let mut count = 0u64;
+    /// Returns how many objects the largest pack has, and how many all packs have together.
+    pub(super) fn packed(&mut self, alloc: A) -> Result<(u64, u64), AllocError> {
+        let mut largest = 0u64;
+        let mut all = 0u64;
         for place in 0..self.packs.len() {
-            count = count.saturating_add(self.pack_len(alloc, place)? as u64);
+            let len = self.pack_len(alloc, place)? as u64;
+            largest = largest.max(len);
+            all = all.saturating_add(len);
         }
-        Ok(count)
+        Ok((largest, all))
     }
 }
