@@ -1045,6 +1045,9 @@ def deceived(room: Room) -> list[Command]:
                          environment={b"GIT_REPLACE_REF_BASE": base.encode()})
     for value in (b"x", b"0", b"1", b"true"):
         commands += rows(plain, "rev-list --all", environment={b"GIT_REF_PARANOIA": value})
+    for value in (b"", b"x/"):
+        commands += rows(plain, "rev-parse HEAD",
+                         environment={b"GIT_INTERNAL_SUPER_PREFIX": value})
     below = os.path.join(plain.path, b"below")
     os.mkdir(below)
     plain.write("graft", f"{plain.ids[3]} {plain.ids[1]}\n")
@@ -1054,6 +1057,41 @@ def deceived(room: Room) -> list[Command]:
     for path in (b".git/objects", b"../.git/objects"):
         commands += rows(plain, "rev-list --count HEAD", folder=below,
                          environment={b"GIT_OBJECT_DIRECTORY": path})
+    return commands
+
+
+def packed(room: Room) -> list[Command]:
+    """A multi-pack-index, an index whose pack is gone, and trees that are replaced."""
+    commands = []
+    for number, blobs in enumerate((200, 9000)):
+        made = one_line(room, f"packed {number}", 3)
+        made.git("fast-import", "--quiet", data=b"".join(
+            b"blob\ndata 4\n%04d\n" % it for it in range(blobs)))
+        made.git("repack", "-adkq")
+        made.git("multi-pack-index", "write")
+        # With 9,000 objects git has 7 or 8 digits, as it has opened a pack or not.
+        made.may_be_refused = blobs > 8192
+        commands += rows(made, "rev-parse --short HEAD", "rev-parse --short HEAD~1",
+                         "describe --always", "describe --always --abbrev=9",
+                         "for-each-ref --format=%(objectname:short)",
+                         "for-each-ref --format=%(objectname:short) --contains HEAD~1")
+    lone = one_line(room, "packed lone", 3)
+    lost = lone.commit(lone.ids[-1], text="lost")
+    name = lone.git("pack-objects", "-q", ".git/objects/pack/pack", data=lost.encode() + b"\n")
+    os.remove(lone.path + f"/.git/objects/pack/pack-{name}.pack".encode())
+    lone.remove(lost)
+    for front in ("rev-parse --verify -q", "rev-parse --verify", "rev-list -n 1", "describe"):
+        commands += each(lone, front, lost[:8], lost, f"{lost[:8]}^0", f"{lost}~1")
+    for number, tree in enumerate(("HEAD^{tree}", "HEAD:d")):
+        made = room.init(f"packed tree {number}")
+        os.mkdir(made.path + b"/d")
+        for text in ("a", "b"):
+            made.write("d/a", text)
+            made.git("add", "d")
+            made.git("commit", "-q", "-m", text, date=1_000_000_000)
+        made.git("replace", tree, tree.replace("HEAD", "HEAD~1"))
+        made.may_be_refused = True
+        commands += rows(made, "describe --always --dirty", "describe --always")
     return commands
 
 
@@ -1103,7 +1141,7 @@ def many(room: Room) -> list[Command]:
 
 
 MAKERS = (names, signs, digits, branches, reflogs, working_trees, indexes, unusual, graphs, lost, nowhere, ties,
-          crossed, searched, strayed, deceived, hostile, many)
+          crossed, searched, strayed, deceived, packed, hostile, many)
 
 
 def remove_made(room: Room) -> None:
