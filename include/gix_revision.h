@@ -21,26 +21,28 @@
  *   allocates memory can return GIX_OUT_OF_MEMORY; the call can be repeated.
  *
  * POINTERS AND BUFFERS
- *   Two pointers may be NULL: that of an array with the length 0, and that of
- *   gix_history_free. No other pointer may be NULL.
+ *   Two kinds of pointers may be NULL: that of an array with the length 0, and
+ *   that of a function whose name ends in _free. No other pointer may be NULL.
  *   An output must not overlap an input or another output. A bool must be 0 or
  *   1. The library copies what it keeps, and never returns a pointer into a
  *   history.
  *   A function that returns a list sets *count to the number of results. It
  *   writes the first of them to `out`, as many as there is room for. The rest
- *   of the buffer is unchanged. gix_history_describe does the same with *len
- *   and the bytes of its text, which has no terminating zero.
+ *   of the buffer is unchanged. gix_history_describe and
+ *   gix_history_describe_by do the same with *len and the bytes of their text,
+ *   which has no terminating zero.
  *   Two functions return pages: gix_history_list and gix_history_missing. A
  *   page has at most out_len results, and *count is the number on the page.
  *   For the first page pass after_len 0. For the next one pass after_len 1 and
  *   in *after the last id of the page before. A page that is not full is the
- *   last.
+ *   last. Each page costs as much as the whole list. gix_history_list_all and
+ *   gix_history_missing_all compute a long list once.
  *
  * THREADS
  *   A history may be used and freed on another thread than the one that made
  *   it. Two calls on the same history must not run at the same time, not even
  *   two queries: a query caches what it finds. Different histories are
- *   independent.
+ *   independent. The same holds for a gix_names and for a gix_ids.
  *
  * MEMORY
  *   The library allocates with malloc and realloc, releases with free, and
@@ -79,9 +81,10 @@
  *
  *   The functions that ask a question can return GIX_WANTS: those from
  *   gix_history_merge_bases to gix_history_newest_first, gix_history_describe,
- *   gix_history_resolve, gix_history_rev_parse, gix_history_list and
- *   gix_history_count. The other functions know only the commits that were
- *   added. So do abbreviated ids in revisions.
+ *   gix_history_describe_by, gix_history_resolve, gix_history_rev_parse,
+ *   gix_history_list, gix_history_list_all and gix_history_count. The other
+ *   functions know only the commits that were added. So do abbreviated ids in
+ *   revisions.
  *
  *   Questions about a partial history cache nothing, so each one walks anew.
  *   Add many commits before the next one. A list or a count can need all
@@ -596,6 +599,43 @@ int32_t gix_history_missing(gix_history *history, const gix_id *after,
                             size_t after_len, gix_id *out, size_t out_len,
                             size_t *count);
 
+/*
+ * A list of ids, each once, in rising order. A program gets one from
+ * gix_history_missing_all or gix_history_list_all. It stays as it is, whatever
+ * happens to the history, also after gix_history_free.
+ */
+typedef struct gix_ids gix_ids;
+
+/*
+ * Makes the list of all missing parents, for gix_ids_read and gix_ids_len.
+ *
+ * The list is that of this moment. The caller frees it with gix_ids_free.
+ *
+ * Returns:
+ *   GIX_OK
+ *   GIX_OUT_OF_MEMORY
+ */
+GIX_MUST_USE
+int32_t gix_history_missing_all(gix_history *history, gix_ids **out);
+
+/* Returns the number of ids in the list. */
+size_t gix_ids_len(gix_ids *ids);
+
+/*
+ * Writes the ids of the list from place `from` on, as many as fit into `out`.
+ *
+ * The first id has place 0. Returns how many ids were written: 0 if the list
+ * has no place `from`. The rest of the buffer is unchanged.
+ */
+size_t gix_ids_read(gix_ids *ids, size_t from, gix_id *out, size_t out_len);
+
+/*
+ * Frees a list of ids.
+ *
+ * It must not be used again. NULL is allowed and does nothing.
+ */
+void gix_ids_free(gix_ids *ids);
+
 /* A name for a commit, in any bytes. */
 typedef struct {
     gix_id id;
@@ -647,7 +687,9 @@ typedef struct {
  * number of all named ancestors, if at most how->max_candidates and at most 32
  * ancestors have names.
  *
- * Each call walks the history anew. What other queries have cached is kept.
+ * Each call walks the history anew, and first reads all names. To describe
+ * many commits, use gix_history_describe_by. What other queries have cached is
+ * kept.
  *
  * Returns:
  *   GIX_OK
@@ -665,6 +707,44 @@ int32_t gix_history_describe(gix_history *history, const gix_id *commit,
                              const gix_name *names, size_t names_len,
                              const gix_how *how, uint8_t *out, size_t out_len,
                              size_t *len, uint32_t *depth);
+
+/* Names for commits, as a table that is made once for many descriptions. It
+ * belongs to no history, and may be used with several. */
+typedef struct gix_names gix_names;
+
+/*
+ * Makes a table of names. It copies the texts.
+ *
+ * If `names` has several names for one commit, the first one counts. `seed` is
+ * that of the table's hash map, as for gix_history_new. The caller frees the
+ * table with gix_names_free.
+ *
+ * Returns:
+ *   GIX_OK
+ *   GIX_OUT_OF_MEMORY
+ */
+GIX_MUST_USE
+int32_t gix_names_new(const gix_name *names, size_t names_len, uint64_t seed,
+                      gix_names **out);
+
+/*
+ * Describes `commit` like gix_history_describe, by the names of a table.
+ *
+ * Answer, premises and codes are those of gix_history_describe with the names
+ * that gix_names_new received. The table is unchanged, whatever the code is.
+ */
+GIX_MUST_USE
+int32_t gix_history_describe_by(gix_history *history, const gix_id *commit,
+                                gix_names *names, const gix_how *how,
+                                uint8_t *out, size_t out_len, size_t *len,
+                                uint32_t *depth);
+
+/*
+ * Frees a table of names.
+ *
+ * It must not be used again. NULL is allowed and does nothing.
+ */
+void gix_names_free(gix_names *names);
 
 /* Kinds of sets of commits, as gitrevisions(7) writes them. */
 enum {
@@ -768,7 +848,7 @@ int32_t gix_history_rev_parse(gix_history *history, const uint8_t *text,
 /*
  * Lists the commits of a set in rising order of their ids, a page at a time.
  *
- * Each call computes the whole list.
+ * Each call computes the whole list; gix_history_list_all computes it once.
  *
  * Returns:
  *   GIX_OK
@@ -780,6 +860,22 @@ GIX_MUST_USE
 int32_t gix_history_list(gix_history *history, const gix_span *span,
                          const gix_id *after, size_t after_len, gix_id *out,
                          size_t out_len, size_t *count);
+
+/*
+ * Makes the list of the commits of a set in rising order of their ids, for
+ * gix_ids_read and gix_ids_len.
+ *
+ * The list is that of this moment. The caller frees it with gix_ids_free.
+ *
+ * Returns:
+ *   GIX_OK
+ *   GIX_NO_KIND        span->kind is not one of the six kinds.
+ *   GIX_WANTS          A commit is wanted; only in a partial history.
+ *   GIX_OUT_OF_MEMORY
+ */
+GIX_MUST_USE
+int32_t gix_history_list_all(gix_history *history, const gix_span *span,
+                             gix_ids **out);
 
 /*
  * Counts the commits of a set, like `git rev-list --count`.

@@ -232,6 +232,40 @@ static void rounds(void) {
     gix_history_free(history);
 }
 
+/* A list stays as it is, whatever happens to its history. */
+static void lists(void) {
+    gix_history *history = NULL;
+    gix_ids *missing = NULL, *listed = NULL, *none = NULL;
+    gix_id four = id_of(0x44), out[3];
+    gix_span span = {GIX_INCLUDE, four, four};
+    EXPECT(gix_history_new(0, &history) == GIX_OK);
+    EXPECT(gix_history_missing_all(history, &none) == GIX_OK && gix_ids_len(none) == 0);
+    EXPECT(put(history, 0x44, 0x33, 0x22, 4) == GIX_OK);
+    EXPECT(gix_history_missing_all(history, &missing) == GIX_OK && gix_ids_len(missing) == 2);
+    EXPECT(put(history, 0x22, 0x11, 0, 2) == GIX_OK);
+    EXPECT(gix_history_list_all(history, &span, &listed) == GIX_OK && gix_ids_len(listed) == 2);
+    EXPECT(put(history, 0x33, 0, 0, 3) == GIX_OK);
+    out[2] = id_of(0xEE);
+    EXPECT(gix_ids_read(missing, 0, out, 3) == 2 && is_id(&out[0], 0x22) && is_id(&out[1], 0x33) && is_id(&out[2], 0xEE));
+    EXPECT(gix_ids_read(missing, 1, out, 3) == 1 && is_id(&out[0], 0x33) && is_id(&out[1], 0x33));
+    EXPECT(gix_ids_read(listed, 0, out, 1) == 1 && is_id(&out[0], 0x22) && is_id(&out[1], 0x33));
+    EXPECT(gix_ids_read(missing, 2, out, 3) == 0 && gix_ids_read(missing, SIZE_MAX, out, 3) == 0);
+    EXPECT(gix_ids_read(missing, 0, NULL, 0) == 0 && gix_ids_read(none, 0, out, 3) == 0 && is_id(&out[0], 0x22));
+    gix_ids_free(missing);
+    missing = NULL;
+    span.kind = 6;
+    EXPECT(gix_history_list_all(history, &span, &missing) == GIX_NO_KIND && missing == NULL);
+    gix_history_set_partial(history, true);
+    span.kind = GIX_INCLUDE;
+    EXPECT(gix_history_list_all(history, &span, &missing) == GIX_WANTS && missing == NULL);
+    EXPECT(gix_history_wanted(history, out) == GIX_OK && is_id(&out[0], 0x11));
+    gix_history_free(history);
+    EXPECT(gix_ids_read(listed, 1, out, 3) == 1 && is_id(&out[0], 0x44));
+    gix_ids_free(listed);
+    gix_ids_free(none);
+    gix_ids_free(NULL);
+}
+
 /* A parent that comes after two walks have met its child. */
 static void late_parent(gix_history *history) {
     gix_id child = id_of(0x78), one = id_of(0x11), out[1];
@@ -281,6 +315,44 @@ static void descriptions(gix_history *history) {
     how.size++;
     len = 99;
     EXPECT(gix_history_describe(history, &four, names, 2, &how, text, sizeof text, &len, &depth) == GIX_NO_HOW && len == 99);
+}
+
+/* A table has copies of the texts, and is as it was after each call. */
+static void tables(gix_history *history) {
+    gix_id one = id_of(0x11), four = id_of(0x44), six = id_of(0x66), lost = id_of(0x99);
+    uint8_t given[10], text[32];
+    gix_name names[2];
+    gix_names *table = NULL, *none = NULL;
+    gix_how how = GIX_HOW_INIT, other = GIX_HOW_INIT;
+    size_t len = 99;
+    uint32_t depth = 99;
+    int turn;
+    memcpy(given, "v1.0second", 10);
+    names[0].id = names[1].id = one;
+    names[0].text = given;
+    names[0].text_len = 4;
+    names[1].text = given + 4;
+    names[1].text_len = 6;
+    EXPECT(gix_names_new(names, 2, 7, &table) == GIX_OK && gix_names_new(NULL, 0, 7, &none) == GIX_OK);
+    memset(given, '?', sizeof given);
+    other.size++;
+    for (turn = 0; turn < 2; turn++) {
+        len = depth = 99;
+        EXPECT(gix_history_describe_by(history, &four, table, &other, text, sizeof text, &len, &depth) == GIX_NO_HOW);
+        EXPECT(gix_history_describe_by(history, &lost, table, &how, text, sizeof text, &len, &depth) == GIX_NO_COMMIT);
+        EXPECT(gix_history_describe_by(history, &six, table, &how, text, sizeof text, &len, &depth) == GIX_NONE);
+        EXPECT(gix_history_describe_by(history, &four, none, &how, text, sizeof text, &len, &depth) == GIX_NONE);
+        EXPECT(len == 99 && depth == 99);
+        memset(text, '.', sizeof text);
+        EXPECT(gix_history_describe_by(history, &four, table, &how, text, sizeof text, &len, &depth) == GIX_OK);
+        EXPECT(len == 15 && memcmp(text, "v1.0-3-g4444444.", 16) == 0 && depth == 3);
+        memset(text, '.', sizeof text);
+        EXPECT(gix_history_describe_by(history, &one, table, &how, text, 2, &len, &depth) == GIX_OK);
+        EXPECT(len == 4 && memcmp(text, "v1.", 3) == 0 && depth == 0);
+    }
+    gix_names_free(table);
+    gix_names_free(none);
+    gix_names_free(NULL);
 }
 
 static void texts(gix_history *history) {
@@ -489,6 +561,7 @@ static void opened(void) {
     names(history);
     late_parent(history);
     descriptions(history);
+    tables(history);
     texts(history);
     EXPECT(put(history, 0x79, 0x55, 0x99, 9) == GIX_OK);
     EXPECT(gix_history_merge_bases(history, &newer, &four, 1, out, 3, &count) == GIX_OK);
@@ -511,8 +584,10 @@ int main(void) {
     partial();
     partial_texts();
     rounds();
+    lists();
     late_parent(history);
     descriptions(history);
+    tables(history);
     texts(history);
     opened();
     objects();

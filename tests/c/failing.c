@@ -68,6 +68,8 @@ static void calls(gix_history *history, long turn) {
     gix_fault fault;
     gix_commit commit;
     gix_id object;
+    gix_ids *list = NULL;
+    gix_names *table = NULL;
     uint8_t text[32];
     size_t count = 0, len = 0;
     uint32_t depth = 0;
@@ -91,8 +93,16 @@ static void calls(gix_history *history, long turn) {
     UNTIL(GIX_OK, put(history, 0x66, 0x99, 0x77, 6));
     UNTIL(GIX_OK, gix_history_missing(history, &one, 0, out, 4, &count));
     EXPECT(count == 2 && is_id(&out[0], 0x77) && is_id(&out[1], 0x99));
+    UNTIL(GIX_OK, gix_history_missing_all(history, &list));
+    EXPECT(gix_ids_read(list, 0, out, 4) == 2 && is_id(&out[0], 0x77) && is_id(&out[1], 0x99));
+    gix_ids_free(list);
+    UNTIL(GIX_OK, gix_names_new(&name, 1, 0, &table));
     UNTIL(GIX_OK, gix_history_describe(history, &four, &name, 1, &how, text, sizeof text, &len, &depth));
     EXPECT(len == 13 && memcmp(text, "v1-3-g4444444", 13) == 0);
+    memset(text, '.', sizeof text);
+    UNTIL(GIX_OK, gix_history_describe_by(history, &four, table, &how, text, sizeof text, &len, &depth));
+    EXPECT(len == 13 && memcmp(text, "v1-3-g4444444", 13) == 0);
+    gix_names_free(table);
     UNTIL(1, gix_history_reaches(history, &five, &one));
     UNTIL(GIX_OK, gix_history_commit(history, &four, &commit, out, 4));
     EXPECT(commit.time == 4 && commit.parents_len == 2 && is_id(&out[0], 0x22) && is_id(&out[1], 0x33));
@@ -103,6 +113,9 @@ static void calls(gix_history *history, long turn) {
     UNTIL(GIX_OK, gix_history_rev_parse(history, text_of("5555^..main^{}"), 14, 0, 0, &span, &fault));
     UNTIL(GIX_OK, gix_history_list(history, &span, &one, 0, out, 4, &count));
     EXPECT(count == 2 && is_id(&out[0], 0x33) && is_id(&out[1], 0x44));
+    UNTIL(GIX_OK, gix_history_list_all(history, &span, &list));
+    EXPECT(gix_ids_read(list, 0, out, 4) == 2 && is_id(&out[0], 0x33) && is_id(&out[1], 0x44));
+    gix_ids_free(list);
     UNTIL(GIX_OK, gix_history_count(history, &span, &count));
     EXPECT(count == 2);
 }

@@ -326,6 +326,20 @@ struct Run {
             after = page.ids[page.count ? page.count - 1 : 0];
         }
         WANT(at == wanted.size());
+        whole(span, wanted);
+    }
+
+    /* Reads a part of the same list, which is made once. */
+    void whole(const gix_span *span, const Ids &wanted) {
+        gix_ids *list = NULL;
+        WANT((span ? gix_history_list_all(history, span, &list) : gix_history_missing_all(history, &list)) == GIX_OK);
+        WANT(gix_ids_len(list) == wanted.size());
+        size_t len = input.byte() % 8, from = input.byte() % 8;
+        Room part(len);
+        part.count = gix_ids_read(list, from, part.out(), len);
+        size_t begin = std::min(from, wanted.size()), end = std::min(begin + len, wanted.size());
+        WANT(part.has(Ids(wanted.begin() + (long)begin, wanted.begin() + (long)end)));
+        gix_ids_free(list);
     }
 
     void missing() {
@@ -368,7 +382,9 @@ struct Run {
         if (span.kind > GIX_WITHOUT_PARENTS) {
             gix_id after = id_of(0);
             WANT(code == GIX_NO_KIND && count == 99);
+            gix_ids *none = NULL;
             WANT(gix_history_list(history, &span, &after, 0, NULL, 0, &count) == GIX_NO_KIND && count == 99);
+            WANT(gix_history_list_all(history, &span, &none) == GIX_NO_KIND && !none);
             return;
         }
         Ids wanted = model.by_id(meant(span));
@@ -506,7 +522,16 @@ void Run::describe() {
     size_t room = input.byte() % 64, len = 99;
     std::string out(room + 2, '.');
     uint32_t depth = 99;
-    int32_t code = gix_history_describe(history, &id, names.raw.data(), names.raw.size(), &how, room ? (uint8_t *)&out[0] : NULL, room, &len, &depth);
+    uint8_t *text = room ? (uint8_t *)&out[0] : NULL;
+    int32_t code;
+    if (input.flag()) {
+        gix_names *table = NULL;
+        WANT(gix_names_new(names.raw.data(), names.raw.size(), 5, &table) == GIX_OK);
+        code = gix_history_describe_by(history, &id, table, &how, text, room, &len, &depth);
+        gix_names_free(table);
+    } else {
+        code = gix_history_describe(history, &id, names.raw.data(), names.raw.size(), &how, text, room, &len, &depth);
+    }
     Choice choice(model, number, how, names);
     bool is_walked = !choice.is_own && !names.raw.empty() && how.max_candidates > 0;
     bool is_none = choice.names.empty() && !how.fallback_to_id;

@@ -10,7 +10,7 @@ from types import TracebackType
 from typing import NamedTuple, NoReturn
 
 from ._errors import Fault, answered
-from ._library import Id, Owner, RawCommit, RawFault, RawHow, RawId, RawSpan, Size, Text
+from ._library import Id, Ids, Owner, RawCommit, RawFault, RawHow, RawId, RawSpan, Size, Table, Text
 from ._library import bytes_of, hex_of, hexes_of, many, names_of, number, one, size, text_of
 
 # In the class History, `list` is a method.
@@ -19,7 +19,7 @@ IdList = list[str]
 # Codes above this one are those of faults.
 _FAULT = 100
 
-# The number of ids on the first page of a list of unknown length. Each further one is four times as long.
+# How many ids of a list are fetched at a time.
 _PAGE = 1000
 
 
@@ -72,10 +72,11 @@ class Names:
     """
 
     def __init__(self, names: Iterable[tuple[Id, Text]]) -> None:
-        self._array, self._texts = names_of(names)
+        given = list(names)
+        self._table, self._length = Table(given), len(given)
 
     def __len__(self) -> int:
-        return len(self._texts)
+        return self._length
 
     def __reduce_ex__(self, protocol: object) -> NoReturn:
         raise TypeError("Names cannot be copied or pickled")
@@ -290,10 +291,10 @@ class History:
         """Returns an iterator over the missing parents in rising order.
 
         A missing parent is an id that a commit of the history has as a parent, and that is not in
-        the history. They are fetched `page` at a time, or on pages of growing length. Each page
-        goes over all missing parents. Raises ValueError if `page` is less than 1.
+        the history. They are those of the moment when the first one is asked for, and are fetched
+        `page` at a time, or 1000. Raises ValueError if `page` is less than 1.
         """
-        return self._pages("missing", (), _length(page), _PAGE)
+        return self._ids(_length(page), "missing_all")
 
     def describe(
         self,
@@ -320,12 +321,17 @@ class History:
 
         Raises NoCommit or TooMany.
         """
-        given = names if isinstance(names, Names) else Names(names)
         how = RawHow(ctypes.sizeof(RawHow), size(candidates), size(digits), bool(first_parent), bool(always), bool(long))
         start, room, length, depth = one(commit), 64, Size(), ctypes.c_uint32()
+        array, texts = (None, ()) if isinstance(names, Names) else names_of(names)
         while True:
             out = ctypes.create_string_buffer(room)
-            if not self._call("describe", start, given._array, len(given), how, out, room, length, depth):
+            rest = how, out, room, length, depth
+            if isinstance(names, Names):
+                code = names._table.describe(self._owner, start, *rest)
+            else:
+                code = self._owner.call("describe", start, array, len(texts), *rest)
+            if not answered(code):
                 return None
             if length.value <= room:
                 return Description(out.raw[: length.value], depth.value)
@@ -373,11 +379,10 @@ class History:
     def list(self, span: Span, page: int | None = None) -> Iterator[str]:
         """Returns an iterator over the commits of a set in rising order of their ids.
 
-        They are fetched all at once, or `page` at a time. Each page computes the whole list. Raises
-        NoKind, and ValueError if `page` is less than 1.
+        They are those of the moment when the first one is asked for, and are fetched `page` at a
+        time, or 1000. Raises NoKind, and ValueError if `page` is less than 1.
         """
-        raw, given = _raw(span), _length(page)
-        return self._pages("list", (raw,), given, None if given else self._count(raw) + 1)
+        return self._ids(_length(page), "list_all", _raw(span))
 
     def count(self, span: Span) -> int:
         """Returns the number of commits of a set, like `git rev-list --count`. Raises NoKind."""
@@ -388,18 +393,13 @@ class History:
         self._call("count", raw, count)
         return count.value
 
-    def _pages(self, call: str, given: tuple[object, ...], page: int | None, first: int | None) -> Iterator[str]:
-        """Yields the ids of a function that returns pages, of one length or of growing ones from `first` on."""
-        room = page or first or _PAGE
-        after, passed, is_last = RawId(), 0, False
-        while not is_last:
-            out, count = (RawId * room)(), Size()
-            self._call(call, *given, after, passed, out, room, count)
-            yield from hexes_of(out, count.value)
-            is_last = count.value < room
-            if count.value:
-                after, passed = RawId.from_buffer_copy(out[count.value - 1]), 1
-            room = page or 4 * room
+    def _ids(self, page: int | None, make: str, *arguments: object) -> Iterator[str]:
+        """Yields the ids of a list that a function makes."""
+        ids, place = Ids(self._owner, make, *arguments), 0
+        while place < len(ids):
+            found = ids.read(place, page or _PAGE)
+            yield from found
+            place += len(found)
 
 
 def _length(page: int | None) -> int | None:

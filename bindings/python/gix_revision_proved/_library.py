@@ -7,7 +7,7 @@ import mmap
 import operator
 import os
 import threading
-from collections.abc import Iterable, Sequence
+from collections.abc import Callable, Iterable, Sequence
 
 from ._errors import answered
 
@@ -71,12 +71,15 @@ _PARAMETERS: dict[str, tuple[object, ...]] = {
     "ahead_behind": (Handle, _Ids, _Ids, _Count, _Count),
     "newest_first": (Handle, _Ids, Size, _Ids, Size, _Count),
     "missing": (Handle, _Ids, Size, _Ids, Size, _Count),
+    "missing_all": (Handle, ctypes.POINTER(Handle)),
     "describe": (Handle, _Ids, ctypes.POINTER(RawName), Size, ctypes.POINTER(RawHow), _Bytes, Size, _Count, _Depth),
+    "describe_by": (Handle, _Ids, Handle, ctypes.POINTER(RawHow), _Bytes, Size, _Count, _Depth),
     "name": (Handle, _Bytes, Size, _Ids),
     "unname": (Handle, _Bytes, Size),
     "resolve": (Handle, _Bytes, Size, *_Moment, _Span, _Fault),
     "rev_parse": (Handle, _Bytes, Size, *_Moment, _Span, _Fault),
     "list": (Handle, _Span, _Ids, Size, _Ids, Size, _Count),
+    "list_all": (Handle, _Span, ctypes.POINTER(Handle)),
     "count": (Handle, _Span, _Count),
 }
 
@@ -101,7 +104,13 @@ def _load() -> ctypes.CDLL:
     for name, types in _PARAMETERS.items():
         function = getattr(library, f"gix_history_{name}")
         function.restype, function.argtypes = ctypes.c_int32, types
-    library.gix_history_free.restype, library.gix_history_free.argtypes = None, (Handle,)
+    for name in ("history", "names", "ids"):
+        free = getattr(library, f"gix_{name}_free")
+        free.restype, free.argtypes = None, (Handle,)
+    library.gix_names_new.restype = ctypes.c_int32
+    library.gix_names_new.argtypes = (ctypes.POINTER(RawName), Size, ctypes.c_uint64, ctypes.POINTER(Handle))
+    library.gix_ids_len.restype, library.gix_ids_len.argtypes = Size, (Handle,)
+    library.gix_ids_read.restype, library.gix_ids_read.argtypes = Size, (Handle, Size, _Ids, Size)
     library.gix_history_set_partial.restype, library.gix_history_set_partial.argtypes = None, (Handle, ctypes.c_bool)
     library.gix_history_len.restype, library.gix_history_len.argtypes = Size, (Handle,)
     library.gix_history_abbreviate.restype, library.gix_history_abbreviate.argtypes = Size, (Handle, _Ids, Size)
@@ -113,32 +122,49 @@ def _load() -> ctypes.CDLL:
 _library = _load()
 
 
-class Owner:
-    """Owns a history of the library, and lets one call at a time use it.
+class _Held:
+    """Owns something of the library, and lets one call at a time use it.
 
     Other threads wait. A call from the thread that is in a call, as by a signal handler, is refused.
     """
 
-    __slots__ = ("_at", "_lock", "_is_busy", "_free")
+    __slots__ = ("_at", "_lock", "_is_busy", "_free", "_what")
+
+    def __init__(self, what: str, free: Callable[[ctypes.c_void_p], None]) -> None:
+        self._at, self._lock, self._is_busy, self._free, self._what = Handle(), threading.RLock(), False, free, what
+
+    def use(self, call: Callable[[ctypes.c_void_p], int]) -> int:
+        """Returns what a call returns that is handed the pointer."""
+        with self._lock:
+            if self._is_busy:
+                raise RuntimeError(f"the {self._what} is in use by this thread")
+            try:
+                self._is_busy = True
+                if not self._at:
+                    raise ValueError(f"the {self._what} is closed")
+                return call(self._at)
+            finally:
+                self._is_busy = False
+
+    def __del__(self) -> None:
+        # Nothing else refers to it any more, so no call is under way.
+        if getattr(self, "_at", None):
+            self._free(self._at)
+
+
+class Owner(_Held):
+    """Owns a history of the library."""
+
+    __slots__ = ()
 
     def __init__(self, make: str, *arguments: object) -> None:
-        self._at, self._lock, self._is_busy, self._free = Handle(), threading.RLock(), False, _library.gix_history_free
+        super().__init__("history", _library.gix_history_free)
         answered(getattr(_library, f"gix_history_{make}")(*arguments, _seed(), ctypes.byref(self._at)))
 
     def call(self, name: str, *arguments: object) -> int:
         """Calls a function with the history and these arguments, and returns what it returns."""
         function = getattr(_library, f"gix_history_{name}")
-        with self._lock:
-            if self._is_busy:
-                raise RuntimeError("the history is in use by this thread")
-            try:
-                self._is_busy = True
-                if not self._at:
-                    raise ValueError("the history is closed")
-                result: int = function(self._at, *arguments)
-                return result
-            finally:
-                self._is_busy = False
+        return self.use(lambda at: function(at, *arguments))
 
     def close(self) -> None:
         with self._lock:
@@ -148,8 +174,43 @@ class Owner:
             if at:
                 self._free(at)
 
+
+class Table(_Held):
+    """Owns a table of names of the library."""
+
+    __slots__ = ()
+
+    def __init__(self, names: Iterable[tuple[Id, Text]]) -> None:
+        super().__init__("table of names", _library.gix_names_free)
+        array, texts = names_of(names)
+        answered(_library.gix_names_new(array, len(texts), _seed(), ctypes.byref(self._at)))
+
+    def describe(self, history: Owner, commit: RawId, *rest: object) -> int:
+        """Calls the function that describes a commit of a history by these names."""
+        return self.use(lambda at: history.call("describe_by", commit, at, *rest))
+
+
+class Ids:
+    """Owns a list of ids of the library."""
+
+    __slots__ = ("_at", "_free")
+
+    def __init__(self, history: Owner, make: str, *arguments: object) -> None:
+        self._at, self._free = Handle(), _library.gix_ids_free
+        answered(history.call(make, *arguments, ctypes.byref(self._at)))
+
+    def __len__(self) -> int:
+        length: int = _library.gix_ids_len(self._at)
+        return length
+
+    def read(self, place: int, most: int) -> list[str]:
+        """Returns the ids from a place on, at most so many."""
+        room = min(most, max(0, len(self) - place))
+        out = (RawId * max(1, room))()
+        count: int = _library.gix_ids_read(self._at, place, out, room)
+        return hexes_of(out, count)
+
     def __del__(self) -> None:
-        # Nothing else refers to it any more, so no call is under way.
         if getattr(self, "_at", None):
             self._free(self._at)
 

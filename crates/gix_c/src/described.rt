@@ -1,7 +1,8 @@
 //! Describes commits of complete and partial histories.
 
-ghost use Rattle.std.specs.Prelude.{◌≡◌, ◌⊎◌, ◌++◌, IfErr, IfOk, IsTrue, OnOk};
-ghost use Rattle.gix_describe.specs.Outcomes.{Describes, Keeps};
+ghost use Rattle.std.specs.Prelude.{◌≡◌, ◌⊎◌, ◌++◌, IfErr, IfOk, IfSome, IsTrue, OnOk};
+ghost use Rattle.gix_describe.specs.Lent.{options_by, outcomes_by};
+ghost use Rattle.gix_describe.specs.Outcomes.{Describes};
 ghost use Rattle.gix_c.specs.Behind.{commits_in};
 ghost use Rattle.gix_c.specs.Descriptions.{IsUndescribed};
 ghost use Rattle.gix_c.specs.Partial.{Wants, is_partial, whole_in};
@@ -11,7 +12,7 @@ use crate::history::History;
 use crate::status::{NO_COMMIT, OUT_OF_MEMORY, TOO_MANY, WANTS};
 use gix_history::{Beyond, Partial};
 use gix_revision::commit_graph::Commits;
-use gix_revision::describe::{Options, Outcome, describe};
+use gix_revision::describe::{Manner, Names, Nearest, counted_by};
 use gix_revision::error::Message;
 use gix_revision::graph::Graph;
 use gix_revision::hash::ObjectId;
@@ -24,16 +25,18 @@ impl History {
         &self,
         alloc: Global,
         commit: ObjectId,
-        options: Options<'a>,
-    ) -> Result<Option<Outcome<'a>>, i32>
-        ensures described { IfOk result (Describes (commits_in self.now) commit options.entry) }
-        ensures kept { IfOk result (Keeps commit options.entry) }
+        names: &Names<'a>,
+        manner: Manner,
+    ) -> Result<Option<Nearest<'a>>, i32>
+        ensures described { IfOk result (λ r. Describes (commits_in self.now) commit
+            (options_by names.now manner) (outcomes_by names.now r)) }
+        ensures kept { IfOk result (λ r. IfSome r (λ n. n.id ≡ commit)) }
         ensures refused { IfErr result
-            (IsUndescribed (commits_in self.now) commit options.entry.first_parent) }
+            (IsUndescribed (commits_in self.now) commit manner.first_parent) }
     {
         let mut marks = Graph::with_seed(alloc, self.graph.source(), self.graph.seed());
-        match describe(alloc, &commit, &mut marks, options) {
-            Ok(found) => Ok(found),
+        match counted_by(alloc, &commit, &mut marks, names, manner) {
+            Ok((found, _pops)) => Ok(found),
             Err(Message::MissingStart(_)) => Err(NO_COMMIT),
             Err(Message::CounterFull) => Err(TOO_MANY),
             // A source in memory does not fail.
@@ -47,13 +50,14 @@ impl History {
         &mut self,
         alloc: Global,
         commit: ObjectId,
-        options: Options<'a>,
-    ) -> Result<Option<Outcome<'a>>, i32>
-        ensures described { IfOk result
-            (Describes (commits_in self.old ++ K.beyond) commit options.entry) }
-        ensures kept { IfOk result (Keeps commit options.entry) }
+        names: &Names<'a>,
+        manner: Manner,
+    ) -> Result<Option<Nearest<'a>>, i32>
+        ensures described { IfOk result (λ r. Describes (commits_in self.old ++ K.beyond) commit
+            (options_by names.now manner) (outcomes_by names.now r)) }
+        ensures kept { IfOk result (λ r. IfSome r (λ n. n.id ≡ commit)) }
         ensures refused { IfErr result (λ code. ((code ≡ WANTS) × Wants self.old self.new)
-            ⊎ (IsUndescribed (commits_in self.old ++ K.beyond) commit options.entry.first_parent code
+            ⊎ (IsUndescribed (commits_in self.old ++ K.beyond) commit manner.first_parent code
             × (self.new ≡ self.old))) }
         ensures same { OnOk result (self.new ≡ self.old) }
         ensures graph { self.new.graph ≡ self.old.graph }
@@ -62,8 +66,8 @@ impl History {
     {
         let source = Partial::<&Commits<Global>, K>::new(self.graph.source());
         let mut marks = Graph::with_seed(alloc, source, self.graph.seed());
-        let error = match describe(alloc, &commit, &mut marks, options) {
-            Ok(found) => return Ok(found),
+        let error = match counted_by(alloc, &commit, &mut marks, names, manner) {
+            Ok((found, _pops)) => return Ok(found),
             Err(error) => error,
         };
         let wanted = marks.source().wanted;
@@ -81,14 +85,15 @@ impl History {
         &mut self,
         alloc: Global,
         commit: ObjectId,
-        options: Options<'a>,
-    ) -> Result<Option<Outcome<'a>>, i32>
-        ensures described { IfOk result
-            (Describes (whole_in self.old K.beyond) commit options.entry) }
-        ensures kept { IfOk result (Keeps commit options.entry) }
+        names: &Names<'a>,
+        manner: Manner,
+    ) -> Result<Option<Nearest<'a>>, i32>
+        ensures described { IfOk result (λ r. Describes (whole_in self.old K.beyond) commit
+            (options_by names.now manner) (outcomes_by names.now r)) }
+        ensures kept { IfOk result (λ r. IfSome r (λ n. n.id ≡ commit)) }
         ensures refused { IfErr result (λ code. ((code ≡ WANTS)
             × IsTrue (is_partial self.old.extent) × Wants self.old self.new)
-            ⊎ (IsUndescribed (whole_in self.old K.beyond) commit options.entry.first_parent code
+            ⊎ (IsUndescribed (whole_in self.old K.beyond) commit manner.first_parent code
             × (self.new ≡ self.old))) }
         ensures same { OnOk result (self.new ≡ self.old) }
         ensures graph { self.new.graph ≡ self.old.graph }
@@ -96,8 +101,8 @@ impl History {
         ensures table { self.new.table ≡ self.old.table }
     {
         match self.extent {
-            Extent::Complete => self.describe_complete(alloc, commit, options),
-            Extent::Partial(_) => self.describe_partial::<K>(alloc, commit, options),
+            Extent::Complete => self.describe_complete(alloc, commit, names, manner),
+            Extent::Partial(_) => self.describe_partial::<K>(alloc, commit, names, manner),
         }
     }
 }

@@ -70,7 +70,7 @@ fn rising(alloc: Global, set: BTreeSet<ObjectId>) -> Result<Vec<ObjectId>, Alloc
 }
 
 /// Sifts the noted parents: those that the history does not have stay, each once, by rising id.
-fn sift(alloc: Global, history: &mut History) -> Result<(), AllocError>
+pub(crate) fn sift(alloc: Global, history: &mut History) -> Result<(), AllocError>
     ensures sifted { OnOk result
         (AreLacked (commits_in history.old) history.old.named.items history.new.named.items) }
     ensures refused { OnErr result (history.new.named ≡ history.old.named) }

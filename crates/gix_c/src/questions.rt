@@ -5,7 +5,7 @@ use gix_history::Refused;
 use gix_history::questions::{
     AheadBehind, CountCommits, Independent, IsAncestor, MergeBases, Octopus,
 };
-use gix_resolve::{ListError, ahead_behind, count_commits, newest_first, page};
+use gix_resolve::{ListError, ahead_behind, commits, count_commits, newest_first, page};
 use gix_revision::error::NonEmpty;
 use gix_revision::graph::{Commit, Find, Graph};
 use gix_revision::hash::ObjectId;
@@ -154,6 +154,31 @@ impl Ask for Page {
         graph: &mut Graph<S, Commit<Flags>>,
     ) -> Result<Vec<ObjectId>, Refused> {
         match page(self.alloc, &self.spec, graph, self.after, self.limit) {
+            Ok(ids) => Ok(ids),
+            Err(error) => Err(list_refused(error)),
+        }
+    }
+}
+
+/// Asks for the commits in `spec`, each once, by rising id.
+#[derive(Clone, Copy)]
+pub(crate) struct All {
+    pub(crate) alloc: Global,
+    pub(crate) spec: Spec,
+}
+
+impl Ask for All {
+    ghost use Rattle.gix_resolve.specs.ListMeaning.{ListsMeant};
+
+    type Answer = Vec<ObjectId>;
+
+    ghost means = { λ q h ids. ListsMeant h q.spec ids.items };
+
+    fn ask_graph<S: Find>(
+        &self,
+        graph: &mut Graph<S, Commit<Flags>>,
+    ) -> Result<Vec<ObjectId>, Refused> {
+        match commits(self.alloc, &self.spec, graph) {
             Ok(ids) => Ok(ids),
             Err(error) => Err(list_refused(error)),
         }

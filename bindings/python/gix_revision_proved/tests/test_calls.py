@@ -109,6 +109,13 @@ class Calls(unittest.TestCase):
         given = [id_of(0x33), id_of(0x99), id_of(0x55), id_of(0x22), id_of(0x33)]
         self.assertEqual(self.history.newest_first(given), [id_of(0x55), id_of(0x22), id_of(0x33)])
 
+    def test_lists_stay_as_they_are(self) -> None:
+        self.history.insert(id_of(0x66), [id_of(0x99), id_of(0x77)], 6)
+        missing = self.history.missing(page=1)
+        self.assertEqual(next(missing), id_of(0x77))
+        self.history.insert(id_of(0x99), [], 1)
+        self.assertEqual(list(missing), [id_of(0x99)])
+
     def test_missing(self) -> None:
         self.assertEqual(list(self.history.missing()), [])
         self.history.insert(id_of(0x66), [id_of(0x99), id_of(0x77), id_of(0x55)], 6)

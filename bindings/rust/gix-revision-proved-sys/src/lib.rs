@@ -41,6 +41,18 @@ pub struct gix_history {
 }
 
 #[repr(C)]
+pub struct gix_names {
+    private: [u8; 0],
+    marker: PhantomData<(*mut u8, PhantomPinned)>,
+}
+
+#[repr(C)]
+pub struct gix_ids {
+    private: [u8; 0],
+    marker: PhantomData<(*mut u8, PhantomPinned)>,
+}
+
+#[repr(C)]
 #[derive(Clone, Copy, Debug)]
 pub struct gix_name {
     pub id: gix_id,
@@ -184,6 +196,10 @@ extern "C" {
         out_len: usize,
         count: *mut usize,
     ) -> i32;
+    pub fn gix_history_missing_all(history: *mut gix_history, out: *mut *mut gix_ids) -> i32;
+    pub fn gix_ids_len(ids: *mut gix_ids) -> usize;
+    pub fn gix_ids_read(ids: *mut gix_ids, from: usize, out: *mut gix_id, out_len: usize) -> usize;
+    pub fn gix_ids_free(ids: *mut gix_ids);
     pub fn gix_history_describe(
         history: *mut gix_history,
         commit: *const gix_id,
@@ -195,6 +211,23 @@ extern "C" {
         len: *mut usize,
         depth: *mut u32,
     ) -> i32;
+    pub fn gix_names_new(
+        names: *const gix_name,
+        names_len: usize,
+        seed: u64,
+        out: *mut *mut gix_names,
+    ) -> i32;
+    pub fn gix_history_describe_by(
+        history: *mut gix_history,
+        commit: *const gix_id,
+        names: *mut gix_names,
+        how: *const gix_how,
+        out: *mut u8,
+        out_len: usize,
+        len: *mut usize,
+        depth: *mut u32,
+    ) -> i32;
+    pub fn gix_names_free(names: *mut gix_names);
     pub fn gix_history_name(
         history: *mut gix_history,
         name: *const u8,
@@ -232,6 +265,11 @@ extern "C" {
         out: *mut gix_id,
         out_len: usize,
         count: *mut usize,
+    ) -> i32;
+    pub fn gix_history_list_all(
+        history: *mut gix_history,
+        span: *const gix_span,
+        out: *mut *mut gix_ids,
     ) -> i32;
     pub fn gix_history_count(
         history: *mut gix_history,

@@ -248,6 +248,26 @@ pub struct How {
     pub long_form: bool,
 }
 
+impl How {
+    fn to_raw(self) -> sys::gix_how {
+        let How {
+            max_candidates,
+            hex_len,
+            first_parent,
+            fallback_to_id,
+            long_form,
+        } = self;
+        sys::gix_how {
+            size: size_of::<sys::gix_how>(),
+            max_candidates,
+            hex_len,
+            first_parent,
+            fallback_to_id,
+            long_form,
+        }
+    }
+}
+
 impl Default for How {
     /// Returns 10 names, 7 digits, and no other option.
     fn default() -> How {
@@ -346,9 +366,8 @@ fn random_seed() -> u64 {
     RandomState::new().build_hasher().finish()
 }
 
-/// The length of the first page of a list whose length is not known. Each further one is four times
-/// as long.
-const FIRST_PAGE: usize = 1000;
+/// How many ids are fetched at a time.
+const PAGE: usize = 1000;
 
 /// Returns room for `len` ids.
 fn room(len: usize) -> Result<Vec<Id>, Error> {
@@ -357,6 +376,59 @@ fn room(len: usize) -> Result<Vec<Id>, Error> {
         .map_err(|_| Error::OutOfMemory)?;
     room.resize(len, Id([0; 20]));
     Ok(room)
+}
+
+/// Returns names as C has them.
+fn raw_names(names: &[(Id, &[u8])]) -> Vec<sys::gix_name> {
+    let name = |(id, text): &(Id, &[u8])| sys::gix_name {
+        id: sys::gix_id { bytes: id.0 },
+        text: text.as_ptr(),
+        text_len: text.len(),
+    };
+    names.iter().map(name).collect()
+}
+
+/// Calls a function that describes a commit, with a larger buffer until the text fits.
+fn described(
+    mut call: impl FnMut(*mut u8, usize, &mut usize, &mut u32) -> i32,
+) -> Result<Option<(Vec<u8>, u32)>, Error> {
+    let (mut out, mut count, mut depth) = (vec![0; 64], 0, 0);
+    loop {
+        let (room, len) = (out.as_mut_ptr(), out.len());
+        if !answered(call(room, len, &mut count, &mut depth))? {
+            return Ok(None);
+        }
+        let was = out.len();
+        out.resize(count, 0);
+        if count <= was {
+            return Ok(Some((out, depth)));
+        }
+    }
+}
+
+/// Names of commits, prepared once for many calls of [`History::describe_by`].
+///
+/// If there are several names for one commit, the first one counts.
+pub struct Names(NonNull<sys::gix_names>);
+
+// It owns what it points to, and nothing there belongs to the thread that made it.
+unsafe impl Send for Names {}
+
+impl Names {
+    /// Makes a table of names, with copies of the texts.
+    pub fn new(names: &[(Id, &[u8])]) -> Result<Names, Error> {
+        let (names, mut at) = (raw_names(names), ptr::null_mut());
+        answered(unsafe {
+            sys::gix_names_new(names.as_ptr(), names.len(), random_seed(), &mut at)
+        })?;
+        NonNull::new(at).map(Names).ok_or(Error::OutOfMemory)
+    }
+}
+
+impl Drop for Names {
+    fn drop(&mut self) {
+        unsafe { sys::gix_names_free(self.0.as_ptr()) }
+    }
 }
 
 /// Commits, ref names for revisions, and what earlier queries have cached.
@@ -671,26 +743,17 @@ impl History {
     /// # Ok::<(), gix_revision_proved::Error>(())
     /// ```
     pub fn missing(&mut self, after: Option<Id>, page: usize) -> Result<Vec<Id>, Error> {
-        let (mut found, mut after, mut len) = (Vec::new(), after, FIRST_PAGE);
-        while found.len() < page {
-            let ids = self.page(What::Missing, len.min(page - found.len()), after)?;
-            let is_last = ids.len() < len;
-            found
-                .try_reserve(ids.len())
-                .map_err(|_| Error::OutOfMemory)?;
-            after = ids.last().copied();
-            found.extend(ids);
-            if is_last {
-                break;
-            }
-            len = len.saturating_mul(4);
+        let mut list = self.all(What::Missing)?;
+        let mut from = 0;
+        if let Some(after) = after {
+            from = list.past(after)?;
         }
-        Ok(found)
+        list.read(from, page)
     }
 
     /// Returns an iterator over all missing parents in rising order.
     ///
-    /// They are fetched on pages of growing length, each of which goes over all missing parents.
+    /// They are those of the first call of `next`.
     ///
     /// ```
     /// use gix_revision_proved::{History, Id};
@@ -702,7 +765,7 @@ impl History {
     /// # Ok::<(), gix_revision_proved::Error>(())
     /// ```
     pub fn missing_parents(&mut self) -> Ids<'_> {
-        Ids::of(self, What::Missing, None)
+        Ids::of(self, What::Missing, PAGE)
     }
 
     /// Returns the description of `commit` by its own name or by that of an ancestor, and its
@@ -726,52 +789,63 @@ impl History {
         names: &[(Id, &[u8])],
         how: How,
     ) -> Result<Option<(Vec<u8>, u32)>, Error> {
-        let name = |(id, text): &(Id, &[u8])| sys::gix_name {
-            id: sys::gix_id { bytes: id.0 },
-            text: text.as_ptr(),
-            text_len: text.len(),
-        };
-        let names: Vec<sys::gix_name> = names.iter().map(name).collect();
-        let How {
-            max_candidates,
-            hex_len,
-            first_parent,
-            fallback_to_id,
-            long_form,
-        } = how;
-        let how = sys::gix_how {
-            size: size_of::<sys::gix_how>(),
-            max_candidates,
-            hex_len,
-            first_parent,
-            fallback_to_id,
-            long_form,
-        };
-        let (mut out, mut count, mut depth) = (vec![0; 64], 0, 0);
-        loop {
-            let (room, len) = (out.as_mut_ptr(), out.len());
-            let code = unsafe {
-                sys::gix_history_describe(
-                    self.at(),
-                    commit.raw(),
-                    names.as_ptr(),
-                    names.len(),
-                    &how,
-                    room,
-                    len,
-                    &mut count,
-                    &mut depth,
-                )
-            };
-            if !answered(code)? {
-                return Ok(None);
-            }
-            let was = out.len();
-            out.resize(count, 0);
-            if count <= was {
-                return Ok(Some((out, depth)));
-            }
-        }
+        let names = raw_names(names);
+        let how = how.to_raw();
+        described(|out, room, count, depth| unsafe {
+            sys::gix_history_describe(
+                self.at(),
+                commit.raw(),
+                names.as_ptr(),
+                names.len(),
+                &how,
+                out,
+                room,
+                count,
+                depth,
+            )
+        })
+    }
+
+    /// Returns the description of `commit` like [`History::describe`], by names that were prepared
+    /// once.
+    ///
+    /// ```
+    /// use gix_revision_proved::{History, How, Id, Names};
+    ///
+    /// let id = |byte| Id([byte; 20]);
+    /// let mut history = History::new()?;
+    /// history.insert(id(1), &[], 1, None)?;
+    /// history.insert(id(2), &[id(1)], 2, None)?;
+    /// let mut names = Names::new(&[(id(1), b"v1")])?;
+    /// let found = history.describe_by(id(1), &mut names, How::default())?;
+    /// assert_eq!(found, Some((b"v1".to_vec(), 0)));
+    /// let found = history.describe_by(id(2), &mut names, How::default())?;
+    /// assert_eq!(found, Some((b"v1-1-g0202020".to_vec(), 1)));
+    /// # Ok::<(), gix_revision_proved::Error>(())
+    /// ```
+    ///
+    /// # Errors
+    ///
+    /// [`Error::NoCommit`] and [`Error::TooMany`].
+    pub fn describe_by(
+        &mut self,
+        commit: Id,
+        names: &mut Names,
+        how: How,
+    ) -> Result<Option<(Vec<u8>, u32)>, Error> {
+        let how = how.to_raw();
+        described(|out, room, count, depth| unsafe {
+            sys::gix_history_describe_by(
+                self.at(),
+                commit.raw(),
+                names.0.as_ptr(),
+                &how,
+                out,
+                room,
+                count,
+                depth,
+            )
+        })
     }
 
     /// Gives a ref name, such as `HEAD` or `main`, to an id, for revisions.
@@ -839,8 +913,7 @@ impl History {
 
     /// Returns an iterator over the commits of a set in rising order of their ids.
     ///
-    /// They are fetched `page` at a time; 0 counts as 1. Each page computes the whole list, so pass
-    /// `usize::MAX` to have it computed once.
+    /// They are those of the first call of `next`, and are fetched `page` at a time; 0 counts as 1.
     ///
     /// ```
     /// use gix_revision_proved::{History, Id, Span};
@@ -856,7 +929,7 @@ impl History {
     /// # Ok::<(), gix_revision_proved::Error>(())
     /// ```
     pub fn list(&mut self, span: Span, page: usize) -> Ids<'_> {
-        Ids::of(self, What::Span(span), Some(page.max(1)))
+        Ids::of(self, What::Span(span), page.max(1))
     }
 
     /// Returns the number of commits of a set, like `git rev-list --count`.
@@ -867,32 +940,17 @@ impl History {
         Ok(count)
     }
 
-    /// Returns the first `len` ids of a list after the id `after`.
-    fn page(&mut self, what: What, len: usize, after: Option<Id>) -> Result<Vec<Id>, Error> {
-        let (mut out, mut count, after) = (room(len)?, 0, after.as_slice());
-        let (from, passed) = (after.as_ptr().cast(), after.len());
-        let (history, at) = (self.at(), out.as_mut_ptr().cast());
+    /// Makes a list.
+    fn all(&mut self, what: What) -> Result<List, Error> {
+        let (history, mut at) = (self.at(), ptr::null_mut());
         answered(match what {
-            What::Missing => unsafe {
-                sys::gix_history_missing(history, from, passed, at, len, &mut count)
-            },
+            What::Missing => unsafe { sys::gix_history_missing_all(history, &mut at) },
             What::Span(span) => unsafe {
                 let raw = span.to_raw();
-                sys::gix_history_list(history, &raw, from, passed, at, len, &mut count)
+                sys::gix_history_list_all(history, &raw, &mut at)
             },
         })?;
-        out.truncate(count);
-        Ok(out)
-    }
-
-    /// Returns the length of a page: `page`, but no longer than the list and one more.
-    fn page_len(&mut self, what: What, page: usize) -> Result<usize, Error> {
-        match what {
-            What::Span(span) if page > FIRST_PAGE => {
-                Ok(self.count(span)?.saturating_add(1).min(page))
-            }
-            _ => Ok(page),
-        }
+        NonNull::new(at).map(List).ok_or(Error::OutOfMemory)
     }
 }
 
@@ -902,47 +960,93 @@ impl Drop for History {
     }
 }
 
-/// A list that the library returns on pages.
+/// What a list has.
 #[derive(Clone, Copy)]
 enum What {
     Span(Span),
     Missing,
 }
 
-/// Iterator over ids that are fetched a page at a time. It ends after an error.
+/// A list of the library.
+struct List(NonNull<sys::gix_ids>);
+
+// It owns what it points to, and nothing there belongs to the thread that made it.
+unsafe impl Send for List {}
+
+impl List {
+    fn len(&mut self) -> usize {
+        unsafe { sys::gix_ids_len(self.0.as_ptr()) }
+    }
+
+    /// Returns the ids from the place `from` on, at most `most`.
+    fn read(&mut self, from: usize, most: usize) -> Result<Vec<Id>, Error> {
+        let mut out = room(most.min(self.len().saturating_sub(from)))?;
+        let (at, len) = (out.as_mut_ptr().cast(), out.len());
+        let count = unsafe { sys::gix_ids_read(self.0.as_ptr(), from, at, len) };
+        out.truncate(count);
+        Ok(out)
+    }
+
+    /// Returns the place of the first id that is greater than `bound`.
+    fn past(&mut self, bound: Id) -> Result<usize, Error> {
+        let (mut least, mut end) = (0, self.len());
+        while least < end {
+            let middle = least + (end - least) / 2;
+            if self.read(middle, 1)?.iter().any(|id| *id > bound) {
+                end = middle;
+            } else {
+                least = middle + 1;
+            }
+        }
+        Ok(least)
+    }
+}
+
+impl Drop for List {
+    fn drop(&mut self) {
+        unsafe { sys::gix_ids_free(self.0.as_ptr()) }
+    }
+}
+
+/// Iterator over the ids of a list, which is made when the first one is asked for. It ends after an
+/// error.
 pub struct Ids<'a> {
     history: &'a mut History,
     what: What,
-    /// The length of each page; without it they grow.
-    page: Option<usize>,
-    /// The length of the next page.
+    /// How many ids are fetched at a time.
+    page: usize,
+    /// The list, once it is made.
+    list: Option<List>,
+    /// The place of the first id that was not fetched.
     next: usize,
-    after: Option<Id>,
     fetched: std::vec::IntoIter<Id>,
     is_last: bool,
 }
 
 impl<'a> Ids<'a> {
-    fn of(history: &'a mut History, what: What, page: Option<usize>) -> Ids<'a> {
+    fn of(history: &'a mut History, what: What, page: usize) -> Ids<'a> {
         Ids {
             history,
             what,
             page,
-            next: page.unwrap_or(FIRST_PAGE),
-            after: None,
+            list: None,
+            next: 0,
             fetched: Vec::new().into_iter(),
             is_last: false,
         }
     }
 
-    /// Fetches the next page.
+    /// Fetches the next ids.
     fn fetch(&mut self) -> Result<(), Error> {
-        let len = self.history.page_len(self.what, self.next)?;
-        let ids = self.history.page(self.what, len, self.after)?;
-        self.is_last = ids.len() < len;
-        self.after = ids.last().copied();
+        let mut list = match self.list.take() {
+            Some(list) => list,
+            None => self.history.all(self.what)?,
+        };
+        let ids = list.read(self.next, self.page)?;
+        self.next += ids.len();
+        self.is_last = self.next >= list.len();
         self.fetched = ids.into_iter();
-        self.next = self.page.unwrap_or(self.next.saturating_mul(4));
+        self.list = Some(list);
         Ok(())
     }
 }

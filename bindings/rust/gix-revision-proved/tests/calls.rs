@@ -1,6 +1,6 @@
 //! Each call over a criss-cross, and a history that another thread uses.
 
-use gix_revision_proved::{graph_fault, library_version, Commit, Error, History, How, Id, Span};
+use gix_revision_proved::{graph_fault, library_version, Commit, Error, History, How, Id, Names, Span};
 
 const fn id(byte: u8) -> Id {
     Id([byte; 20])
@@ -156,6 +156,41 @@ fn commits_are_described() -> Result<(), Error> {
         history.describe(id(0x11), &[(id(0x11), &long)], How::default())?,
         Some((long.to_vec(), 0))
     );
+    Ok(())
+}
+
+#[test]
+fn names_are_prepared_once() -> Result<(), Error> {
+    let mut history = criss_cross()?;
+    let text = b"v1".to_vec();
+    let mut names = Names::new(&[(id(0x11), &text), (id(0x11), b"later")])?;
+    drop(text);
+    let found = Some((b"v1-3-g4444444".to_vec(), 3));
+    for _ in 0..2 {
+        assert_eq!(
+            history.describe_by(id(0x99), &mut names, How::default()),
+            Err(Error::NoCommit)
+        );
+        assert_eq!(
+            history.describe_by(id(0x44), &mut names, How::default())?,
+            found
+        );
+    }
+    let mut none = Names::new(&[])?;
+    assert_eq!(
+        history.describe_by(id(0x44), &mut none, How::default())?,
+        None
+    );
+    Ok(())
+}
+
+#[test]
+fn lists_stay_as_they_are() -> Result<(), Error> {
+    let mut history = criss_cross()?;
+    let mut listed = history.list(Span::Include(id(0x55)), 1);
+    assert_eq!(listed.next(), Some(Ok(id(0x11))));
+    let rest: Result<Vec<_>, _> = listed.collect();
+    assert_eq!(rest?, [id(0x22), id(0x33), id(0x55)]);
     Ok(())
 }
 

@@ -1,4 +1,4 @@
 use Rattle.gix_c.proofs.describe.gix_history_describe.Given as goal
 
-abbrev pub ghosts-describe : goal.ghosts-describe
-ghosts-describe g a = record { beyond = g.beyond }
+abbrev pub ghosts-describe_by : goal.ghosts-describe_by
+ghosts-describe_by g a = record { beyond = g.beyond }
