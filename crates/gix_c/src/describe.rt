@@ -243,6 +243,9 @@ pub extern "C" fn gix_history_describe(
     ensures named { history.new.value.named ≡ history.old.value.named }
     ensures table { history.new.value.table ≡ history.old.value.table }
 {
+    if how.size != HOW_SIZE as usize {
+        return NO_HOW;
+    }
     let history = history.get_mut();
     let Ok(names) = first_names(alloc, history.graph.seed(), names) else {
         return OUT_OF_MEMORY;
