@@ -25,6 +25,13 @@ use std::alloc::{AllocError, Global};
 use std::collections::HashMap;
 use std::marker::Brand;
 
+/// Returns the items from the place `from` on.
+fn behind(bytes: &[[u8; 20]], from: usize) -> &[[u8; 20]]
+    ensures { result.now ≡ drop from bytes.now }
+{
+    &bytes[from.min(bytes.len())..]
+}
+
 /// Writes as many first items as fit into `out`. Returns how many it wrote.
 fn copy_front(bytes: &[[u8; 20]], out: &mut [[u8; 20]]) -> usize
     ensures counted { result ≡ min (length bytes.now) (length out.old) }
@@ -40,11 +47,13 @@ fn place_of(alloc: Global, ids: &[ObjectId]) -> Result<StockPlace, AllocError>
     ensures { IfOk result (λ place. (list : StockHandle) × (place.value ≡ Some list)
         × (list.value.ids.items ≡ map bytes_in ids.now)) }
 {
+    let ids = bytes_of_each(alloc, ids)?;
     let stock = Stock {
         names: HashMap::with_hasher(alloc, Seed::default()),
-        ids: bytes_of_each(alloc, ids)?,
+        ids,
     };
-    StockPlace::holding(alloc, stock)
+    let place = StockPlace::holding(alloc, stock)?;
+    Ok(place)
 }
 
 /// Lists the commits of a revision range or set by rising id, in a list that `*out` then owns.
@@ -130,7 +139,5 @@ pub extern "C" fn gix_ids_read(ids: &mut IdsHandle, from: usize, out: &mut [[u8;
     ensures read { IsRead ids.old.value.ids.items from out.old out.new result }
     ensures kept { ids.new.value ≡ ids.old.value }
 {
-    let ids = &ids.get_mut().ids;
-    let begin = from.min(ids.len());
-    copy_front(&ids[begin..], out)
+    copy_front(behind(&ids.get_mut().ids, from), out)
 }

@@ -9,8 +9,8 @@ use Rattle.gix_c.specs.Partial.{whole_in}
 use Rattle.gix_c.proofs.Named.{described-so}
 use Rattle.gix_c.proofs.describe.describe_by.Goals as goal
 
-pub returns-in-Ok-printed-clause-described : goal.returns-in-Ok-printed-clause-described
-returns-in-Ok-printed-clause-described g c = λ given are.
+pub returns-in-Ok-clause-described : goal.returns-in-Ok-clause-described
+returns-in-Ok-clause-described g c = λ given are.
     let n = c.in-Ok-Some.nearest in
     let map = c.args.names.now in
     let id = rw c.in-Ok-Some.field-0-is at c.in-Ok-Some.ensures.kept in
@@ -18,7 +18,7 @@ returns-in-Ok-printed-clause-described g c = λ given are.
       description = description_by n;
       described = described-so _ (whole_in c.args.history.now g.K.Beyond.beyond) (id_of c.args.commit.now) given c.args.how.now map c.manner_of.result _ (Some (description_by n)) refl are c.manner_of.ensures
           (ap (λ r. option_map description_of (outcomes_by map r)) c.in-Ok-Some.field-0-is) c.in-Ok-Some.ensures.described;
-      printed = subst (λ (i : ObjectId). IsPrinted i (description_by n) c.args.how.now c.args.out.now c.printed.new.out c.printed.new.len c.printed.new.depth) id c.in-Ok-printed.ensures.printed;
+      printed = subst (λ (i : ObjectId). IsPrinted i (description_by n) c.args.how.now c.args.out.now c.printed.new.out c.printed.new.len c.printed.new.depth) id c.in-Ok.ensures.printed;
     }
 
 pub returns-in-Ok-None-clause-described : goal.returns-in-Ok-None-clause-described
