@@ -1,9 +1,9 @@
 /*
  * gix_revision.h: merge bases, commit descriptions and revisions. C99 and C++.
  *
- * A gix_history has commits: those of git's commit-graph file, commits that
- * the program adds one by one, or both. The functions answer questions about
- * it. Each has a proved contract; docs/PROVED.md says what it promises.
+ * A gix_history has commits: those of git's commit-graph, commits that the
+ * program adds one by one, or both. The functions answer questions about it.
+ * Each has a proved contract; docs/PROVED.md says what it promises.
  *
  * RESULTS
  *   Most functions return a gix_code:
@@ -58,10 +58,10 @@
  *   Only commits reachable from the arguments of the call matter. A function
  *   that names no premise has none. Without a premise a call is still safe. If
  *   part of a promise remains then, the comment of the function says which.
- *   The commits of an opened commit-graph file are acyclic and have ordered
- *   generations. The history stays acyclic if the commits that are added later
- *   form no cycle. Its generations stay ordered if these commits have no
- *   generation number.
+ *   The commits of an opened commit-graph file, or of an opened chain of such
+ *   files, are acyclic and have ordered generations. The history stays acyclic
+ *   if the commits that are added later form no cycle. Its generations stay
+ *   ordered if these commits have no generation number.
  *
  * PARTIAL HISTORIES
  *   A new history is complete: it has the commits that were added, and no
@@ -273,8 +273,9 @@ int32_t gix_history_new(uint64_t seed, gix_history **out);
  * Makes a history of the commits in git's commit-graph file.
  *
  * `bytes` is the whole file (.git/objects/info/commit-graph). It must have
- * SHA-1 ids. Only the lowest file of a split commit-graph can be opened. Each
- * part of the file that is used is checked here; the hash at its end is not.
+ * SHA-1 ids. Of a split commit-graph this opens only the lowest file;
+ * gix_history_open_chain opens all. Each part of the file that is used is
+ * checked here; the hash at its end is not.
  *
  * The history has the commits of the file with their generation numbers, and
  * all their parents. Add newer commits with gix_history_insert. The bytes are
@@ -291,6 +292,42 @@ int32_t gix_history_new(uint64_t seed, gix_history **out);
 GIX_MUST_USE
 int32_t gix_history_open(const uint8_t *bytes, size_t bytes_len, uint64_t seed,
                          gix_history **out);
+
+/* The bytes of a file. */
+typedef struct {
+    const uint8_t *bytes;
+    size_t bytes_len;
+} gix_bytes;
+
+/*
+ * Makes a history of the commits in a split commit-graph: a chain of files.
+ *
+ * `files` has each file as a whole, the lowest first. This is the order of the
+ * lines in .git/objects/info/commit-graphs/commit-graph-chain. The lowest file
+ * is checked as in gix_history_open. Of each other file, the hash at its end is
+ * checked too, and that its base graphs are exactly the files below it. A base
+ * graph is named by the last 20 bytes of its file.
+ *
+ * The history has the commits of all files, as one of gix_history_open has
+ * those of one file. A chain of one file has the result of gix_history_open.
+ * The bytes are copied. The commits of the files above the lowest one are kept
+ * like those of gix_history_insert, which takes more memory than their file.
+ * `seed` is that of gix_history_new. The old value of *out is not freed.
+ *
+ * Returns:
+ *   GIX_OK             *out is the new history.
+ *   GIX_NO_GRAPH       The files are not a chain: there is no file, one is
+ *                      malformed, the lowest has base graphs, another has a
+ *                      wrong hash or other base graphs than the files below
+ *                      it, or a commit is in two files.
+ *   GIX_NO_LEVELS      The lowest file is well-formed, but a commit of the
+ *                      files has no level, or a level that is not greater than
+ *                      its parents'.
+ *   GIX_OUT_OF_MEMORY
+ */
+GIX_MUST_USE
+int32_t gix_history_open_chain(const gix_bytes *files, size_t files_len,
+                               uint64_t seed, gix_history **out);
 
 /* What can be wrong with the bytes of a commit-graph file; see
  * gitformat-commit-graph(5). */

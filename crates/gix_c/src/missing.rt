@@ -53,7 +53,7 @@ fn lacked(
 }
 
 /// Collects ids into a set.
-fn set_of(alloc: Global, ids: Vec<ObjectId>) -> Result<BTreeSet<ObjectId>, AllocError>
+pub(crate) fn set_of(alloc: Global, ids: Vec<ObjectId>) -> Result<BTreeSet<ObjectId>, AllocError>
     ensures { IfOk result (λ set. (q : ObjectId) → is_one_of set.keys q ≡ is_one_of ids.items q) }
 {
     let set: BTreeSet<ObjectId> = ids.into_iter().collect(alloc)?;

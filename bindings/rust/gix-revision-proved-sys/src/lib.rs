@@ -62,6 +62,13 @@ pub struct gix_name {
 
 #[repr(C)]
 #[derive(Clone, Copy, Debug)]
+pub struct gix_bytes {
+    pub bytes: *const u8,
+    pub bytes_len: usize,
+}
+
+#[repr(C)]
+#[derive(Clone, Copy, Debug)]
 pub struct gix_commit {
     pub time: i64,
     pub generation: u32,
@@ -104,6 +111,12 @@ extern "C" {
     pub fn gix_history_open(
         bytes: *const u8,
         bytes_len: usize,
+        seed: u64,
+        out: *mut *mut gix_history,
+    ) -> i32;
+    pub fn gix_history_open_chain(
+        files: *const gix_bytes,
+        files_len: usize,
         seed: u64,
         out: *mut *mut gix_history,
     ) -> i32;

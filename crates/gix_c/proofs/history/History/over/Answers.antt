@@ -12,9 +12,9 @@ returns c =
     let made = c.with.ensures in
     let levelled = c.premises.ensures.levelled in
     record {
-      commits = made.commits;
+      commits = made.commits ∙ c.with_seed-commits.ensures.commits;
       held = made.held;
-      noted = subst (λ (h : History). Remembers h c.with.result.named.items) (sym made.commits)
+      noted = subst (λ (h : History). Remembers h c.with.result.named.items) (sym (made.commits ∙ c.with_seed-commits.ensures.commits))
           (noted-closed (history_in c.args.file) c.with.result.named.items levelled.closed made.named);
       ids = λ id. ap (λ (s : BTreeSet ObjectId). is_one_of s.keys id) made.ids ∙ c.in_ok-ids.ensures id;
       levelled = levelled;
