@@ -500,12 +500,15 @@ static void names(gix_history *history) {
 static void empty(void) {
     gix_history *history = NULL;
     gix_id one = id_of(0x11), out;
+    gix_bytes nothing = {NULL, 0};
     gix_how how = GIX_HOW_INIT;
     gix_span span = {GIX_INCLUDE, one, one};
     gix_fault fault;
     size_t count = 99;
     uint32_t depth = 99;
     EXPECT(gix_history_open(NULL, 0, 0, &history) == GIX_NO_GRAPH);
+    EXPECT(gix_history_open_chain(NULL, 0, 0, &history) == GIX_NO_GRAPH);
+    EXPECT(gix_history_open_chain(&nothing, 1, 0, &history) == GIX_NO_GRAPH && history == NULL);
     EXPECT(gix_graph_fault(NULL, 0) == GIX_GRAPH_TOO_SHORT);
     EXPECT(gix_history_new(0, &history) == GIX_OK);
     EXPECT(gix_history_insert(history, &one, NULL, 0, 1, false, 0) == GIX_OK);
@@ -525,30 +528,11 @@ static void empty(void) {
     gix_history_free(history);
 }
 
-/* A history over a file and newer commits, and bytes that are none. */
-static void opened(void) {
-    uint8_t file[FILE_OF_FIVE];
-    gix_history *history = NULL;
+/* An opened history of the criss-cross, to which newer commits are added. It is freed. */
+static void over_files(gix_history *history) {
     gix_id four = id_of(0x44), newer = id_of(0x79), out[3];
     size_t count = 99;
-    write_file(file);
-    for (size_t len = 0; len < sizeof file; len++)
-        EXPECT(gix_history_open(file, len, 0, &history) == GIX_NO_GRAPH);
-    file[ROWS_OF_FIVE + 36 * 3 + 23] = 5;
-    EXPECT(gix_history_open(file, sizeof file, 0, &history) == GIX_NO_GRAPH);
-    EXPECT(gix_graph_fault(file, sizeof file) == GIX_GRAPH_PARENT);
-    file[7] = 1;
-    EXPECT(gix_graph_fault(file, sizeof file) == GIX_GRAPH_BASE_GRAPHS);
-    file[0] = 'c';
-    EXPECT(gix_graph_fault(file, sizeof file) == GIX_GRAPH_SIGNATURE);
-    write_file(file);
-    EXPECT(gix_graph_fault(file, sizeof file) == 0);
-    write_number(file + ROWS_OF_FIVE + 36 * 3 + 28, 2 << 2);
-    EXPECT(gix_history_open(file, sizeof file, 0, &history) == GIX_NO_LEVELS && history == NULL);
-
-    write_file(file);
-    EXPECT(gix_history_open(file, sizeof file, 0, &history) == GIX_OK);
-    memset(file, 0xEE, sizeof file);
+    EXPECT(gix_history_len(history) == 5);
     EXPECT(gix_history_missing(history, &four, 0, out, 3, &count) == GIX_OK && count == 0);
     EXPECT(put(history, 0x55, 0x11, 0, 5) == GIX_ALREADY_THERE);
     EXPECT(put(history, 0x66, 0, 0, 6) == GIX_OK);
@@ -568,6 +552,83 @@ static void opened(void) {
     EXPECT(count == 2 && is_id(&out[0], 0x22) && is_id(&out[1], 0x33));
     EXPECT(gix_history_missing(history, &four, 0, out, 3, &count) == GIX_OK && count == 1 && is_id(out, 0x99));
     gix_history_free(history);
+}
+
+/* A history over a file and newer commits, and bytes that are none. */
+static void opened(void) {
+    uint8_t file[FILE_OF_FIVE];
+    gix_history *history = NULL;
+    write_file(file);
+    for (size_t len = 0; len < sizeof file; len++)
+        EXPECT(gix_history_open(file, len, 0, &history) == GIX_NO_GRAPH);
+    file[ROWS_OF_FIVE + 36 * 3 + 23] = 5;
+    EXPECT(gix_history_open(file, sizeof file, 0, &history) == GIX_NO_GRAPH);
+    EXPECT(gix_graph_fault(file, sizeof file) == GIX_GRAPH_PARENT);
+    file[7] = 1;
+    EXPECT(gix_graph_fault(file, sizeof file) == GIX_GRAPH_BASE_GRAPHS);
+    file[0] = 'c';
+    EXPECT(gix_graph_fault(file, sizeof file) == GIX_GRAPH_SIGNATURE);
+    write_file(file);
+    EXPECT(gix_graph_fault(file, sizeof file) == 0);
+    write_number(file + ROWS_OF_FIVE + 36 * 3 + 28, 2 << 2);
+    EXPECT(gix_history_open(file, sizeof file, 0, &history) == GIX_NO_LEVELS && history == NULL);
+
+    write_file(file);
+    EXPECT(gix_history_open(file, sizeof file, 0, &history) == GIX_OK);
+    memset(file, 0xEE, sizeof file);
+    over_files(history);
+}
+
+/* How files of the chain are opened: their places in it. What is opened has `commits` commits. */
+static int32_t open_places(const chain_of_three *chain, const int *places, size_t count, size_t commits) {
+    gix_bytes files[4];
+    gix_history *history = NULL;
+    for (size_t i = 0; i < count; i++)
+        files[i] = chain->files[places[i]];
+    int32_t code = gix_history_open_chain(files, count, 0, &history);
+    EXPECT(code == GIX_OK ? gix_history_len(history) == commits : history == NULL);
+    gix_history_free(history);
+    return code;
+}
+
+/* A history over a chain of files and newer commits, and files that are none. */
+static void opened_chain(void) {
+    static chain_of_three chain;
+    static const int all[3] = {0, 1, 2}, swapped[3] = {0, 2, 1}, skipped[2] = {0, 2}, upper[2] = {1, 2}, twice[3] = {0, 1, 1}, twice_low[2] = {0, 0};
+    gix_history *history = NULL;
+    write_chain(&chain);
+    for (size_t count = 1; count <= 3; count++)
+        EXPECT(open_places(&chain, all, count, 2 * count - 1) == GIX_OK);
+    EXPECT(open_places(&chain, swapped, 3, 0) == GIX_NO_GRAPH);
+    EXPECT(open_places(&chain, skipped, 2, 0) == GIX_NO_GRAPH);
+    EXPECT(open_places(&chain, upper, 1, 0) == GIX_NO_GRAPH && open_places(&chain, upper, 2, 0) == GIX_NO_GRAPH);
+    EXPECT(gix_graph_fault(chain.files[1].bytes, chain.files[1].bytes_len) == GIX_GRAPH_BASE_GRAPHS);
+    EXPECT(open_places(&chain, twice, 3, 0) == GIX_NO_GRAPH && open_places(&chain, twice_low, 2, 0) == GIX_NO_GRAPH);
+    /* Each file is looked at to its end. The hash of the lowest one is only compared with what the others say. */
+    for (int place = 1; place < 3; place++)
+        for (size_t at = 0; at < chain.files[place].bytes_len; at++) {
+            chain.bytes[place][at] ^= 1;
+            EXPECT(open_places(&chain, all, 3, 0) == GIX_NO_GRAPH);
+            chain.bytes[place][at] ^= 1;
+        }
+    chain.bytes[0][chain.files[0].bytes_len - 1] ^= 1;
+    EXPECT(open_places(&chain, all, 1, 1) == GIX_OK && open_places(&chain, all, 2, 0) == GIX_NO_GRAPH);
+    for (size_t len = 0; len < chain.files[2].bytes_len; len++) {
+        write_chain(&chain);
+        chain.files[2].bytes_len = len;
+        EXPECT(open_places(&chain, all, 3, 0) == GIX_NO_GRAPH);
+    }
+    /* A level in the lowest file that is right there, and not less than those of the files above; and one that is missing. */
+    write_chain(&chain);
+    write_number(chain.bytes[0] + LEVEL_OF_LOWEST, 2 << 2);
+    EXPECT(open_places(&chain, all, 1, 1) == GIX_OK && open_places(&chain, all, 3, 0) == GIX_NO_LEVELS);
+    write_number(chain.bytes[0] + LEVEL_OF_LOWEST, 0);
+    EXPECT(open_places(&chain, all, 1, 0) == GIX_NO_LEVELS && open_places(&chain, all, 3, 0) == GIX_NO_LEVELS);
+
+    write_chain(&chain);
+    EXPECT(gix_history_open_chain(chain.files, 3, 0, &history) == GIX_OK);
+    memset(&chain, 0xEE, sizeof chain);
+    over_files(history);
 }
 
 int main(void) {
@@ -590,6 +651,7 @@ int main(void) {
     tables(history);
     texts(history);
     opened();
+    opened_chain();
     objects();
     digits();
     abbreviations();

@@ -120,18 +120,27 @@ static void calls(gix_history *history, long turn) {
     EXPECT(count == 2);
 }
 
-/* A file, and a commit that it lacks. */
-static void opened(long turn) {
-    gix_history *history = NULL;
+/* A commit above those of the opened files. */
+static void newer(gix_history *history, long turn) {
     gix_id four = id_of(0x44), six = id_of(0x66), out[4];
-    uint8_t file[FILE_OF_FIVE];
     size_t count = 0;
-    write_file(file);
-    UNTIL(GIX_OK, gix_history_open(file, sizeof file, 0, &history));
     UNTIL(GIX_OK, put(history, 0x66, 0x55, 0, 6));
     UNTIL(GIX_OK, gix_history_merge_bases(history, &four, &six, 1, out, 4, &count));
     EXPECT(count == 2 && is_id(&out[0], 0x22) && is_id(&out[1], 0x33));
     gix_history_free(history);
+}
+
+/* A file, and a chain of files. */
+static void opened(long turn) {
+    gix_history *history = NULL;
+    uint8_t file[FILE_OF_FIVE];
+    chain_of_three chain;
+    write_file(file);
+    write_chain(&chain);
+    UNTIL(GIX_OK, gix_history_open(file, sizeof file, 0, &history));
+    newer(history, turn);
+    UNTIL(GIX_OK, gix_history_open_chain(chain.files, 3, 0, &history));
+    newer(history, turn);
 }
 
 /* A partial history, which wants two commits. */

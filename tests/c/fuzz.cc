@@ -455,10 +455,11 @@ struct Run {
     void describe();
     void object();
     void file();
+    void chain();
 
     void call() {
-        static void (Run::*const calls[])() = {&Run::commit, &Run::abbreviate, &Run::bases, &Run::octopus, &Run::ancestor, &Run::independent, &Run::newest_first, &Run::counts, &Run::missing, &Run::span, &Run::revision, &Run::revision, &Run::name, &Run::describe, &Run::object, &Run::file};
-        size_t kind = input.byte() % 20;
+        static void (Run::*const calls[])() = {&Run::commit, &Run::abbreviate, &Run::bases, &Run::octopus, &Run::ancestor, &Run::independent, &Run::newest_first, &Run::counts, &Run::missing, &Run::span, &Run::revision, &Run::revision, &Run::name, &Run::describe, &Run::object, &Run::file, &Run::chain};
+        size_t kind = input.byte() % 21;
         (this->*(kind < sizeof calls / sizeof *calls ? calls[kind] : &Run::insert))();
     }
 };
@@ -602,6 +603,32 @@ void Run::object() {
     gix_history_free(alone);
 }
 
+/* What is known of a history of these ids that was opened. It is freed. */
+void levelled(gix_history *opened, const Ids &ids) {
+    WANT(gix_history_len(opened) == ids.size());
+    for (size_t k = 0; k < ids.size(); k++) {
+        gix_id bases[5];
+        gix_commit found;
+        size_t count = 99;
+        WANT(gix_history_commit(opened, &ids[k], &found, NULL, 0) == GIX_OK && found.has_generation && found.parents_len <= 5);
+        int32_t answer = gix_history_merge_bases(opened, &ids.back(), &ids[k], 1, bases, 5, &count);
+        WANT(answer == (count ? GIX_OK : GIX_NONE) && count <= 5);
+        gix_span span = {GIX_INCLUDE, ids[k], ids[k]};
+        WANT(gix_history_count(opened, &span, &count) == GIX_OK && count >= 1 && count <= ids.size());
+        WANT(gix_history_missing(opened, NULL, 0, bases, 5, &count) == GIX_OK && count == 0);
+    }
+    gix_history_free(opened);
+}
+
+/* Appends the ids in the table of a commit-graph file. */
+void add_ids(const uint8_t *table, size_t count, Ids *ids) {
+    for (size_t k = 0; k < count; k++) {
+        gix_id id;
+        memcpy(id.bytes, table + 20 * k, sizeof id.bytes);
+        ids->push_back(id);
+    }
+}
+
 /* The commit-graph file of the criss-cross with other bytes in some places, or cut off. */
 void Run::file() {
     uint8_t bytes[FILE_OF_FIVE];
@@ -620,22 +647,40 @@ void Run::file() {
         WANT(opened == NULL);
         return;
     }
-    WANT(gix_history_len(opened) == 5);
-    for (size_t k = 0; k < 5; k++) {
-        gix_id id, bases[5];
-        gix_commit found;
-        size_t count = 99;
-        memcpy(id.bytes, bytes + 1080 + 20 * k, sizeof id.bytes);
-        WANT(gix_history_commit(opened, &id, &found, NULL, 0) == GIX_OK && found.has_generation && found.parents_len <= 5);
-        gix_id last;
-        memcpy(last.bytes, bytes + 1080 + 80, sizeof last.bytes);
-        int32_t answer = gix_history_merge_bases(opened, &last, &id, 1, bases, 5, &count);
-        WANT(answer == (count ? GIX_OK : GIX_NONE) && count <= 5);
-        gix_span span = {GIX_INCLUDE, id, id};
-        WANT(gix_history_count(opened, &span, &count) == GIX_OK && count >= 1 && count <= 5);
-        WANT(gix_history_missing(opened, NULL, 0, bases, 5, &count) == GIX_OK && count == 0);
+    Ids ids;
+    add_ids(bytes + 1080, 5, &ids);
+    levelled(opened, ids);
+}
+
+/* The first files of the chain of the criss-cross, with other bytes in some places. The files may then name each other again, with the
+ * right hashes. */
+void Run::chain() {
+    chain_of_three chain;
+    write_chain(&chain);
+    size_t count = input.byte() % 4;
+    for (size_t changes = input.byte() % 4; changes > 0; changes--) {
+        size_t place = input.byte() % 3, at = (size_t)input.byte() << 8;
+        at |= input.byte();
+        chain.bytes[place][at % chain.files[place].bytes_len] = input.byte();
     }
-    gix_history_free(opened);
+    if (input.flag())
+        for (size_t i = 1; i < 3; i++) {
+            uint8_t *end = chain.bytes[i] + chain.files[i].bytes_len - 20;
+            for (size_t k = 0; k < i; k++) memcpy(end - 20 * (i - k), chain.bytes[k] + chain.files[k].bytes_len - 20, 20);
+            gix_id hash = sha1(std::string((const char *)chain.bytes[i], (size_t)(end - chain.bytes[i])));
+            memcpy(end, hash.bytes, sizeof hash.bytes);
+        }
+    gix_history *opened = NULL;
+    int32_t code = gix_history_open_chain(chain.files, count, input.byte(), &opened);
+    WANT(code == GIX_OK || code == GIX_NO_GRAPH || code == GIX_NO_LEVELS);
+    if (code != GIX_OK) {
+        WANT(opened == NULL);
+        return;
+    }
+    WANT(count > 0);
+    Ids ids;
+    for (size_t i = 0; i < count; i++) add_ids(chain.bytes[i] + (i ? 68 : 56) + 1024, i ? 2 : 1, &ids);
+    levelled(opened, ids);
 }
 
 } // namespace

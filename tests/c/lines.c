@@ -1,5 +1,5 @@
 /* Answers the lines `commit`, `base`, `octopus` and `ahead-behind` of revtool through the library, as revtool does; with the path of a
- * commit-graph file over that. */
+ * commit-graph file over that, and with the paths of several over a chain of them. */
 #include "case.h"
 
 #include <stdlib.h>
@@ -43,16 +43,22 @@ static void put_commit(gix_history *history) {
     EXPECT(gix_history_insert(history, &id, parents, count, time, *generation != '-', (uint32_t)strtoul(generation, NULL, 10)) == GIX_OK);
 }
 
-/* A history over the file at a path. */
-static gix_history *open_file(const char *path) {
-    static uint8_t bytes[1 << 20];
+/* A history over the file at a path, or over a chain of files, the lowest first. */
+static gix_history *open_files(char **paths, size_t count) {
+    static uint8_t bytes[4][1 << 20];
+    gix_bytes files[4];
     gix_history *history = NULL;
-    FILE *file = fopen(path, "rb");
-    if (!file)
+    if (count > 4)
         exit(2);
-    size_t len = fread(bytes, 1, sizeof bytes, file);
-    fclose(file);
-    if (gix_history_open(bytes, len, 0, &history) != GIX_OK)
+    for (size_t i = 0; i < count; i++) {
+        FILE *file = fopen(paths[i], "rb");
+        if (!file)
+            exit(2);
+        files[i].bytes = bytes[i];
+        files[i].bytes_len = fread(bytes[i], 1, sizeof bytes[i], file);
+        fclose(file);
+    }
+    if ((count == 1 ? gix_history_open(files[0].bytes, files[0].bytes_len, 0, &history) : gix_history_open_chain(files, count, 0, &history)) != GIX_OK)
         exit(3);
     return history;
 }
@@ -61,7 +67,7 @@ int main(int argc, char **argv) {
     gix_history *history = NULL;
     char line[1024];
     if (argc > 1)
-        history = open_file(argv[1]);
+        history = open_files(argv + 1, (size_t)argc - 1);
     else
         EXPECT(gix_history_new(0, &history) == GIX_OK);
     while (fgets(line, sizeof line, stdin)) {
