@@ -49,9 +49,9 @@ names no premise has none.
                          counts as infinity.
     older parents        Each parent is strictly older than its child.
 
-The commits of an opened commit-graph file are acyclic and have ordered generations. The history
-stays acyclic if the commits that are added later form no cycle. Its generations stay ordered if
-these commits have no generation number.
+The commits of an opened commit-graph file, or of an opened chain of such files, are acyclic and
+have ordered generations. The history stays acyclic if the commits that are added later form no
+cycle. Its generations stay ordered if these commits have no generation number.
 """
 
 from ._errors import AlreadyThere, Altered, Fault, Misshapen, NoCommit, NoGraph, NoKind, NoLevels, NotRead, NotThere

@@ -24,11 +24,11 @@ class NoKind(Refused):
 
 
 class NoGraph(Refused):
-    """The bytes are not a commit-graph file that can be opened."""
+    """The bytes are not a commit-graph file that can be opened, or the files are not a chain."""
 
 
 class NoLevels(Refused):
-    """A commit of the file has no level, or a level that is not greater than its parents'."""
+    """A commit of the files has no level, or a level that is not greater than its parents'."""
 
 
 class Altered(Refused):

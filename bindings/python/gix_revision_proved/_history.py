@@ -3,15 +3,14 @@
 from __future__ import annotations
 
 import ctypes
-import mmap
 from collections.abc import Iterable, Iterator, Sequence
 from enum import IntEnum
 from types import TracebackType
 from typing import NamedTuple, NoReturn
 
 from ._errors import Fault, answered
-from ._library import Id, Ids, Owner, RawCommit, RawFault, RawHow, RawId, RawSpan, Size, Table, Text
-from ._library import bytes_of, hex_of, hexes_of, many, names_of, number, one, size, text_of
+from ._library import File, Id, Ids, Owner, RawCommit, RawFault, RawHow, RawId, RawSpan, Size, Table, Text
+from ._library import bytes_of, files_of, hex_of, hexes_of, many, names_of, number, one, size, text_of
 
 # In the class History, `list` is a method.
 IdList = list[str]
@@ -93,7 +92,7 @@ class History:
         self._owner = Owner("new")
 
     @classmethod
-    def open(cls, file: bytes | bytearray | memoryview | mmap.mmap) -> History:
+    def open(cls, file: File) -> History:
         """Makes a history of the commits in git's commit-graph file.
 
         The bytes are copied. `insert` adds newer commits. Raises NoGraph, of which `graph_fault`
@@ -102,6 +101,18 @@ class History:
         data = bytes_of(file)
         history = cls.__new__(cls)
         history._owner = Owner("open", data, len(data))
+        return history
+
+    @classmethod
+    def open_chain(cls, files: Iterable[File]) -> History:
+        """Makes a history of the commits in a split commit-graph: a chain of files.
+
+        The lowest file is the first, as in git's file commit-graph-chain. The bytes are copied.
+        `insert` adds newer commits. Raises NoGraph, also if there is no file, or NoLevels.
+        """
+        raw, count = files_of(files)
+        history = cls.__new__(cls)
+        history._owner = Owner("open_chain", raw, count)
         return history
 
     def close(self) -> None:

@@ -13,6 +13,7 @@ from ._errors import answered
 
 Id = bytes | bytearray | memoryview | str
 Text = bytes | bytearray | memoryview | str
+File = bytes | bytearray | memoryview | mmap.mmap
 
 
 class RawId(ctypes.Structure):
@@ -21,6 +22,10 @@ class RawId(ctypes.Structure):
 
 class RawName(ctypes.Structure):
     _fields_ = [("id", RawId), ("text", ctypes.c_char_p), ("text_len", ctypes.c_size_t)]
+
+
+class RawBytes(ctypes.Structure):
+    _fields_ = [("bytes", ctypes.c_char_p), ("bytes_len", ctypes.c_size_t)]
 
 
 class RawHow(ctypes.Structure):
@@ -60,6 +65,7 @@ _Moment = (ctypes.c_int64, ctypes.c_int32)
 _PARAMETERS: dict[str, tuple[object, ...]] = {
     "new": (ctypes.c_uint64, ctypes.POINTER(Handle)),
     "open": (_Bytes, Size, ctypes.c_uint64, ctypes.POINTER(Handle)),
+    "open_chain": (ctypes.POINTER(RawBytes), Size, ctypes.c_uint64, ctypes.POINTER(Handle)),
     "insert": (Handle, _Ids, _Ids, Size, ctypes.c_int64, ctypes.c_bool, ctypes.c_uint32),
     "insert_object": (Handle, _Ids, _Bytes, Size),
     "commit": (Handle, _Ids, ctypes.POINTER(RawCommit), _Ids, Size),
@@ -215,12 +221,20 @@ class Ids:
             self._free(self._at)
 
 
-def bytes_of(file: bytes | bytearray | memoryview | mmap.mmap) -> bytes:
+def bytes_of(file: File) -> bytes:
     """Returns the bytes of a file, a copy unless they are `bytes` already."""
     return file if isinstance(file, bytes) else bytes(memoryview(file))
 
 
-def graph_fault(file: bytes | bytearray | memoryview | mmap.mmap) -> int:
+def files_of(files: Iterable[File]) -> tuple[ctypes.Array[RawBytes], int]:
+    """Returns files as a C array, which keeps their bytes, and their number."""
+    if isinstance(files, (str, bytes, bytearray, memoryview, mmap.mmap)):
+        raise TypeError("a list of files, not one file")
+    given = [RawBytes(data, len(data)) for data in map(bytes_of, files)]
+    return (RawBytes * max(1, len(given)))(*given), len(given)
+
+
+def graph_fault(file: File) -> int:
     """Returns the number of one thing that is wrong with a commit-graph file, from 1 to 20.
 
     The names GIX_GRAPH_.. in gix_revision.h say what it is. It is 0 if the file is well-formed, so

@@ -2,6 +2,7 @@
 
 from __future__ import annotations
 
+import hashlib
 import mmap
 import os
 import struct
@@ -28,18 +29,40 @@ def id_of(byte: int) -> str:
     return f"{byte:02x}" * 20
 
 
-def file_of(levels: list[int]) -> bytes:
-    """Returns the commit-graph file of the criss-cross with these levels. The hash at its end is not right."""
+def part_of(levels: list[int], first: int, count: int, hashes: list[bytes]) -> bytes:
+    """Returns the commit-graph file of some commits of the criss-cross, without the hash at its end.
+
+    It is above files with these hashes.
+    """
     none = 0x70000000
     parents = [(none, none), (0, none), (0, none), (1, 2), (1, 2)]
-    file = b"CGPH\1\1\3\0"
-    for name, place in ((b"OIDF", 56), (b"OIDL", 1080), (b"CDAT", 1180), (bytes(4), 1360)):
+    chunks = [(b"OIDF", 1024), (b"OIDL", 20 * count), (b"CDAT", 36 * count), (b"BASE", 20 * len(hashes))]
+    if not hashes:
+        chunks.pop()
+    file, place = b"CGPH\1\1" + bytes([len(chunks), len(hashes)]), 20 + 12 * len(chunks)
+    for name, length in chunks:
         file += struct.pack(">4sQ", name, place)
-    file += b"".join(struct.pack(">I", min(byte // 0x11, 5)) for byte in range(256))
-    file += b"".join(bytes([0x11 * n] * 20) for n in range(1, 6))
-    for both, level, time in zip(parents, levels, (1, 2, 2, 4, 5)):
+        place += length
+    file += struct.pack(">4sQ", bytes(4), place)
+    file += b"".join(struct.pack(">I", min(max(byte // 0x11 - first, 0), count)) for byte in range(256))
+    file += b"".join(bytes([0x11 * (k + 1)] * 20) for k in range(first, first + count))
+    for both, level, time in list(zip(parents, levels, (1, 2, 2, 4, 5)))[first : first + count]:
         file += bytes(20) + struct.pack(">IIII", *both, level << 2, time)
-    return file + bytes(20)
+    return file + b"".join(hashes)
+
+
+def file_of(levels: list[int]) -> bytes:
+    """Returns the commit-graph file of the criss-cross with these levels. The hash at its end is not right."""
+    return part_of(levels, 0, 5, []) + bytes(20)
+
+
+def chain_of(levels: list[int]) -> list[bytes]:
+    """Returns the criss-cross with these levels as a chain of three commit-graph files, the lowest first."""
+    files: list[bytes] = []
+    for first, count in ((0, 1), (1, 2), (3, 2)):
+        file = part_of(levels, first, count, [it[-20:] for it in files])
+        files.append(file + hashlib.sha1(file).digest())
+    return files
 
 
 def criss_cross() -> History:
@@ -204,6 +227,25 @@ class Calls(unittest.TestCase):
             History.open(b"")
         with self.assertRaises(NoLevels):
             History.open(file_of([1, 2, 2, 0, 3]))
+
+    def test_chain(self) -> None:
+        files = chain_of([1, 2, 2, 3, 3])
+        with History.open_chain(files) as history:
+            history.insert(id_of(0x66), [id_of(0x55)], 6)
+            self.assertEqual(history.merge_bases(id_of(0x44), [id_of(0x66)]), [id_of(0x22), id_of(0x33)])
+            self.assertEqual(history.commit(id_of(0x55)), Commit((id_of(0x22), id_of(0x33)), 5, 3))
+            self.assertEqual((len(history), list(history.missing())), (6, []))
+            with self.assertRaises(AlreadyThere):
+                history.insert(id_of(0x11), [], 5)
+        with History.open_chain(bytearray(it) for it in files[:2]) as history:
+            self.assertEqual(len(history), 3)
+        with self.assertRaises(TypeError):
+            History.open_chain(files[0])  # type: ignore[arg-type]
+        for wrong in ([], [b""], files[1:], files[::2], [files[0], files[1] + b"!"], [files[0], files[0]]):
+            with self.assertRaises(NoGraph):
+                History.open_chain(wrong)
+        with self.assertRaises(NoLevels):
+            History.open_chain(chain_of([1, 2, 2, 3, 2]))
 
     def test_refusals(self) -> None:
         with self.assertRaises(AlreadyThere):

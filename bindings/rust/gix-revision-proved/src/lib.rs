@@ -19,9 +19,9 @@
 //!   number counts as infinity.
 //! - *Older parents*: each parent is strictly older than its child.
 //!
-//! The commits of an opened commit-graph file are acyclic and have ordered generations. The history
-//! stays acyclic if the commits that are added later form no cycle. Its generations stay ordered if
-//! these commits have no generation number.
+//! The commits of an opened commit-graph file, or of an opened chain of such files, are acyclic and
+//! have ordered generations. The history stays acyclic if the commits that are added later form no
+//! cycle. Its generations stay ordered if these commits have no generation number.
 //!
 //! # Example
 //!
@@ -141,9 +141,9 @@ pub enum Error {
     NoCommit,
     /// 2^32 commits or more are reachable.
     TooMany,
-    /// The bytes are not a commit-graph file that can be opened.
+    /// The bytes are not a commit-graph file that can be opened, or the files are not a chain.
     NoGraph,
-    /// A commit of the file has no level, or a level that is not greater than its parents'.
+    /// A commit of the files has no level, or a level that is not greater than its parents'.
     NoLevels,
     /// The id of a commit is not the hash of its content.
     Altered,
@@ -456,6 +456,27 @@ impl History {
         let mut at = ptr::null_mut();
         answered(unsafe {
             sys::gix_history_open(bytes.as_ptr(), bytes.len(), random_seed(), &mut at)
+        })?;
+        NonNull::new(at).map(History).ok_or(Error::OutOfMemory)
+    }
+
+    /// Makes a history of the commits in a split commit-graph: a chain of files.
+    ///
+    /// The lowest file is the first, as in git's file `commit-graph-chain`. The bytes are copied.
+    /// [`History::insert`] adds newer commits.
+    ///
+    /// # Errors
+    ///
+    /// [`Error::NoGraph`], also if there is no file, and [`Error::NoLevels`].
+    pub fn open_chain(files: &[&[u8]]) -> Result<History, Error> {
+        let raw = |file: &&[u8]| sys::gix_bytes {
+            bytes: file.as_ptr(),
+            bytes_len: file.len(),
+        };
+        let files: Vec<_> = files.iter().map(raw).collect();
+        let mut at = ptr::null_mut();
+        answered(unsafe {
+            sys::gix_history_open_chain(files.as_ptr(), files.len(), random_seed(), &mut at)
         })?;
         NonNull::new(at).map(History).ok_or(Error::OutOfMemory)
     }

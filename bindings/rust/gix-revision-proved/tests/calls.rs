@@ -16,38 +16,72 @@ fn criss_cross() -> Result<History, Error> {
     Ok(history)
 }
 
-/// The commit-graph file of the criss-cross. The hash at its end is not right.
-fn file() -> Vec<u8> {
+/// The commit-graph file of some commits of the criss-cross, without the hash at its end. It is above
+/// files with these hashes.
+fn part(first: u8, count: u8, hashes: &[[u8; 20]]) -> Vec<u8> {
     const NONE: u32 = 0x7000_0000;
-    let mut file = b"CGPH\x01\x01\x03\x00".to_vec();
-    for (name, place) in [
-        (b"OIDF", 56_u64),
-        (b"OIDL", 1080),
-        (b"CDAT", 1180),
-        (&[0; 4], 1360),
-    ] {
-        file.extend(name);
-        file.extend(place.to_be_bytes());
-    }
-    file.extend((0..256_u32).flat_map(|byte| (byte / 0x11).min(5).to_be_bytes()));
-    file.extend((1..=5).flat_map(|n| id(0x11 * n).0));
-    for row in [
+    const ROWS: [[u32; 4]; 5] = [
         [NONE, NONE, 1, 1],
         [0, NONE, 2, 2],
         [0, NONE, 2, 2],
         [1, 2, 3, 4],
         [1, 2, 3, 5],
-    ] {
-        let [first, second, level, time] = row;
+    ];
+    let of_each = u64::from(count);
+    let mut chunks = vec![(b"OIDF", 1024), (b"OIDL", 20 * of_each), (b"CDAT", 36 * of_each)];
+    if !hashes.is_empty() {
+        chunks.push((b"BASE", 20 * hashes.len() as u64));
+    }
+    chunks.push((&[0; 4], 0));
+    let mut file = b"CGPH\x01\x01".to_vec();
+    file.extend([chunks.len() as u8 - 1, hashes.len() as u8]);
+    let mut place = 8 + 12 * chunks.len() as u64;
+    for (name, length) in chunks {
+        file.extend(name);
+        file.extend(place.to_be_bytes());
+        place += length;
+    }
+    let below = |byte: u8| u32::from((byte / 0x11).saturating_sub(first).min(count));
+    file.extend((0..=255).flat_map(|byte| below(byte).to_be_bytes()));
+    file.extend((first..first + count).flat_map(|n| id(0x11 * (n + 1)).0));
+    for [first, second, level, time] in &ROWS[first.into()..(first + count).into()] {
         file.extend([0; 20]);
         file.extend(
-            [first, second, level << 2, time]
+            [*first, *second, level << 2, *time]
                 .map(u32::to_be_bytes)
                 .concat(),
         );
     }
+    file.extend(hashes.concat());
+    file
+}
+
+/// The commit-graph file of the criss-cross. The hash at its end is not right.
+fn file() -> Vec<u8> {
+    let mut file = part(0, 5, &[]);
     file.extend([0; 20]);
     file
+}
+
+/// The criss-cross as a chain of three commit-graph files. The hash at the end of the lowest one is
+/// not right.
+fn chain() -> [Vec<u8>; 3] {
+    const HASHES: [[u8; 20]; 3] = [
+        [0; 20],
+        [
+            0xF4, 0xFB, 0xE8, 0xB4, 0x4C, 0xAC, 0x78, 0x5A, 0x19, 0x4A, 0x62, 0x0F, 0xE8, 0x52, 0x44,
+            0x35, 0x28, 0xDE, 0x19, 0xFB,
+        ],
+        [
+            0x5D, 0x38, 0x07, 0xA9, 0x84, 0x4C, 0x5C, 0xA2, 0x7A, 0x38, 0xE5, 0x83, 0x0F, 0x02, 0x83,
+            0x41, 0xDF, 0xF2, 0xC8, 0xCD,
+        ],
+    ];
+    let mut files = [part(0, 1, &[]), part(1, 2, &HASHES[..1]), part(3, 2, &HASHES[..2])];
+    for (file, hash) in files.iter_mut().zip(HASHES) {
+        file.extend(hash);
+    }
+    files
 }
 
 #[test]
@@ -75,6 +109,30 @@ fn bytes_that_are_no_file_are_refused() {
     assert_eq!([graph_fault(&file), graph_fault(&file[1..]), graph_fault(&[])], [0, 2, 1]);
     file[1180 + 31] = 0;
     assert_eq!(History::open(&file).err(), Some(Error::NoLevels));
+}
+
+#[test]
+fn a_chain_is_opened() -> Result<(), Error> {
+    let [low, middle, top] = chain();
+    let mut history = History::open_chain(&[&low, &middle, &top])?;
+    history.insert(id(0x66), &[id(0x55)], 6, None)?;
+    assert_eq!(
+        history.merge_bases(id(0x44), &[id(0x66)])?,
+        [id(0x22), id(0x33)]
+    );
+    assert_eq!(history.missing(None, 10)?, []);
+    assert_eq!(
+        history.insert(id(0x11), &[], 5, None),
+        Err(Error::AlreadyThere)
+    );
+    let wrong: [&[&[u8]]; 5] = [&[], &[&[]], &[&middle, &top], &[&low, &top], &[&low, &low]];
+    for files in wrong {
+        assert_eq!(History::open_chain(files).err(), Some(Error::NoGraph));
+    }
+    let mut low = low;
+    low[56 + 1024 + 20 + 31] = 2 << 2;
+    assert_eq!(History::open_chain(&[&low, &middle]).err(), Some(Error::NoLevels));
+    Ok(())
 }
 
 #[test]
