@@ -57,7 +57,7 @@ cycle. Its generations stay ordered if these commits have no generation number.
 from ._errors import AlreadyThere, Altered, Fault, Misshapen, NoCommit, NoGraph, NoKind, NoLevels, NotRead, NotThere
 from ._errors import Refused, TooMany, UnknownCode, Wants
 from ._history import Commit, Description, History, Kind, Names, Span
-from ._library import Id, Text, graph_fault, library_version
+from ._library import File, Id, Text, graph_fault, library_version
 from ._repository import Reference, Repository
 
 __version__ = "1.0.0"
@@ -68,6 +68,7 @@ __all__ = [
     "Commit",
     "Description",
     "Fault",
+    "File",
     "History",
     "Id",
     "Kind",
