@@ -12,6 +12,17 @@ use std::alloc::{AllocError, Allocator};
 /// The name of an index of several packs (gitformat-pack, "multi-pack-index").
 const MULTI_PACK_INDEX: &[u8] = b"multi-pack-index";
 
+/// The packs of all folders, and what else was seen when they were listed.
+#[derive(Drop)]
+pub(crate) struct Listing<F: Folders, A: Allocator + Copy> {
+    /// The packs, folder by folder.
+    pub(crate) packs: Vec<Pack<F, A>, A>,
+    /// The first fault of a folder whose packs were not listed.
+    pub(crate) fault: Option<Fault>,
+    /// Whether a folder has a multi-pack-index.
+    pub(crate) has_multi_pack_index: bool,
+}
+
 /// Moves a pack from the old packs to the new ones, or adds it to these if it is new.
 fn keep<F: Folders, A: Allocator + Copy>(
     alloc: A,
@@ -74,15 +85,14 @@ fn keep_all<F: Folders, A: Allocator + Copy>(
     Ok(())
 }
 
-/// Adds the packs of a folder to the new ones.
+/// Adds the packs of a folder to the list.
 fn list<F: Folders, A: Allocator + Copy>(
     alloc: A,
     files: &F,
     old: &mut Vec<Pack<F, A>, A>,
-    new: &mut Vec<Pack<F, A>, A>,
+    listing: &mut Listing<F, A>,
     number: usize,
     folder: &[u8],
-    has_multi_pack_index: &mut bool,
 ) -> Result<(), Fault> {
     let path = joined(alloc, folder, b"/pack", b"", b"")?;
     let mut names = Vec::new(alloc);
@@ -92,49 +102,39 @@ fn list<F: Folders, A: Allocator + Copy>(
                 .split(|b| *b == 0)
                 .any(|name| name == MULTI_PACK_INDEX)
             {
-                *has_multi_pack_index = true;
+                listing.has_multi_pack_index = true;
             }
-            keep_named(alloc, old, new, number, &names)
+            keep_named(alloc, old, &mut listing.packs, number, &names)
         }
         Err(error) => {
             let name = FileName {
                 folder: number,
                 kind: FileKind::Packs,
             };
-            keep_all(old, new, number)?;
-            Err(fault_of(name, error))
+            keep_all(old, &mut listing.packs, number)?;
+            pass_over(&mut listing.fault, Err(fault_of(name, error)))
         }
     }
 }
 
 /// Returns the packs that are in the folders now. Those of the old ones that are there stay open.
 ///
-/// If a folder cannot be listed, its old packs stay, and `fault` has the first fault. If a folder has
-/// a multi-pack-index, `has_multi_pack_index` becomes true.
+/// If a folder cannot be listed, its old packs stay.
 pub(crate) fn listed<F: Folders, A: Allocator + Copy>(
     alloc: A,
     files: &F,
     folders: &[Folder<A>],
     old: &mut Vec<Pack<F, A>, A>,
-    fault: &mut Option<Fault>,
-    has_multi_pack_index: &mut bool,
-) -> Result<Vec<Pack<F, A>, A>, Fault> {
-    let mut new = Vec::new(alloc);
-    *fault = None;
+) -> Result<Listing<F, A>, Fault> {
+    let mut listing = Listing {
+        packs: Vec::new(alloc),
+        fault: None,
+        has_multi_pack_index: false,
+    };
     for (number, folder) in folders.iter().enumerate() {
         if folder.is_reached {
-            let path = folder.path.as_slice();
-            let listed = list(
-                alloc,
-                files,
-                old,
-                &mut new,
-                number,
-                path,
-                has_multi_pack_index,
-            );
-            pass_over(fault, listed)?;
+            list(alloc, files, old, &mut listing, number, &folder.path)?;
         }
     }
-    Ok(new)
+    Ok(listing)
 }

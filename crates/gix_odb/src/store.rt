@@ -278,7 +278,7 @@ impl<F: Folders + Drop, A: Allocator + Copy> Store<F, A> {
     /// An object of several packs counts for each. A pack whose index is not read counts for nothing,
     /// as in git. With a multi-pack-index git counts the objects in it once, and those of its packs
     /// again once it has opened them: no fewer than the largest pack has, and no more than twice as
-    /// many as all packs have.
+    /// many as all packs have. If packs of a multi-pack-index are gone, git may count more.
     ///
     /// # Errors
     ///

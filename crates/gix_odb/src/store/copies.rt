@@ -8,7 +8,7 @@ use crate::error::Error;
 use crate::failure::{Failure, Fault};
 use crate::loose;
 use crate::object::Object;
-use crate::packs::listed;
+use crate::packs::{Listing, listed};
 use crate::store::Store;
 use gix_base::hash::ObjectId;
 use gix_files::Folders;
@@ -17,14 +17,14 @@ use std::alloc::Allocator;
 impl<F: Folders + Drop, A: Allocator + Copy> Store<F, A> {
     /// Lists the packs once more.
     pub(super) fn list_packs(&mut self, alloc: A) -> Result<(), Fault> {
-        self.packs = listed(
-            alloc,
-            &self.files,
-            &self.folders,
-            &mut self.packs,
-            &mut self.packs_fault,
-            &mut self.has_multi_pack_index,
-        )?;
+        let Listing {
+            packs,
+            fault,
+            has_multi_pack_index,
+        } = listed(alloc, &self.files, &self.folders, &mut self.packs)?;
+        self.packs = packs;
+        self.packs_fault = fault;
+        self.has_multi_pack_index |= has_multi_pack_index;
         Ok(())
     }
 
