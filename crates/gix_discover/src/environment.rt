@@ -321,30 +321,30 @@ impl<A: Allocator + Copy> Environment<A> {
         }
     }
 
-    /// Tells whether a variable is set, has to be a boolean, and is none. `GIT_REF_PARANOIA` has to be
-    /// true: else git leaves broken references out.
-    fn is_bad_boolean(&self, variable: Variable) -> bool {
+    /// Returns why the value of a variable is refused; `None` if it is not. `GIT_REF_PARANOIA` has to be
+    /// true: else git leaves broken references out. `GIT_INTERNAL_SUPER_PREFIX`, with which git calls
+    /// itself, must not be set.
+    fn refused_for(&self, variable: Variable) -> Option<Reason> {
         match (variable, self.get(variable)) {
             (
                 Variable::ConfigNoSystem
                 | Variable::DiscoveryAcrossFilesystem
                 | Variable::ImplicitWorkTree,
                 Some(text),
-            ) => boolean(text).is_none(),
-            (Variable::RefParanoia, Some(text)) => boolean(text) != Some(true),
-            _ => false,
+            ) if boolean(text).is_none() => Some(Reason::BadBoolean),
+            (Variable::RefParanoia, Some(text)) if boolean(text) != Some(true) => {
+                Some(Reason::BadBoolean)
+            }
+            (Variable::SuperPrefix, Some(_)) => Some(Reason::BadValue),
+            _ => None,
         }
     }
 
-    /// Checks the variables that have to be booleans. `GIT_INTERNAL_SUPER_PREFIX`, with which git calls
-    /// itself, must not be set.
+    /// Checks the values of the variables.
     pub(crate) fn check_values(&self, alloc: A) -> Result<(), DiscoverError<A>> {
         for named in &NAMES {
-            if self.is_bad_boolean(named.variable) {
-                return Err(about(alloc, Reason::BadBoolean, named.name.as_bytes()));
-            }
-            if named.variable == Variable::SuperPrefix && self.get(named.variable).is_some() {
-                return Err(about(alloc, Reason::BadValue, named.name.as_bytes()));
+            if let Some(reason) = self.refused_for(named.variable) {
+                return Err(about(alloc, reason, named.name.as_bytes()));
             }
         }
         Ok(())
