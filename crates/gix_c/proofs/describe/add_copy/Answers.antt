@@ -1,5 +1,4 @@
 use Rattle.std.proofs.Common.{◌≡◌, ℕ, cond, List, Some, None, sym, subst, ◌∙◌}
-use Rattle.gix_base.specs.declared.hash.ObjectId.{ObjectId}
 use Rattle.gix_revwalk.specs.History.{same_id}
 use Rattle.gix_describe.specs.Described.{name_at}
 use Rattle.gix_describe.specs.Outcomes.{names_of}
