@@ -41,6 +41,9 @@ pub(crate) fn head_tree(session: &mut Session<'_>) -> Result<ObjectId, Stop> {
 
 /// Returns an entry of a tree with its path.
 fn with_path(session: &Session<'_>, folder: &[u8], entry: &TreeEntry<'_>) -> Result<Listed, Stop> {
+    if entry.is_tree() {
+        expect_own(session, entry.id)?;
+    }
     let mut path = folder.to_vec(session.alloc)?;
     path.extend_from_slice(entry.name)?;
     if entry.is_tree() {
@@ -55,7 +58,6 @@ fn with_path(session: &Session<'_>, folder: &[u8], entry: &TreeEntry<'_>) -> Res
 
 /// Returns the entries of a tree, the last one first.
 fn entries_of(session: &mut Session<'_>, tree: &Listed) -> Result<Vec<Listed>, Stop> {
-    expect_own(session, tree.id)?;
     let object = session.repository.read_object(tree.id)?;
     let mut entries = Vec::new(session.alloc);
     let mut rest = object.content.as_slice();
