@@ -28,6 +28,7 @@ use gix_history::questions::Describe;
 use gix_repository::Refusal;
 use gix_revision::hash::ObjectId;
 use gix_revision::object::Kind;
+use std::alloc::Global;
 
 /// How many commits with names are compared with their objects.
 const MOST_COMPARED: usize = 16;
@@ -96,6 +97,16 @@ fn refuse_names(session: &Session<'_>, asked: &Asked<'_>, table: &Table) -> Resu
         ));
     }
     Ok(())
+}
+
+/// Returns git's end for a commit that has no name of its own, if only such names count.
+fn unmatched(alloc: Global, commit: ObjectId) -> Stop {
+    let mut text = [0u8; 40];
+    let written = commit.write_hex(40, &mut text);
+    fatal(
+        alloc,
+        &[b"no tag exactly matches '", &text[..written], b"'"],
+    )
 }
 
 /// Returns how many digits of an id are printed.
@@ -363,17 +374,25 @@ impl<'w> Describer<'w> {
             }
         }
         if self.asked.candidates == 0 {
-            let mut text = [0u8; 40];
-            let written = commit.write_hex(40, &mut text);
-            return Err(fatal(
-                session.alloc,
-                &[b"no tag exactly matches '", &text[..written], b"'"],
-            ));
+            return Err(unmatched(session.alloc, commit));
         }
         match self.nearest(session, commit)? {
             Some(near) => self.print_near(session, commit, near),
             None => self.print_nameless(session, commit),
         }
+    }
+
+    /// Prints a line for each text, or for `HEAD` if there is none.
+    fn describe_all(&mut self, session: &mut Session<'_>) -> Result<(), Stop> {
+        if self.asked.texts.is_empty() {
+            return self.describe(session, b"HEAD");
+        }
+        for place in 0..self.asked.texts.len() {
+            if let Some(text) = self.asked.texts.get(place).copied() {
+                self.describe(session, text)?;
+            }
+        }
+        Ok(())
     }
 }
 
@@ -396,19 +415,12 @@ pub fn describe(session: &mut Session<'_>, words: &[&[u8]]) -> Result<u8, Stop> 
     let table = Table::collect(session, &asked)?;
     refuse_names(session, &asked, &table)?;
     let mark = mark(session, &asked)?;
-    let mut texts = Vec::new(session.alloc);
-    texts.extend_from_slice(&asked.texts)?;
-    if texts.is_empty() {
-        texts.push(b"HEAD".as_slice())?;
-    }
     let mut describer = Describer {
         asked,
         table,
         question: None,
         mark,
     };
-    for text in texts.iter() {
-        describer.describe(session, text)?;
-    }
+    describer.describe_all(session)?;
     Ok(0)
 }

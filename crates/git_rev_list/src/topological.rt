@@ -162,6 +162,44 @@ pub(crate) struct Sorted {
     pub(crate) has_sides: bool,
 }
 
+/// Returns the commits of a list in the order in which they leave the front.
+fn in_turn(
+    alloc: Global,
+    list: &[Come],
+    links: &Links,
+    children: &mut [u32],
+    front: &mut Front,
+) -> Result<Vec<Come>, AllocError> {
+    let mut sorted = Vec::new(alloc);
+    for _ in 0..usize::MAX {
+        let Some(place) = front.pop() else {
+            break;
+        };
+        front.follow(links, children, place)?;
+        if let Some(come) = list.get(place) {
+            sorted.push(*come)?;
+        }
+    }
+    Ok(sorted)
+}
+
+/// Returns the commits of a list so that each comes once all its children came.
+fn in_order(
+    alloc: Global,
+    list: &[Come],
+    links: &Links,
+    order: Order,
+) -> Result<Vec<Come>, AllocError> {
+    let mut children = count_children(alloc, links)?;
+    let mut front = Front {
+        is_dated: order == Order::Dated,
+        dated: Queue::new(alloc),
+        last: Vec::new(alloc),
+    };
+    front.begin(links, &children)?;
+    in_turn(alloc, list, links, &mut children, &mut front)
+}
+
 /// Sorts a list of commits.
 ///
 /// # Errors
@@ -169,25 +207,8 @@ pub(crate) struct Sorted {
 /// `Refused` if a commit is not read.
 pub(crate) fn sort(session: &mut Session<'_>, list: &[Come], order: Order) -> Result<Sorted, Stop> {
     let links = links_of(session, list)?;
-    let mut children = count_children(session.alloc, &links)?;
-    let mut front = Front {
-        is_dated: order == Order::Dated,
-        dated: Queue::new(session.alloc),
-        last: Vec::new(session.alloc),
-    };
-    front.begin(&links, &children)?;
-    let mut sorted = Vec::new(session.alloc);
-    for _ in 0..usize::MAX {
-        let Some(place) = front.pop() else {
-            break;
-        };
-        front.follow(&links, &mut children, place)?;
-        if let Some(come) = list.get(place) {
-            sorted.push(*come)?;
-        }
-    }
     Ok(Sorted {
-        list: sorted,
+        list: in_order(session.alloc, list, &links, order)?,
         has_sides: links.has_sides,
     })
 }

@@ -59,7 +59,11 @@ impl<F: Folders + Drop, A: Allocator + Copy> Repository<F, A> {
         };
         let alloc = self.alloc;
         let found = self.history.reader.store.completions(alloc, prefix, 2)?;
-        Ok(found.iter().any(|other| *other != id))
+        Ok(match found.as_slice() {
+            [] => false,
+            [other] => *other != id,
+            _ => true,
+        })
     }
 
     /// Returns how many digits name an object and no other one, at least `least` (git-rev-parse,

@@ -212,6 +212,23 @@ fn changes_of<F: Folders + Drop, A: Allocator + Copy>(
     Ok(changes)
 }
 
+/// Returns what a repository changes: nothing in authentic mode.
+fn sound_changes<F: Folders + Drop, A: Allocator + Copy>(
+    alloc: A,
+    files: &F,
+    environment: &Environment<A>,
+    layout: &Layout<A>,
+    settings: &Settings<A>,
+    references: &mut References<F, A>,
+    mode: Mode,
+) -> Result<Changes<A>, OpenError<A>> {
+    let changes = changes_of(alloc, files, environment, layout, settings, references)?;
+    if mode == Mode::Authentic && !changes.is_empty() {
+        return Err(OpenError::IsChanged);
+    }
+    Ok(changes)
+}
+
 /// Opens the commit-graph. As git does, it passes over one that cannot be used.
 fn rows_of<F: Folders + Drop, A: Allocator + Copy>(
     alloc: A,
@@ -236,6 +253,59 @@ fn store_of<F: Folders + Drop, A: Allocator + Copy>(
         more.push(path.as_slice())?;
     }
     Ok(Store::open_with(alloc, files, &layout.objects, &more)?)
+}
+
+/// Opens the object database, in which the objects of all changes have to be of the right kind.
+fn sound_store<F: Folders + Copy + Drop, A: Allocator + Copy>(
+    alloc: A,
+    files: F,
+    layout: &Layout<A>,
+    changes: &Changes<A>,
+) -> Result<Store<F, A>, OpenError<A>> {
+    let mut store = store_of(alloc, files, layout)?;
+    if changes.are_of_right_kind(alloc, &mut store)? {
+        Ok(store)
+    } else {
+        Err(OpenError::WrongKind)
+    }
+}
+
+/// Opens the commit-graph, if commits may be read from it.
+fn usable_rows<F: Folders + Copy + Drop, A: Allocator + Copy>(
+    alloc: A,
+    files: F,
+    layout: &Layout<A>,
+    settings: &Settings<A>,
+    changes: &Changes<A>,
+    mode: Mode,
+) -> Result<Option<GraphRows<F, A>>, OpenError<A>> {
+    if mode == Mode::Usual && changes.is_empty() && settings.uses_commit_graph(alloc)? {
+        rows_of(alloc, files, &layout.objects)
+    } else {
+        Ok(None)
+    }
+}
+
+/// Opens what commits are read from.
+fn commits_of<F: Folders + Copy + Drop, A: Allocator + Copy>(
+    alloc: A,
+    files: F,
+    layout: &Layout<A>,
+    settings: &Settings<A>,
+    changes: Changes<A>,
+    mode: Mode,
+) -> Result<Commits<F, A>, OpenError<A>> {
+    let store = sound_store(alloc, files, layout, &changes)?;
+    let rows = usable_rows(alloc, files, layout, settings, &changes, mode)?;
+    Ok(Commits {
+        alloc,
+        store,
+        rows,
+        changes,
+        error: None,
+        damage: None,
+        compared: BTreeSet::new(alloc),
+    })
 }
 
 /// What a repository is opened with.
@@ -269,51 +339,35 @@ impl<F: Places + Copy + Drop, A: Allocator + Copy> Repository<F, A> {
         let layout = discover(alloc, &files, environment)?;
         let settings = Settings::read(alloc, &files, environment, &layout)?;
         let mut references = References::open(alloc, files, &layout.git_dir, &layout.common_dir)?;
-        let changes = changes_of(
+        let changes = sound_changes(
             alloc,
             &files,
             environment,
             &layout,
             &settings,
             &mut references,
+            opening.mode,
         )?;
-        let is_authentic = opening.mode == Mode::Authentic;
-        if is_authentic && !changes.is_empty() {
-            return Err(OpenError::IsChanged);
-        }
-        let mut store = store_of(alloc, files, &layout)?;
-        if !changes.are_of_right_kind(alloc, &mut store)? {
-            return Err(OpenError::WrongKind);
-        }
-        let uses_rows = !is_authentic && changes.is_empty() && settings.uses_commit_graph(alloc)?;
-        let rows = if uses_rows {
-            rows_of(alloc, files, &layout.objects)?
-        } else {
-            None
-        };
-        let commits = Commits {
-            alloc,
-            store,
-            rows,
-            changes,
-            error: None,
-            damage: None,
-            compared: BTreeSet::new(alloc),
-        };
+        let commits = commits_of(alloc, files, &layout, &settings, changes, opening.mode)?;
+        let abbrev = settings.abbrev(alloc)?;
+        let warns = settings.warns_ambiguous_refs(alloc)?;
         Ok(Repository {
             alloc,
             refusals: opening.refusals,
             seed: opening.seed,
             now: opening.now,
-            abbrev: settings.abbrev(alloc)?,
-            warns: settings.warns_ambiguous_refs(alloc)?,
+            abbrev,
+            warns,
             is_quiet: false,
             is_silent: false,
             layout,
             settings,
             references,
             history: History::new(alloc, opening.seed, commits),
-            loaded: is_authentic.then(|| Loaded::new(alloc, opening.seed)),
+            loaded: match opening.mode {
+                Mode::Authentic => Some(Loaded::new(alloc, opening.seed)),
+                Mode::Usual => None,
+            },
             messages: Vec::new(alloc),
         })
     }

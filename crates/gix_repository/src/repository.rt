@@ -8,7 +8,7 @@ use crate::error::Refusal;
 use gix_discover::{Abbrev, Layout, Settings};
 use gix_files::Folders;
 use gix_history::{Beyond, History, Loaded, Origin, Question, Refused};
-use gix_ref::{Listing, References, Why};
+use gix_ref::{Listing, References, Skipped, Why};
 use gix_revision::Seed;
 use gix_revision::date::Time;
 use gix_revision::graph::SourceCommit;
@@ -41,6 +41,16 @@ pub struct Repository<F: Folders + Drop, A: Allocator + Copy = Global> {
     pub(crate) loaded: Option<Loaded<A>>,
     /// What git would print on standard error.
     pub(crate) messages: Vec<u8, A>,
+}
+
+/// Returns whether a file with a name that is not UTF-8 was passed over.
+fn has_unopened<A: Allocator>(skipped: &[Skipped<A>]) -> bool {
+    for one in skipped {
+        if one.why == Why::NotUtf8 {
+            return true;
+        }
+    }
+    false
 }
 
 impl<F: Folders + Drop, A: Allocator + Copy> Repository<F, A> {
@@ -89,14 +99,11 @@ impl<F: Folders + Drop, A: Allocator + Copy> Repository<F, A> {
     /// - `OutOfMemory` if an allocation failed.
     pub fn list_references(&mut self, front: &[u8]) -> Result<Listing<A>, Refusal> {
         let listing = self.references.all(front)?;
-        let has_unopened = listing
-            .skipped
-            .iter()
-            .any(|skipped| skipped.why == Why::NotUtf8);
-        if has_unopened {
-            return Err(Refusal::NotUtf8);
+        if has_unopened(&listing.skipped) {
+            Err(Refusal::NotUtf8)
+        } else {
+            Ok(listing)
         }
-        Ok(listing)
     }
 
     /// Returns the shortest name that the rules read as a reference (git-rev-parse,

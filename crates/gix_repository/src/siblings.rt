@@ -6,6 +6,7 @@ use crate::names::{Named, read, unabbreviated};
 use crate::repository::Repository;
 use gix_discover::Reason;
 use gix_files::Folders;
+use gix_ref::Reference;
 use gix_revision::spec::parse::delegate::SiblingBranch;
 use std::alloc::{AllocError, Allocator};
 
@@ -26,6 +27,17 @@ fn mapped<A: Allocator>(
         (None, None) if from == name => Ok(Some(to.to_vec(alloc)?)),
         (Some(from), Some(to)) => map_star(alloc, from, to, name),
         _ => Ok(None),
+    }
+}
+
+/// Returns whether a look-up found a reference. One that is broken, or leads too far, counts as none.
+fn is_there<A: Allocator>(
+    found: Result<Option<Reference<A>>, gix_ref::Error>,
+) -> Result<bool, Refusal> {
+    match found {
+        Ok(found) => Ok(found.is_some()),
+        Err(gix_ref::Error::Broken(_) | gix_ref::Error::TooDeep(_)) => Ok(false),
+        Err(error) => Err(Refusal::from(error)),
     }
 }
 
@@ -256,11 +268,7 @@ impl<F: Folders + Drop, A: Allocator + Copy> Repository<F, A> {
     fn has_branch(&mut self, short: &[u8]) -> Result<bool, Refusal> {
         let mut branch = b"refs/heads/".to_vec(self.alloc)?;
         branch.extend_from_slice(short)?;
-        match self.references.follow(&branch) {
-            Ok(found) => Ok(found.is_some()),
-            Err(gix_ref::Error::Broken(_) | gix_ref::Error::TooDeep(_)) => Ok(false),
-            Err(error) => Err(Refusal::from(error)),
-        }
+        is_there(self.references.follow(&branch))
     }
 
     /// Returns what the sibling of a branch stands for, whose short name is `short`.
