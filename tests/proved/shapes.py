@@ -184,11 +184,11 @@ def refusal(before: tuple[bytes, ...], words: tuple[bytes, ...], data: bytes, fo
                 why = None
         if why:
             return why
-    if word == b"rev-list" and refused_list(rest):
-        return refused_list(rest)
-    if b"--stdin" in rest:
-        for line in data.split(b"\n"):
-            why = refused_text(line, folder) if not line.startswith(b"-") else "an option"
-            if why:
-                return why
+    lines = [it for it in data.split(b"\n") if it] if b"--stdin" in rest else []
+    if word == b"rev-list" and refused_list((*rest, *lines)):
+        return refused_list((*rest, *lines))
+    for line in lines:
+        why = refused_text(line, folder) if not line.startswith(b"-") else "an option"
+        if why:
+            return why
     return None
