@@ -1,4 +1,4 @@
-"""Damages commit-graphs, and checks the answers of a program like crates/rows_lines.
+"""Damages commit-graphs, and checks the answers of a program like crates/object_lines.
 
 usage: damage.py PROGRAM FOLDER SEED
 """
@@ -17,7 +17,7 @@ PROGRAM, FOLDER = sys.argv[1:3]
 SOURCE = random.Random(int(sys.argv[3]))
 
 # What the program may say of a commit-graph that it does not open.
-REFUSALS = ("rows_lines: damaged: 'info/", "rows_lines: unsupported: 'info/")
+REFUSALS = ("object_lines: damaged: 'info/", "object_lines: unsupported: 'info/")
 
 NO_MEMORY = "out of memory"
 

@@ -1,4 +1,4 @@
-"""Compares the commits that a program like crates/rows_lines reads with git's.
+"""Compares the commits that a program like crates/object_lines reads with git's.
 
 usage: repositories.py PROGRAM FOLDER SEED
 """
@@ -83,9 +83,9 @@ def compare_chain(layers: int, each: int, *settings: str) -> None:
     compare(folder, 1)
 
 
-def refuse(name: str, status: int, text: str, *words: str) -> None:
+def refuse(name: str, status: int, text: str) -> None:
     """Tests what the program says of a repository whose commit-graph it does not open."""
-    found = ask(PROGRAM, f"{FOLDER}/{name}/objects", [], *words)
+    found = ask(PROGRAM, f"{FOLDER}/{name}/objects", [])
     assert found.status == status and text in found.errors and not found.lines, (name, found)
 
 

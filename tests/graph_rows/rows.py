@@ -63,10 +63,10 @@ class Answered:
     errors: str
 
 
-def ask(program: str, objects: str, ids: list[str], *words: str) -> Answered:
+def ask(program: str, objects: str, ids: list[str], option: str = "--rows") -> Answered:
     """Asks the program for commits."""
     given = "".join(f"{it}\n" for it in ids).encode()
-    done = subprocess.run([program, *words, objects], input=given, capture_output=True, timeout=SECONDS, check=False)
+    done = subprocess.run([program, option, objects], input=given, capture_output=True, timeout=SECONDS, check=False)
     return Answered(done.returncode, done.stdout.decode().splitlines(), done.stderr.decode())
 
 

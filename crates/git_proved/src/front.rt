@@ -4,22 +4,22 @@ use std::alloc::{AllocError, Global};
 
 /// Says what the options before the word ask for.
 #[derive(Drop)]
-pub struct Front<'w> {
+pub(crate) struct Front<'w> {
     /// The folders of `-C`, one after another.
-    pub folders: Vec<&'w [u8]>,
+    pub(crate) folders: Vec<&'w [u8]>,
     /// The folder of `--git-dir`.
-    pub git_dir: Option<&'w [u8]>,
+    pub(crate) git_dir: Option<&'w [u8]>,
     /// The folder of `--work-tree`.
-    pub work_tree: Option<&'w [u8]>,
+    pub(crate) work_tree: Option<&'w [u8]>,
     /// Tells whether only objects are believed, each the content of its id.
-    pub is_authentic: bool,
+    pub(crate) is_authentic: bool,
     /// What follows.
-    pub asked: Asked<'w>,
+    pub(crate) asked: Asked<'w>,
 }
 
 /// Says what is asked for behind the options before the word.
 #[derive(Clone, Copy)]
-pub enum Asked<'w> {
+pub(crate) enum Asked<'w> {
     /// A word, and the words behind it.
     Word(&'w [u8], &'w [&'w [u8]]),
     /// The help: `-h`, `--help`.
@@ -86,7 +86,7 @@ impl<'w> Front<'w> {
     /// # Errors
     ///
     /// Fails if an allocation failed.
-    pub fn read(alloc: Global, words: &'w [&'w [u8]]) -> Result<Front<'w>, AllocError> {
+    pub(crate) fn read(alloc: Global, words: &'w [&'w [u8]]) -> Result<Front<'w>, AllocError> {
         let mut front = Front {
             folders: Vec::new(alloc),
             git_dir: None,

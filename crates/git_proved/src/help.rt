@@ -1,7 +1,7 @@
 //! Holds what `git proved -h` and `git proved --version` print.
 
 /// The help: what `git proved -h` prints.
-pub const HELP: &[u8] = b"\
+pub(crate) const HELP: &[u8] = b"\
 usage: git proved [-C FOLDER] [--git-dir=FOLDER] [--work-tree=FOLDER]
                   [--authentic] COMMAND [ARGUMENT..]
 
@@ -36,4 +36,4 @@ The manual page git-proved(1) has the options of each command.
 ";
 
 /// The version: what `git proved --version` prints.
-pub const VERSION: &[u8] = b"git-proved 1.0.0\n";
+pub(crate) const VERSION: &[u8] = b"git-proved 1.0.0\n";

@@ -26,10 +26,10 @@ static WORDS: [&str; 6] = [
 
 /// The standard streams.
 #[derive(Drop)]
-pub struct Streams<'t, I: BufRead, O: Write, E: Write> {
-    pub input: &'t mut I,
-    pub output: &'t mut O,
-    pub errors: &'t mut E,
+pub(crate) struct Streams<'t, I: BufRead, O: Write, E: Write> {
+    pub(crate) input: &'t mut I,
+    pub(crate) output: &'t mut O,
+    pub(crate) errors: &'t mut E,
 }
 
 /// Returns the status if standard output was not written.
@@ -50,7 +50,7 @@ fn write_whole<W: Write>(output: &mut W, bytes: &[u8]) -> io::Result<()> {
 }
 
 /// Prints a text, and returns the status: 0, or why it was not printed.
-pub fn print_text<O: Write>(output: &mut O, text: &[u8]) -> u8 {
+pub(crate) fn print_text<O: Write>(output: &mut O, text: &[u8]) -> u8 {
     match write_whole(output, text) {
         Ok(()) => 0,
         Err(error) => unwritten(error),
@@ -61,7 +61,7 @@ impl<'t, I: BufRead, O: Write, E: Write> Streams<'t, I, O, E> {
     /// Writes what was printed, and returns the status.
     ///
     /// A failure to write standard error changes nothing, as in git.
-    pub fn finish(&mut self, status: u8, output: &[u8], errors: &[u8]) -> u8 {
+    pub(crate) fn finish(&mut self, status: u8, output: &[u8], errors: &[u8]) -> u8 {
         let _ = write_whole(self.errors, errors);
         match write_whole(self.output, output) {
             Ok(()) => status,
@@ -217,7 +217,7 @@ fn serve<I: BufRead, O: Write, E: Write>(
 /// - 0, 1 and 128 as those of git.
 /// - 129 if the question is not read, if the program fails, or if the output cannot be written.
 /// - 141 if the output is a closed pipe, which would end git by a signal.
-pub fn run<'s, I: BufRead, O: Write, E: Write>(
+pub(crate) fn run<'s, I: BufRead, O: Write, E: Write>(
     alloc: Global,
     files: System<'s>,
     environment: Environment,

@@ -1,206 +1,74 @@
-//! Prints the objects whose ids are on the lines of its input.
+//! Answers lines about objects, commit-graphs and zlib streams, for tests.
 //!
-//! - `object_lines OBJECTS` prints each object of an `objects` folder as `git cat-file --batch`
-//!   does: `ID KIND SIZE`, and after that line the content and a line feed.
+//! - `object_lines OBJECTS` prints the objects of an `objects` folder whose ids are on the lines, as
+//!   `git cat-file --batch` does: `ID KIND SIZE`, and after that line the content and a line feed.
 //! - `object_lines --commits OBJECTS` prints the line of each commit as `git rev-list --timestamp
 //!   --parents --no-walk` does: `TIME ID PARENT..`.
 //! - `object_lines --tags OBJECTS` prints what each tag says: `TARGET KIND DATE NAME`.
 //! - `object_lines --ids OBJECTS` prints the ids that begin with the digits on each line, at most 16,
 //!   after these digits and a colon: `DIGITS: ID..`.
+//! - `object_lines --rows OBJECTS` prints what `--commits` prints, but reads the commit-graph.
+//! - `object_lines --levels OBJECTS` prints `LEVEL ID` for each commit of the commit-graph, with its
+//!   generation number, or `none` if git has not computed it.
+//! - `object_lines --inflate` inflates streams. A line `content LIMIT HEX` is answered by the length of
+//!   the stream and its content, `LENGTH HEX`, and `front N HEX` by the first N bytes of the content.
+//!   Bytes are in hexadecimal digits. If a call fails, the answer is the text of its error.
 //!
 //! If there is no such object, or a line is not an id, the answer is `LINE missing`. If an object
-//! is not read, the answer is `LINE error: TEXT`. The status is 1 if the store cannot be opened, or
-//! if input or output fails. It is 2 if the command line is not one of these. The scripts of
-//! `tests/objects` run this program.
+//! is not read, the answer is `LINE error: TEXT`. The status is 1 if the store or the commit-graph
+//! cannot be opened, if a line of `--inflate` is no question, or if input or output fails. It is 2 if
+//! the command line is not one of these. The scripts of `tests/objects`, `tests/graph_rows` and
+//! `tests/zlib` run this program.
 #![tactic(auto)]
 
-use gix_base::hash::{ObjectId, Prefix};
-use gix_files::System;
-use gix_object::kind_name;
-use gix_odb::{Error, Object, Store};
-use std::alloc::Global;
+mod objects;
+mod rows;
+mod streams;
+
+use crate::objects::Mode;
 use std::env;
-use std::io::{self, BufRead, BufReader, BufWriter, Write};
 use std::process::ExitCode;
 
-/// What is printed of each line.
-#[derive(Clone, Copy, PartialEq, Eq)]
-enum Mode {
-    Objects,
-    Commits,
-    Tags,
-    Ids,
-}
-
-/// How many ids are printed for one prefix.
-const MOST_IDS: usize = 16;
-
-/// Prints why the object that a line names is not read.
-fn print_error<W: Write>(line: &str, error: Error, output: &mut W) -> io::Result<()> {
-    match error {
-        Error::Missing(_) => writeln!(output, "{line} missing"),
-        error => writeln!(output, "{line} error: {error}"),
+/// Answers an option about an `objects` folder. Returns whether all went well; `None` if there is no
+/// such option.
+fn answer(rt: &HostRuntime, option: &str, path: &str) -> Option<bool> {
+    match option {
+        "--commits" => Some(objects::answer(rt, Mode::Commits, path)),
+        "--tags" => Some(objects::answer(rt, Mode::Tags, path)),
+        "--ids" => Some(objects::answer(rt, Mode::Ids, path)),
+        "--rows" => Some(rows::answer(rt, false, path)),
+        "--levels" => Some(rows::answer(rt, true, path)),
+        _ => None,
     }
 }
 
-/// Prints an object as `git cat-file --batch` does.
-fn print_object<W: Write>(
-    alloc: Global,
-    store: &mut Store<System<'_>>,
-    id: ObjectId,
-    line: &str,
-    output: &mut W,
-) -> io::Result<()> {
-    match store.read(alloc, id) {
-        Ok(Object { kind, content }) => {
-            let kind = kind_name(kind);
-            let size = content.len();
-            writeln!(output, "{id} {kind} {size}")?;
-            output.write_all(&content)?;
-            output.write_all(b"\n")
-        }
-        Err(error) => print_error(line, error, output),
-    }
-}
-
-/// Prints the date, the id and the parents of a commit.
-fn print_commit<W: Write>(
-    alloc: Global,
-    store: &mut Store<System<'_>>,
-    id: ObjectId,
-    line: &str,
-    output: &mut W,
-) -> io::Result<()> {
-    match store.commit(alloc, id) {
-        Ok(commit) => {
-            let time = commit.time;
-            write!(output, "{time} {id}")?;
-            for parent in commit.parents.iter() {
-                write!(output, " {parent}")?;
-            }
-            output.write_all(b"\n")
-        }
-        Err(error) => print_error(line, error, output),
-    }
-}
-
-/// Prints what a tag says.
-fn print_tag<W: Write>(
-    alloc: Global,
-    store: &mut Store<System<'_>>,
-    id: ObjectId,
-    line: &str,
-    output: &mut W,
-) -> io::Result<()> {
-    match store.tag(alloc, id) {
-        Ok(tag) => {
-            let kind = kind_name(tag.kind);
-            write!(output, "{} {kind} {} ", tag.target, tag.date)?;
-            output.write_all(&tag.name)?;
-            output.write_all(b"\n")
-        }
-        Err(error) => print_error(line, error, output),
-    }
-}
-
-/// Prints the ids that begin with the digits of a line.
-fn print_ids<W: Write>(
-    alloc: Global,
-    store: &mut Store<System<'_>>,
-    line: &str,
-    output: &mut W,
-) -> io::Result<()> {
-    let Ok(prefix) = Prefix::from_hex(line.as_bytes()) else {
-        return writeln!(output, "{line} missing");
-    };
-    match store.completions(alloc, prefix, MOST_IDS) {
-        Ok(ids) => {
-            write!(output, "{line}:")?;
-            for id in ids.iter() {
-                write!(output, " {id}")?;
-            }
-            output.write_all(b"\n")
-        }
-        Err(error) => print_error(line, error, output),
-    }
-}
-
-/// Prints the answer to a line that is an id.
-fn print_answer<W: Write>(
-    alloc: Global,
-    store: &mut Store<System<'_>>,
-    mode: Mode,
-    line: &str,
-    output: &mut W,
-) -> io::Result<()> {
-    let Ok(id) = ObjectId::from_hex(line.as_bytes()) else {
-        return writeln!(output, "{line} missing");
-    };
-    match mode {
-        Mode::Commits => print_commit(alloc, store, id, line, output),
-        Mode::Tags => print_tag(alloc, store, id, line, output),
-        _ => print_object(alloc, store, id, line, output),
-    }
-}
-
-/// Prints the answers to all lines of the input.
-fn print_answers(rt: &HostRuntime, store: &mut Store<System<'_>>, mode: Mode) -> io::Result<()> {
-    let alloc = rt.alloc();
-    let mut output = BufWriter::new(alloc, io::writer(rt))?;
-    for line in BufReader::new(alloc, rt.reader())?.lines(alloc) {
-        let line = line?;
-        if mode == Mode::Ids {
-            print_ids(alloc, store, line.as_str(), &mut output)?;
-        } else {
-            print_answer(alloc, store, mode, line.as_str(), &mut output)?;
-        }
-    }
-    output.flush()
-}
-
-/// Opens the store, and prints the answers. Returns the status.
-fn answer(rt: &HostRuntime, mode: Mode, path: &str) -> ExitCode {
-    match Store::open(rt.alloc(), System(rt), path.as_bytes()) {
-        Ok(mut store) => match print_answers(rt, &mut store, mode) {
-            Ok(()) => ExitCode::SUCCESS,
-            Err(_) => ExitCode::FAILURE,
-        },
-        Err(error) => {
-            let _ = eprintln!(rt; "object_lines: {error}");
-            ExitCode::FAILURE
-        }
-    }
-}
-
-/// Returns the mode that a word asks for.
-fn mode_of(word: &str) -> Option<Mode> {
-    if word == "--commits" {
-        Some(Mode::Commits)
-    } else if word == "--tags" {
-        Some(Mode::Tags)
-    } else if word == "--ids" {
-        Some(Mode::Ids)
+/// Answers a single word of the command line. Returns whether all went well.
+fn answer_alone(rt: &HostRuntime, word: &str) -> bool {
+    if word == "--inflate" {
+        streams::print_answers(rt.alloc(), &mut rt.stdin(), &mut rt.stdout()).is_some()
     } else {
-        None
+        objects::answer(rt, Mode::Objects, word)
     }
+}
+
+/// Answers the command line. Returns whether all went well; `None` if it is not one of the above.
+fn answer_all(rt: &HostRuntime) -> Option<bool> {
+    let mut words = env::args(rt).ok()?;
+    let _program = words.next();
+    let first = words.next()?;
+    let Some(second) = words.next() else {
+        return Some(answer_alone(rt, first.as_str()));
+    };
+    if words.next().is_some() {
+        return None;
+    }
+    answer(rt, first.as_str(), second.as_str())
 }
 
 fn main(rt: HostRuntime) -> ExitCode {
-    let Ok(mut words) = env::args(&rt) else {
-        return ExitCode::from(2);
-    };
-    let _program = words.next();
-    let Some(first) = words.next() else {
-        return ExitCode::from(2);
-    };
-    let Some(second) = words.next() else {
-        return answer(&rt, Mode::Objects, first.as_str());
-    };
-    if words.next().is_some() {
-        return ExitCode::from(2);
-    }
-    match mode_of(first.as_str()) {
-        Some(mode) => answer(&rt, mode, second.as_str()),
+    match answer_all(&rt) {
+        Some(true) => ExitCode::SUCCESS,
+        Some(false) => ExitCode::FAILURE,
         None => ExitCode::from(2),
     }
 }

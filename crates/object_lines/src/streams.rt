@@ -1,17 +1,8 @@
-//! Inflates the zlib streams of its input, one on each line, and prints what they contain.
-//!
-//! - `content LIMIT HEX` is answered by the length of the stream and its content: `LENGTH HEX`.
-//! - `front N HEX` is answered by the first N bytes of the content: `HEX`.
-//!
-//! Bytes are in hexadecimal digits. If a call fails, the answer is the text of its error. The
-//! program ends with status 1 at a line that is not a question, or if it runs out of memory itself.
-//! `tests/zlib` runs this program.
-#![tactic(auto)]
+//! Inflates zlib streams, one on each line.
 
 use gix_zlib::{inflate, inflate_front};
 use std::alloc::Global;
 use std::io::{Read, Write};
-use std::process::ExitCode;
 
 /// Prints the answer to `content LIMIT HEX`.
 fn print_content<W: Write>(
@@ -53,8 +44,12 @@ fn print_answer<W: Write>(alloc: Global, line: &str, output: &mut W) -> Option<(
     }
 }
 
-/// Prints the answers to all lines.
-fn print_answers<R: Read, W: Write>(alloc: Global, input: &mut R, output: &mut W) -> Option<()> {
+/// Prints the answers to all lines; `None` if one cannot be answered.
+pub(crate) fn print_answers<R: Read, W: Write>(
+    alloc: Global,
+    input: &mut R,
+    output: &mut W,
+) -> Option<()> {
     let mut bytes = Vec::new(alloc);
     input.read_to_end(&mut bytes).ok()?;
     let text = std::str::from_utf8(&bytes).ok()?;
@@ -62,11 +57,4 @@ fn print_answers<R: Read, W: Write>(alloc: Global, input: &mut R, output: &mut W
         print_answer(alloc, line, output)?;
     }
     Some(())
-}
-
-fn main(rt: HostRuntime) -> ExitCode {
-    match print_answers(rt.alloc(), &mut rt.stdin(), &mut rt.stdout()) {
-        Some(()) => ExitCode::SUCCESS,
-        None => ExitCode::FAILURE,
-    }
 }

@@ -1,23 +1,10 @@
-//! Prints the commits of a commit-graph whose ids are on the lines of its input.
-//!
-//! - `rows_lines OBJECTS` reads the commit-graph of an `objects` folder. It prints the line of each
-//!   commit as `git rev-list --timestamp --parents --no-walk` does: `TIME ID PARENT..`.
-//! - `rows_lines --levels OBJECTS` prints `LEVEL ID` for each commit, with its generation number, or
-//!   `none` if git has not computed it.
-//!
-//! If the commit-graph does not have a line's id, or the line is not an id, the answer is `LINE
-//! missing`. If a commit is not read, the answer is `LINE error: TEXT`. The status is 1 if there is
-//! no commit-graph, if it cannot be opened, or if input or output fails. It is 2 if the command line
-//! is not one of these. The scripts of `tests/graph_rows` run this program.
-#![tactic(auto)]
+//! Prints the commits of a commit-graph whose ids are on lines.
 
 use gix_base::hash::ObjectId;
 use gix_files::System;
 use gix_graph_rows::GraphRows;
 use std::alloc::Global;
-use std::env;
 use std::io::{self, BufRead, BufReader, BufWriter, Write};
-use std::process::ExitCode;
 
 /// Prints the generation number and the id of a commit.
 fn print_level<W: Write>(generation: Option<u32>, id: ObjectId, output: &mut W) -> io::Result<()> {
@@ -75,37 +62,18 @@ fn print_answers(
     output.flush()
 }
 
-/// Opens the commit-graph, and prints the answers. Returns the status.
-fn answer(rt: &HostRuntime, levels: bool, path: &str) -> ExitCode {
+/// Opens the commit-graph of an `objects` folder, and prints the answers. Returns whether all went
+/// well.
+pub(crate) fn answer(rt: &HostRuntime, levels: bool, path: &str) -> bool {
     match GraphRows::open(rt.alloc(), System(rt), path.as_bytes()) {
-        Ok(Some(mut rows)) => match print_answers(rt, &mut rows, levels) {
-            Ok(()) => ExitCode::SUCCESS,
-            Err(_) => ExitCode::FAILURE,
-        },
+        Ok(Some(mut rows)) => print_answers(rt, &mut rows, levels).is_ok(),
         Ok(None) => {
-            let _ = eprintln!(rt; "rows_lines: '{path}' has no commit-graph");
-            ExitCode::FAILURE
+            let _ = eprintln!(rt; "object_lines: '{path}' has no commit-graph");
+            false
         }
         Err(error) => {
-            let _ = eprintln!(rt; "rows_lines: {error}");
-            ExitCode::FAILURE
+            let _ = eprintln!(rt; "object_lines: {error}");
+            false
         }
     }
-}
-
-fn main(rt: HostRuntime) -> ExitCode {
-    let Ok(mut words) = env::args(&rt) else {
-        return ExitCode::from(2);
-    };
-    let _program = words.next();
-    let Some(first) = words.next() else {
-        return ExitCode::from(2);
-    };
-    let Some(second) = words.next() else {
-        return answer(&rt, false, first.as_str());
-    };
-    if first.as_str() != "--levels" || words.next().is_some() {
-        return ExitCode::from(2);
-    }
-    answer(&rt, true, second.as_str())
 }

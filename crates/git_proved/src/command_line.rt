@@ -1,9 +1,10 @@
-//! The program `git-proved`: passes the command line, the environment and the standard streams to
-//! `git_proved`.
-#![tactic(auto)]
+//! Reads the command line and the environment, and answers over the standard streams.
 
-use git_proved::front::{Asked, Front};
-use git_proved::{HELP, Streams, VERSION, print_text, run};
+use crate::answer::ended;
+use crate::front::{Asked, Front};
+use crate::help::{HELP, VERSION};
+use crate::program::{Streams, print_text, run};
+use git_session::stop::{NOT_READ, Stop, fatal, not_read};
 use gix_discover::{Environment, Variable};
 use gix_files::System;
 use gix_repository::{Mode, Opening};
@@ -12,27 +13,8 @@ use gix_revision::date::Time;
 use std::alloc::AllocError;
 use std::env::{Env, FillError};
 use std::io::{self, BufReader, ErrorKind, Write};
-use std::process::ExitCode;
 use std::random::RandomSource;
 use std::time::SystemTime;
-
-/// The status for what is not read here, and for each failure of the program.
-const NOT_READ: u8 = 129;
-
-/// Says why the program ends before a question is asked.
-#[derive(Drop)]
-enum Fault {
-    /// git ends so, too, with this message.
-    Fatal(Vec<u8>),
-    NotRead(&'static [u8]),
-    OutOfMemory,
-}
-
-impl From<AllocError> for Fault {
-    fn from(_e: AllocError) -> Fault {
-        Fault::OutOfMemory
-    }
-}
 
 /// Reads a word of the command line into a buffer of this size.
 fn read_short(
@@ -87,31 +69,26 @@ fn reason(error: io::Error) -> Option<&'static [u8]> {
 }
 
 /// Returns git's end for a folder of `-C` that is not entered.
-fn not_entered(rt: &HostRuntime, folder: &[u8], error: io::Error) -> Result<Fault, AllocError> {
-    let Some(reason) = reason(error) else {
-        return Ok(Fault::NotRead(b"the folder of -C is not entered"));
-    };
-    let mut text = Vec::new(rt.alloc());
-    text.extend_from_slice(b"cannot change to '")?;
-    text.extend_from_slice(folder)?;
-    text.extend_from_slice(b"': ")?;
-    text.extend_from_slice(reason)?;
-    Ok(Fault::Fatal(text))
+fn not_entered(rt: &HostRuntime, folder: &[u8], error: io::Error) -> Stop {
+    match reason(error) {
+        Some(reason) => fatal(rt.alloc(), &[b"cannot change to '", folder, b"': ", reason]),
+        None => not_read(rt.alloc(), &[b"the folder of -C is not entered"]),
+    }
 }
 
 /// Goes to a folder of `-C`.
-fn enter(rt: &HostRuntime, folder: &[u8]) -> Result<(), Fault> {
+fn enter(rt: &HostRuntime, folder: &[u8]) -> Result<(), Stop> {
     let Ok(path) = str::from_utf8(folder) else {
-        return Err(Fault::NotRead(b"a path that is not UTF-8 is not supported"));
+        return Err(not_read(rt.alloc(), &[b"a path that is not UTF-8 is not supported"]));
     };
     match rt.set_current_dir(path) {
         Ok(()) => Ok(()),
-        Err(error) => Err(not_entered(rt, folder, error)?),
+        Err(error) => Err(not_entered(rt, folder, error)),
     }
 }
 
 /// Goes to the folders of `-C`, one after another.
-fn enter_all(rt: &HostRuntime, folders: &[&[u8]]) -> Result<(), Fault> {
+fn enter_all(rt: &HostRuntime, folders: &[&[u8]]) -> Result<(), Stop> {
     for folder in folders {
         enter(rt, folder)?;
     }
@@ -119,9 +96,12 @@ fn enter_all(rt: &HostRuntime, folders: &[&[u8]]) -> Result<(), Fault> {
 }
 
 /// Reads the environment, with what the options before the word say.
-fn environment(rt: &HostRuntime, front: &Front<'_>) -> Result<Environment, Fault> {
+fn environment(rt: &HostRuntime, front: &Front<'_>) -> Result<Environment, Stop> {
     let Ok(mut environment) = Environment::read(rt.alloc(), rt) else {
-        return Err(Fault::NotRead(b"the current folder or the environment cannot be read"));
+        return Err(not_read(
+            rt.alloc(),
+            &[b"the current folder or the environment cannot be read"],
+        ));
     };
     if let Some(folder) = front.git_dir {
         environment.set(rt.alloc(), Variable::GitDir, folder)?;
@@ -130,7 +110,10 @@ fn environment(rt: &HostRuntime, front: &Front<'_>) -> Result<Environment, Fault
         environment.set(rt.alloc(), Variable::WorkTree, folder)?;
     }
     if environment.get(Variable::WorkTree) == Some(b"".as_slice()) {
-        return Err(Fault::NotRead(b"a work tree without a name is not supported"));
+        return Err(not_read(
+            rt.alloc(),
+            &[b"a work tree without a name is not supported"],
+        ));
     }
     Ok(environment)
 }
@@ -145,9 +128,9 @@ fn seed(rt: &HostRuntime) -> Seed {
 }
 
 /// Returns the current time. Of a clock that is set to a time before 1970 it is 1970.
-fn now(rt: &HostRuntime) -> Result<Time, Fault> {
+fn now(rt: &HostRuntime) -> Result<Time, Stop> {
     let Ok(time) = SystemTime::now(rt) else {
-        return Err(Fault::NotRead(b"the clock cannot be read"));
+        return Err(not_read(rt.alloc(), &[b"the clock cannot be read"]));
     };
     let seconds = match time.duration_since(SystemTime::UNIX_EPOCH) {
         Ok(since) => since.as_secs().cast_signed(),
@@ -157,7 +140,7 @@ fn now(rt: &HostRuntime) -> Result<Time, Fault> {
 }
 
 /// Answers a word, and returns the status.
-fn serve(rt: &HostRuntime, front: &Front<'_>, word: &[u8], words: &[&[u8]]) -> Result<u8, Fault> {
+fn serve(rt: &HostRuntime, front: &Front<'_>, word: &[u8], words: &[&[u8]]) -> Result<u8, Stop> {
     let environment = environment(rt, front)?;
     let opening = Opening {
         refusals: rt.alloc(),
@@ -170,7 +153,7 @@ fn serve(rt: &HostRuntime, front: &Front<'_>, word: &[u8], words: &[&[u8]]) -> R
         },
     };
     let Ok(mut input) = BufReader::new(rt.alloc(), rt.stdin()) else {
-        return Err(Fault::OutOfMemory);
+        return Err(Stop::OutOfMemory);
     };
     let mut streams = Streams {
         input: &mut input,
@@ -189,12 +172,10 @@ fn serve(rt: &HostRuntime, front: &Front<'_>, word: &[u8], words: &[&[u8]]) -> R
 }
 
 /// Answers the command line, and returns the status.
-fn answer(rt: &HostRuntime, words: &[Vec<u8>]) -> Result<u8, Fault> {
+fn answer(rt: &HostRuntime, words: &[Vec<u8>]) -> Result<u8, Stop> {
     let mut slices = Vec::new(rt.alloc());
     for word in words {
-        if slices.push(word.as_slice()).is_err() {
-            return Err(Fault::OutOfMemory);
-        }
+        slices.push(word.as_slice())?;
     }
     let front = Front::read(rt.alloc(), &slices)?;
     enter_all(rt, &front.folders)?;
@@ -202,36 +183,32 @@ fn answer(rt: &HostRuntime, words: &[Vec<u8>]) -> Result<u8, Fault> {
         Asked::Word(word, rest) => serve(rt, &front, word, rest),
         Asked::Help => Ok(print_text(&mut rt.stdout(), HELP)),
         Asked::Version => Ok(print_text(&mut rt.stdout(), VERSION)),
-        Asked::Nothing => Err(Fault::NotRead(b"a word is wanted; -h prints the help")),
-        Asked::Unread(_) => Err(Fault::NotRead(b"an option before the word is not supported")),
+        Asked::Nothing => Err(not_read(rt.alloc(), &[b"a word is wanted; -h prints the help"])),
+        Asked::Unread(_) => Err(not_read(
+            rt.alloc(),
+            &[b"an option before the word is not supported"],
+        )),
     }
 }
 
 /// Writes why there is no answer, and returns the status.
-fn end(rt: &HostRuntime, fault: &Fault) -> u8 {
-    let (status, front, text) = match fault {
-        Fault::Fatal(text) => (128, b"fatal: ".as_slice(), text.as_slice()),
-        Fault::NotRead(text) => (NOT_READ, b"git-proved: ".as_slice(), *text),
-        Fault::OutOfMemory => (
-            NOT_READ,
-            b"git-proved: ".as_slice(),
-            b"out of memory".as_slice(),
-        ),
-    };
-    let mut errors = rt.stderr();
-    for part in [front, text, b"\n".as_slice()] {
-        let _ = errors.write_all(part);
+fn end(rt: &HostRuntime, stop: &Stop) -> u8 {
+    match ended(rt.alloc(), stop) {
+        Ok(finished) => {
+            let _ = rt.stderr().write_all(&finished.errors);
+            finished.status
+        }
+        Err(AllocError) => NOT_READ,
     }
-    status
 }
 
-fn main(rt: HostRuntime) -> ExitCode {
-    let status = match read_words(&rt) {
-        Ok(words) => match answer(&rt, &words) {
+/// Answers the command line of the process, and returns the status.
+pub(crate) fn answered(rt: &HostRuntime) -> u8 {
+    match read_words(rt) {
+        Ok(words) => match answer(rt, &words) {
             Ok(status) => status,
-            Err(fault) => end(&rt, &fault),
+            Err(stop) => end(rt, &stop),
         },
-        Err(AllocError) => end(&rt, &Fault::OutOfMemory),
-    };
-    ExitCode::from(status)
+        Err(AllocError) => end(rt, &Stop::OutOfMemory),
+    }
 }

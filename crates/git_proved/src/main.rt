@@ -1,4 +1,6 @@
-//! Answers git's words `merge-base`, `describe`, `rev-parse`, `rev-list` and `for-each-ref`, as
+//! The program `git-proved`.
+//!
+//! It answers git's words `merge-base`, `describe`, `rev-parse`, `rev-list` and `for-each-ref`, as
 //! they stand on a command line, and the word `batch`, which answers lines of such words.
 //!
 //! Merge bases, ancestry, depths, and which commits a whole list has are answers of proved
@@ -7,8 +9,9 @@
 //! `git_for_each_ref` and `git_session`, and tested against git: what options mean, the order of
 //! lists, first parents, filters, what is printed, and the status.
 //!
-//! - [`front`] reads the options before the word, which say where the repository is.
-//! - [`run`] opens the repository, answers, and returns the status.
+//! - `command_line` reads the command line, and `front` the options before the word, which say
+//!   where the repository is.
+//! - `program` opens the repository, answers, and returns the status.
 //!
 //! The status is git's: 0, 1 or 128. What is not read here, and what fails here, ends with the
 //! status 129 and prints nothing on standard output, so that a script can ask git then.
@@ -16,12 +19,17 @@
 
 mod answer;
 mod batch;
-pub mod front;
+mod command_line;
+mod front;
 mod help;
 mod merge_base;
 mod program;
 mod quoted;
 mod rev_parse;
 
-pub use help::{HELP, VERSION};
-pub use program::{Streams, print_text, run};
+use crate::command_line::answered;
+use std::process::ExitCode;
+
+fn main(rt: HostRuntime) -> ExitCode {
+    ExitCode::from(answered(&rt))
+}
