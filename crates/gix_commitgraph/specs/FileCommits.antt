@@ -1,5 +1,5 @@
 -- The commits of a commit-graph file (gitformat-commit-graph, "Commit Data" and "Extra Edge List").
-use Rattle.std.specs.Prelude.{ℕ, zero, suc, ◌+◌, ◌-◌, ◌*◌, ◌/◌, ◌%◌, ◌^◌, pos, List, [], ◌∷◌, map, cond, nat_eq, nat_lt, Option, Some, None}
+use Rattle.std.specs.Prelude.{ℕ, ℤ, zero, suc, ◌+◌, ◌-◌, ◌*◌, ◌/◌, ◌%◌, ◌^◌, pos, List, [], ◌∷◌, map, cond, nat_eq, nat_lt, Option, Some, None}
 use Rattle.gix_revwalk.specs.History.{History, Entry}
 use Rattle.gix_ids.specs.TableBytes.{word}
 use Rattle.gix_ids.specs.TableForm.{id_of}
@@ -11,6 +11,15 @@ use Rattle.gix_commitgraph.specs.declared.commit_graph.layout.Layout.{Layout}
 -- is none.
 abbrev pub generation_for : ℕ → Option ℕ
 generation_for n = cond (nat_eq n 0) None (Some n)
+
+-- The topological level: the upper 30 of the last 64 bits of a row, whose upper 32 are high.
+abbrev pub level_of : ℕ → ℕ
+level_of high = high / 4
+
+-- The date, in seconds since the Unix epoch: the lower 34 of the last 64 bits of a row, whose upper
+-- 32 are high and whose lower 32 are low.
+abbrev pub date_of : ℕ → ℕ → ℤ
+date_of high low = pos (high % 4 * 2 ^ 32 + low)
 
 module _ (s : List ℕ) (l : Layout) where
   -- The number at offset at of row i in CDAT. The first 20 bytes of a row are the id of the
@@ -39,13 +48,13 @@ module _ (s : List ℕ) (l : Layout) where
 
   -- The topological level of the commit at position i: the upper 30 of the last 64 bits of its row.
   abbrev pub level_at : ℕ → ℕ
-  level_at i = row_word i 28 / 4
+  level_at i = level_of (row_word i 28)
 
   -- The commit at position i. Its time is the lower 34 of the last 64 bits of its row.
   abbrev pub entry_of_row : ℕ → Entry
   entry_of_row i = record {
     parents = map (id_of s l.table) (parents_at i);
-    time = pos (row_word i 28 % 4 * 2 ^ 32 + row_word i 32);
+    time = date_of (row_word i 28) (row_word i 32);
     generation = generation_for (level_at i);
   }
 

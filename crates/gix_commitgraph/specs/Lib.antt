@@ -13,4 +13,5 @@ pub mod ChainFormat
 pub mod ChainSteps
 pub mod ChainLevels
 pub mod NewerCommits
+pub mod PlaceForm
 pub mod OpenFaultText

@@ -1,4 +1,3 @@
 pub mod ErrorTexts
 pub mod RowForm
-pub mod PlaceForm
 pub mod RowLaws

@@ -1,13 +1,13 @@
 -- One row of a commit-graph file (gitformat-commit-graph, "Commit Data").
-use Rattle.std.specs.Prelude.{◌≡◌, ℕ, ℤ, ◌+◌, ◌*◌, ◌/◌, ◌%◌, ◌^◌, ◌≤◌, pos, List, length, cond, nat_eq, nat_lt, Option}
+use Rattle.std.specs.Prelude.{◌≡◌, ℕ, ℤ, ◌^◌, ◌≤◌, List, length, cond, nat_eq, nat_lt, Option}
 use Rattle.gix_revwalk.specs.History.{Entry}
 use Rattle.gix_ids.specs.TableBytes.{word}
-use Rattle.gix_commitgraph.specs.FileCommits.{generation_for}
+use Rattle.gix_commitgraph.specs.FileCommits.{date_of, generation_for, level_of}
 
 module _ (row : List ℕ) where
   -- The topological level: the upper 30 of the last 64 bits of the row.
   abbrev pub level_in : ℕ
-  level_in = word row 28 / 4
+  level_in = level_of (word row 28)
 
   -- The generation number. The level 0 stands for none.
   abbrev pub generation_in : Option ℕ
@@ -15,7 +15,7 @@ module _ (row : List ℕ) where
 
   -- The date: the lower 34 of the last 64 bits of the row.
   abbrev pub date_in : ℤ
-  date_in = pos (word row 28 % 4 * 2 ^ 32 + word row 32)
+  date_in = date_of (word row 28) (word row 32)
 
   -- The row says that its commit has n parents. 0x70000000 stands for no parent. If the highest bit
   -- of the second number is set, there is a list of further parents elsewhere.

@@ -3,8 +3,8 @@
 ghost use Rattle.std.specs.Prelude.{◌<◌, IfSome};
 
 use crate::error::Error;
-use crate::place::Place;
 use gix_base::hash::ObjectId;
+use gix_commitgraph::position::Place;
 use std::alloc::Allocator;
 
 /// How many places are kept.

@@ -6,10 +6,10 @@ use crate::blocks::Blocks;
 use crate::error::{Damage, Error, GraphFile};
 use crate::front::{Contents, Fanout, Layout, check_bases};
 use crate::parts::Parts;
-use crate::place::Place;
 use crate::row::Row;
 use crate::source::Source;
 use gix_base::hash::ObjectId;
+use gix_commitgraph::position::{Counted, Place};
 use gix_files::Opened;
 use std::alloc::Allocator;
 
@@ -40,11 +40,6 @@ impl<O: Opened, A: Allocator + Copy> Layer<O, A> {
             source,
             fanout,
         })
-    }
-
-    /// Returns the number of commits.
-    pub(crate) fn count(&self) -> u32 {
-        self.layout.count
     }
 
     /// Returns the number of the row with an id; `None` if the file does not have it.
@@ -111,6 +106,14 @@ impl<O: Opened, A: Allocator + Copy> Layer<O, A> {
             layer: place.layer,
             level: row.level(),
         }
+    }
+}
+
+impl<O: Opened, A: Allocator + Copy> Counted for Layer<O, A> {
+    ghost commits = { λ l. l.layout.count };
+
+    fn count(&self) -> u32 {
+        self.layout.count
     }
 }
 

@@ -1,43 +1,14 @@
-//! Finds the file of a chain that has a commit, by its position or its id (technical/commit-graph,
-//! "Commit-Graph Chains").
+//! Finds the file of a chain that has the commit with an id (technical/commit-graph, "Commit-Graph
+//! Chains").
 
-ghost use Rattle.std.specs.Prelude.{◌≡◌, ◌≤◌, ◌<◌, IfOk, IfSome, MatchOption, length, sum_by};
-ghost use Rattle.gix_graph_rows.specs.PlaceForm.{IsPlace};
+ghost use Rattle.std.specs.Prelude.{◌≡◌, ◌<◌, IfOk, IfSome, length};
 
 use crate::error::Error;
 use crate::layer::Layer;
 use gix_base::hash::ObjectId;
+use gix_commitgraph::position::Place;
 use gix_files::Opened;
 use std::alloc::Allocator;
-
-/// Says where a commit is: the number of its file in the chain, and the number of its row there.
-#[derive(Clone, Copy, PartialEq, Eq)]
-pub(crate) struct Place {
-    pub(crate) layer: usize,
-    pub(crate) row: u32,
-}
-
-/// Returns where the commit at a position of a chain is.
-///
-/// Returns `None` if the files have fewer commits.
-pub(crate) fn locate<O: Opened, A: Allocator + Copy>(
-    layers: &[Layer<O, A>],
-    position: u32,
-) -> Option<Place>
-    ensures place { MatchOption result (sum_by (λ l. l.layout.count) layers.now ≤ position)
-        (λ p. IsPlace (λ l. l.layout.count) layers.now position p.layer p.row) }
-    ensures within { IfSome result (λ p. p.layer < length layers.now) }
-{
-    let mut row = position;
-    for layer in 0..layers.len() {
-        let file = &layers[layer];
-        if row < file.layout.count {
-            return Some(Place { layer, row });
-        }
-        row -= file.layout.count;
-    }
-    None
-}
 
 /// Looks an id up in all files, the last one first, as git does.
 fn search<O: Opened, A: Allocator + Copy>(

@@ -1,9 +1,10 @@
 //! Reads what a row says (gitformat-commit-graph, "Commit Data").
 
-ghost use Rattle.std.specs.Prelude.{◌≡◌, ℕ, ◌+◌, ◌<◌, ◌^◌};
+ghost use Rattle.std.specs.Prelude.{◌≡◌, ◌+◌, ◌<◌, ◌^◌};
 ghost use Rattle.gix_ids.specs.TableBytes.{word};
 ghost use Rattle.gix_graph_rows.specs.RowForm.{level_in, generation_in, date_in};
 
+use gix_commitgraph::row;
 use gix_ids::word_at;
 
 /// The number that stands for no parent.
@@ -49,22 +50,20 @@ impl Row {
         ensures value { result ≡ level_in self.now.bytes }
         ensures bound { result < 2 ^ 30 }
     {
-        number(self, 28) / 4
+        row::level(word_at(&self.bytes, 28)) as u32
     }
 
     /// Returns the generation number: the topological level, unless it is 0.
     pub(crate) fn generation(&self) -> Option<u32>
         ensures { result ≡ generation_in self.now.bytes }
     {
-        let level = self.level();
-        if level == 0 { None } else { Some(level) }
+        row::generation(row::level(word_at(&self.bytes, 28)))
     }
 
     /// Returns the commit date, in seconds since the Unix epoch. It has 34 bits.
     pub(crate) fn date(&self) -> i64
         ensures { result ≡ date_in self.now.bytes }
     {
-        let high = word_at(&self.bytes, 28) % 4;
-        (high * 0x1_0000_0000 + word_at(&self.bytes, 32)) as i64
+        row::date(word_at(&self.bytes, 28), word_at(&self.bytes, 32))
     }
 }

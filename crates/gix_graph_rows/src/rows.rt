@@ -13,6 +13,7 @@ use crate::place::find;
 use crate::row::NO_PARENT;
 use crate::source::open;
 use gix_base::hash::ObjectId;
+use gix_commitgraph::position::Counted;
 use gix_files::Folders;
 use gix_revwalk::graph::SourceCommit;
 use std::alloc::{Allocator, Global};

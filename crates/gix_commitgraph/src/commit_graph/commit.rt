@@ -1,13 +1,14 @@
 //! Reads the commit at a position.
 
-ghost use Rattle.std.specs.Prelude.{◌≡◌, ◌+◌, ◌-◌, ◌*◌, ◌%◌, ◌^◌, ◌<◌, ◌≤◌, ◌++◌, length, map, pos, IfOk, OnOk};
+ghost use Rattle.std.specs.Prelude.{◌≡◌, ◌+◌, ◌-◌, ◌<◌, ◌++◌, length, map, IfOk, OnOk};
 ghost use Rattle.gix_revwalk.specs.Held.{entry_of};
 ghost use Rattle.gix_commitgraph.specs.ChainCommits.{entry_in, id_in};
-ghost use Rattle.gix_commitgraph.specs.FileCommits.{edge_list, others, parents_at, entry_of_row, generation_for, row_word};
+ghost use Rattle.gix_commitgraph.specs.FileCommits.{edge_list, others, parents_at, entry_of_row, row_word};
 ghost use Rattle.gix_commitgraph.specs.FileChecks.{IsSound, IsSoundIn};
 
 use crate::commit_graph::check::{HIGH, NONE};
 use crate::commit_graph::layout::Layout;
+use crate::row::{date, generation, level};
 use gix_base::hash::ObjectId;
 use gix_ids::{id_at, word_at};
 use gix_revwalk::graph::SourceCommit;
@@ -91,22 +92,6 @@ fn parents<A: Allocator>(
     Ok(ids)
 }
 
-/// Returns the time that the last two numbers of a row say.
-fn time(high: usize, low: usize) -> i64
-    requires { low < 2 ^ 32 }
-    ensures { result ≡ pos (high % 4 * 2 ^ 32 + low) }
-{
-    (high % 4 * 0x1_0000_0000 + low) as i64
-}
-
-/// Returns the generation number for a level.
-fn generation(level: usize) -> Option<u32>
-    requires { level < 2 ^ 30 }
-    ensures { result ≡ generation_for level }
-{
-    if level == 0 { None } else { Some(level as u32) }
-}
-
 /// Reads the commit at position `i` of a file of a chain, in the memory of `alloc`. The ids of the
 /// files below are `below`.
 pub(crate) fn commit_in<A: Allocator>(
@@ -122,11 +107,10 @@ pub(crate) fn commit_in<A: Allocator>(
 {
     let high = word_at(bytes, l.rows + 36 * i + 28);
     let low = word_at(bytes, l.rows + 36 * i + 32);
-    let level = high / 4;
     Ok(SourceCommit {
         parents: parents(bytes, l, below, i, alloc)?,
-        time: time(high, low),
-        generation: generation(level),
+        time: date(high, low),
+        generation: generation(level(high)),
     })
 }
 

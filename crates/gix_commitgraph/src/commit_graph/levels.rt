@@ -8,6 +8,7 @@ ghost use Rattle.gix_commitgraph.specs.FileChecks.{IsSound};
 
 use crate::commit_graph::check::{HIGH, NONE};
 use crate::commit_graph::layout::Layout;
+use crate::row;
 use gix_ids::word_at;
 
 /// Reads the level of the commit at position `i`.
@@ -17,7 +18,7 @@ fn level(bytes: &[u8], l: Layout, i: usize) -> usize
     ensures value { result ≡ level_at bytes.now l i }
     ensures bound { result < 2 ^ 30 }
 {
-    word_at(bytes, l.rows + 36 * i + 28) / 4
+    row::level(word_at(bytes, l.rows + 36 * i + 28))
 }
 
 /// Returns whether `p` is the position of a commit whose level is less than `limit`.
