@@ -6,9 +6,10 @@ use Rattle.std.specs.Prelude.{◌⊎◌, nat_eq, is_some, Result, Ok, Err, IfOk}
 use Rattle.std.specs.Option.{option_map, unwrap_or}
 use Rattle.std.specs.Cmp.Lexicographic.{pointwise}
 use Rattle.gix_ref.specs.declared.store.Reading.{Reading}
-use Rattle.gix_ref.specs.Known.{Read, Known, first_read, content_of, reference_says, says, Grows, read_of, reads_of}
-use Rattle.gix_ref.specs.Loose.{loose_says}
-use Rattle.gix_ref.specs.Packed.{packed_says}
+use Rattle.gix_ref_text.specs.Known.{Read, Known, first_read, content_of, reference_says, says, Grows}
+use Rattle.gix_ref.specs.Known.{read_of, reads_of}
+use Rattle.gix_ref_text.specs.Loose.{loose_says}
+use Rattle.gix_ref_text.specs.Packed.{packed_says}
 
 pub reads-append : {A : Type 0} → (xs ys : List (Reading A)) → reads_of (xs ++ ys) ≡ reads_of xs ++ reads_of ys
 reads-append [] ys = refl

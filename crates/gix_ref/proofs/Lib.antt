@@ -1,10 +1,3 @@
-pub mod Cut
-pub mod Ids
-pub mod Trims
 pub mod Knows
-pub mod Changes
 pub mod Leads
 pub mod Rules
-pub mod Told
-pub mod Rising
-pub mod Places

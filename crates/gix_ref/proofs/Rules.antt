@@ -2,8 +2,8 @@
 use Rattle.std.proofs.Common.{◌≡◌, ℕ, List, [], ◌∷◌, ◌++◌, Option, refl, ap, ◌∙◌}
 use Rattle.std.specs.Prelude.{map}
 use Rattle.std.proofs.lemmas.List.{map-append}
-use Rattle.gix_ref.specs.Leads.{Leads}
-use Rattle.gix_ref.specs.Short.{Meant, wins, first_found}
+use Rattle.gix_ref_text.specs.Leads.{Leads}
+use Rattle.gix_ref_text.specs.Short.{Meant, wins, first_found}
 
 first-append : (ns : List (List ℕ)) (n : List ℕ) (leads : List ℕ → Leads) (others : Option Meant)
     → first_found (ns ++ n ∷ []) leads others ≡ first_found ns leads (wins (leads n) n others)

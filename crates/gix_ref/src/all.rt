@@ -2,14 +2,15 @@
 
 use crate::error::{Error, ErrorName, Fault};
 use crate::files::{ensure_missing, fault_of, read, read_listed};
-use crate::find::{Led, MOST_READ, Reference};
-use crate::lines::cut;
-use crate::loose::{self, Said};
-use crate::name::is_full_name;
-use crate::packed::{peeled_after, peeled_in, record};
+use crate::find::MOST_READ;
 use crate::store::References;
 use gix_base::hash::ObjectId;
 use gix_files::{FileError, Folders};
+use gix_ref_text::leads::{Led, Reference};
+use gix_ref_text::lines::cut;
+use gix_ref_text::loose::{self, Said};
+use gix_ref_text::name::is_full_name;
+use gix_ref_text::packed::{peeled_after, peeled_in, record};
 use std::alloc::{Allocator, Global};
 use std::io::ErrorKind;
 

@@ -1,8 +1,8 @@
 //! Reads files whole.
 
 use crate::error::{ErrorName, Fault};
-use crate::lines::cut;
 use gix_files::{FileError, Folders, Opened};
+use gix_ref_text::lines::cut;
 use std::alloc::Allocator;
 use std::io::ErrorKind;
 

@@ -2,19 +2,22 @@
 
 ghost use Rattle.std.specs.Prelude.{◌≡◌, [], IfOk, IfSome, OnErr, Some};
 ghost use Rattle.std.specs.Option.{option_map, unwrap_or};
-ghost use Rattle.gix_ref.specs.Loose.{loose_says};
-ghost use Rattle.gix_ref.specs.Packed.{packed_says};
-ghost use Rattle.gix_ref.specs.Known.{Known, Grows, known, says};
-ghost use Rattle.gix_ref.specs.Leads.{leads, name_leads, name_says, Settles};
-ghost use Rattle.gix_ref.specs.Found.{found_says, led_to, answer_says, answer_leads};
+ghost use Rattle.gix_ref_text.specs.Loose.{loose_says};
+ghost use Rattle.gix_ref_text.specs.Packed.{packed_says};
+ghost use Rattle.gix_ref_text.specs.Known.{Known, Grows, says};
+ghost use Rattle.gix_ref_text.specs.Leads.{leads, name_leads, name_says, Settles};
+ghost use Rattle.gix_ref_text.specs.Found.{found_says, led_to};
+ghost use Rattle.gix_ref.specs.Known.{known};
+ghost use Rattle.gix_ref.specs.Found.{answer_says, answer_leads};
 
 use crate::error::{Error, ErrorName, Fault};
-use crate::loose::{self, Said};
-use crate::name::is_full_name;
-use crate::packed::Packed;
 use crate::store::References;
 use gix_base::hash::ObjectId;
 use gix_files::Folders;
+use gix_ref_text::leads::{Found, Led, Reference, Step, next_step};
+use gix_ref_text::loose::{self, Said};
+use gix_ref_text::name::is_full_name;
+use gix_ref_text::packed::Packed;
 use std::alloc::{Allocator, Global};
 
 /// How many references are read at most, one leading to the next, as in git.
@@ -30,34 +33,6 @@ pub enum Target<A: Allocator = Global> {
     },
     /// The full name of a reference (git-symbolic-ref).
     Symbolic(Vec<u8, A>),
-}
-
-/// A reference that says an id.
-#[derive(Drop)]
-pub struct Reference<A: Allocator = Global> {
-    /// The full name of the last reference, to which the symbolic ones lead.
-    pub name: Vec<u8, A>,
-    pub id: ObjectId,
-    /// The object to which the tag with this id leads, if `packed-refs` says it.
-    pub peeled: Option<ObjectId>,
-}
-
-/// What a reference says, or that it says garbage.
-#[derive(Drop)]
-pub(crate) enum Found<A: Allocator> {
-    Id(ObjectId, Option<ObjectId>),
-    LeadsTo(Vec<u8, A>),
-    Garbage,
-}
-
-/// Where symbolic references lead.
-#[derive(Drop)]
-pub(crate) enum Led<A: Allocator> {
-    Ends(Reference<A>),
-    Nowhere,
-    /// To a broken reference of this name.
-    Breaks(ErrorName),
-    TooFar,
 }
 
 impl<F: Folders + Drop, A: Allocator + Copy> References<F, A> {
@@ -109,14 +84,9 @@ impl<F: Folders + Drop, A: Allocator + Copy> References<F, A> {
         let mut last = name.to_vec(self.alloc)?;
         for _ in 0..most {
             let found = self.look_up(&last)?;
-            match found {
-                Some(Found::Id(id, peeled)) => {
-                    let name = last;
-                    return Ok(Led::Ends(Reference { name, id, peeled }));
-                }
-                Some(Found::LeadsTo(next)) => last = next,
-                Some(Found::Garbage) => return Ok(Led::Breaks(ErrorName::new(&last))),
-                None => return Ok(Led::Nowhere),
+            match next_step(last, found) {
+                Step::Done(led) => return Ok(led),
+                Step::Next(next) => last = next,
             }
         }
         Ok(Led::TooFar)
@@ -176,7 +146,7 @@ impl<F: Folders + Drop, A: Allocator + Copy> References<F, A> {
         match self.follow_name(name) {
             Ok(Led::Ends(reference)) => Ok(Some(reference)),
             Ok(Led::Nowhere) => Ok(None),
-            Ok(Led::Breaks(broken)) => Err(Error::Broken(broken)),
+            Ok(Led::Breaks(broken)) => Err(Error::Broken(ErrorName::new(&broken))),
             Ok(Led::TooFar) => Err(Error::TooDeep(ErrorName::new(name))),
             Err(fault) => Err(fault.error()),
         }

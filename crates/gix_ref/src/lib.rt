@@ -1,6 +1,7 @@
 //! Reads the references and the reflogs of a repository (gitrepository-layout, "refs").
 //!
 //! [`References`] is opened on a `.git` folder, and reaches files by the traits of `gix_files` alone.
+//! What the texts in them say is in `gix_ref_text`.
 //! A reference is a loose file or, if there is no such file, a line of `packed-refs`.
 //!
 //! - [`References::find`] returns what one reference says, and [`References::follow`] the id at
@@ -18,20 +19,17 @@ mod all;
 mod error;
 mod files;
 mod find;
-mod lines;
 mod log;
-mod loose;
-mod name;
-mod packed;
 mod place;
 mod short;
-mod snapshot;
 mod store;
 
 pub use all::{Listed, Listing, Skipped, Why};
 pub use error::{Error, ErrorName};
-pub use find::{Reference, Target};
-pub use log::{AtDate, LogEntry, Reflog};
-pub use name::is_full_name;
-pub use short::{Logged, Named};
+pub use find::Target;
+pub use gix_ref_text::leads::Reference;
+pub use gix_ref_text::log::{AtDate, LogEntry, Reflog};
+pub use gix_ref_text::name::is_full_name;
+pub use gix_ref_text::rules::Named;
+pub use short::Logged;
 pub use store::References;

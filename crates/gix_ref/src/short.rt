@@ -1,35 +1,27 @@
 //! Reads short names by git's six rules (gitrevisions, `<refname>`), and shortens full names.
 
-ghost use Rattle.std.specs.Prelude.{◌≡◌, ◌++◌, IfOk, None, map};
+ghost use Rattle.std.specs.Prelude.{◌≡◌, IfOk, None, map};
 ghost use Rattle.std.specs.Option.{option_map};
-ghost use Rattle.gix_ref.specs.Known.{Grows, known};
-ghost use Rattle.gix_ref.specs.Leads.{name_leads, Settles};
-ghost use Rattle.gix_ref.specs.Short.{full_names, wins, first_found, short_means, meant};
+ghost use Rattle.gix_ref_text.specs.Known.{Grows};
+ghost use Rattle.gix_ref_text.specs.Leads.{name_leads, Settles};
+ghost use Rattle.gix_ref_text.specs.Found.{led_to};
+ghost use Rattle.gix_ref_text.specs.Short.{wins, first_found, short_means, meant};
+ghost use Rattle.gix_ref.specs.Known.{known};
 
 use crate::all::{Skipped, Why, why_garbage};
 use crate::error::{Error, Fault};
-use crate::find::{Led, Reference};
-use crate::log::Reflog;
-use crate::loose::{self, Said};
-use crate::name::is_full_name;
 use crate::store::References;
 use gix_base::hash::ObjectId;
 use gix_files::Folders;
-use std::alloc::{AllocError, Allocator, Global};
+use gix_ref_text::leads::{Led, Reference};
+use gix_ref_text::log::Reflog;
+use gix_ref_text::loose::{self, Said};
+use gix_ref_text::name::is_full_name;
+use gix_ref_text::rules::{Named, full_names, winner};
+use std::alloc::{Allocator, Global};
 
 /// What the full names begin with by the rules, the rule that wins first.
 static FRONTS: [&str; 5] = ["", "refs/", "refs/tags/", "refs/heads/", "refs/remotes/"];
-
-/// The reference that a short name stands for.
-#[derive(Drop)]
-pub struct Named<A: Allocator = Global> {
-    /// The full name by the rule. It may be that of a symbolic reference.
-    pub name: Vec<u8, A>,
-    /// The reference to which it leads.
-    pub reference: Reference<A>,
-    /// Whether a further rule has a reference, too.
-    pub is_ambiguous: bool,
-}
 
 /// The reference with a reflog that a short name stands for.
 #[derive(Drop)]
@@ -41,36 +33,6 @@ pub struct Logged<A: Allocator = Global> {
     pub reflog: Reflog<A>,
     /// Whether a further rule has a reference with a reflog, too.
     pub is_ambiguous: bool,
-}
-
-/// Returns three texts one behind the other.
-fn joined<A: Allocator>(
-    alloc: A,
-    front: &[u8],
-    middle: &[u8],
-    end: &[u8],
-) -> Result<Vec<u8, A>, AllocError>
-    ensures { IfOk result (λ name. name.items ≡ front.now ++ middle.now ++ end.now) }
-{
-    let mut name = Vec::new(alloc);
-    name.extend_from_slice(front)?;
-    name.extend_from_slice(middle)?;
-    name.extend_from_slice(end)?;
-    Ok(name)
-}
-
-/// Returns the full names of a short one by the six rules, the one that wins first.
-fn full_names<A: Allocator + Copy>(alloc: A, short: &[u8]) -> Result<Vec<Vec<u8, A>, A>, Fault>
-    ensures { IfOk result (λ names. map (λ n. n.items) names.items ≡ full_names short.now) }
-{
-    let mut names = Vec::new(alloc);
-    names.push(joined(alloc, b"", short, b"")?)?;
-    names.push(joined(alloc, b"refs/", short, b"")?)?;
-    names.push(joined(alloc, b"refs/tags/", short, b"")?)?;
-    names.push(joined(alloc, b"refs/heads/", short, b"")?)?;
-    names.push(joined(alloc, b"refs/remotes/", short, b"")?)?;
-    names.push(joined(alloc, b"refs/remotes/", short, b"/HEAD")?)?;
-    Ok(names)
 }
 
 impl<F: Folders + Drop, A: Allocator + Copy> References<F, A> {
@@ -104,6 +66,19 @@ impl<F: Folders + Drop, A: Allocator + Copy> References<F, A> {
         Ok(())
     }
 
+    /// Returns where a full name leads. Notes why it is passed over if it leads to no id.
+    fn follow_noted(&mut self, name: &[u8]) -> Result<Led<A>, Fault>
+        ensures grows { Grows (known self.old) (known self.new) }
+        ensures led { IfOk result (λ l. Settles (known self.new) (λ k. name_leads k name.now) (led_to l)) }
+    {
+        let led = self.follow_name(name)?;
+        match led {
+            Led::Ends(_) => {}
+            _ => self.note_passed(name)?,
+        }
+        Ok(led)
+    }
+
     /// Returns the reference to which a full name leads, or else what further names lead to.
     fn found_before(
         &mut self,
@@ -113,17 +88,8 @@ impl<F: Folders + Drop, A: Allocator + Copy> References<F, A> {
         ensures grows { Grows (known self.old) (known self.new) }
         ensures found { IfOk result (λ found. Settles (known self.new) (λ k. wins (name_leads k name.items) name.items (option_map meant others)) (option_map meant found)) }
     {
-        match self.follow_name(&name)? {
-            Led::Ends(reference) => Ok(Some(Named {
-                name,
-                reference,
-                is_ambiguous: others.is_some(),
-            })),
-            _ => {
-                self.note_passed(&name)?;
-                Ok(others)
-            }
-        }
+        let led = self.follow_noted(&name)?;
+        Ok(winner(name, led, others))
     }
 
     /// Returns the reference to which the first of some full names leads that leads to one.

@@ -2,16 +2,17 @@
 
 ghost use Rattle.std.specs.Prelude.{◌≡◌, ◌++◌, ◌∷◌, [], OnOk, is_some, true};
 ghost use Rattle.std.specs.Option.{option_map, unwrap_or};
-ghost use Rattle.gix_ref.specs.Known.{Grows, known, read_of, first_read, content_of};
+ghost use Rattle.gix_ref_text.specs.Known.{Grows, first_read, content_of};
+ghost use Rattle.gix_ref.specs.Known.{known, read_of};
 
 use crate::all::{Listing, Skipped};
 use crate::error::{Error, ErrorName, Fault};
 use crate::files::{fault_of, read, read_file};
-use crate::loose::is_untrimmed;
-use crate::name::is_full_name;
 use crate::place::located;
-use crate::snapshot::Snapshot;
 use gix_files::{FileError, Folders};
+use gix_ref_text::loose::is_untrimmed;
+use gix_ref_text::name::is_full_name;
+use gix_ref_text::snapshot::Snapshot;
 use std::alloc::{Allocator, Global};
 use std::io::ErrorKind;
 

@@ -1,6 +1,6 @@
 use Rattle.std.proofs.Common.{◌≡◌, ◌∙◌, ap, sym, None}
-use Rattle.gix_ref.specs.Leads.{name_leads}
-use Rattle.gix_ref.specs.Short.{first_found}
+use Rattle.gix_ref_text.specs.Leads.{name_leads}
+use Rattle.gix_ref_text.specs.Short.{first_found}
 use Rattle.gix_ref.proofs.Knows.{if_ok}
 use Rattle.gix_ref.proofs.store.References.by_rules.Goals as goal
 

@@ -2,8 +2,8 @@ use Rattle.std.proofs.Common.{◌≡◌, ◌+◌, ◌++◌, [], ◌∷◌, lengt
 use Rattle.std.specs.Prelude.{map}
 use Rattle.std.specs.Option.{option_map, option_to_list}
 use Rattle.std.proofs.lemmas.List.{nil_from_length, length-append}
-use Rattle.gix_ref.specs.Leads.{name_leads}
-use Rattle.gix_ref.specs.Short.{first_found, meant}
+use Rattle.gix_ref_text.specs.Leads.{name_leads}
+use Rattle.gix_ref_text.specs.Short.{first_found, meant}
 use Rattle.gix_ref.proofs.Knows.{grows-trans}
 use Rattle.gix_ref.proofs.Rules.{last-before}
 use Rattle.gix_ref.proofs.store.References.first_found.Goals as goal

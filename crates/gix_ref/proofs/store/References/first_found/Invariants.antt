@@ -1,9 +1,10 @@
 use Rattle.std.proofs.Common.{◌≡◌, ◌+◌, length, None}
 use Rattle.std.specs.Prelude.{map}
 use Rattle.std.specs.Option.{option_map}
-use Rattle.gix_ref.specs.Known.{Known, Grows, known}
-use Rattle.gix_ref.specs.Leads.{name_leads}
-use Rattle.gix_ref.specs.Short.{first_found, meant}
+use Rattle.gix_ref_text.specs.Known.{Known, Grows}
+use Rattle.gix_ref.specs.Known.{known}
+use Rattle.gix_ref_text.specs.Leads.{name_leads}
+use Rattle.gix_ref_text.specs.Short.{first_found, meant}
 use Rattle.gix_ref.proofs.store.References.first_found.Given as goal
 
 abbrev pub invariant-loop : goal.invariant-loop

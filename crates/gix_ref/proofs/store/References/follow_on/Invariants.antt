@@ -1,6 +1,7 @@
 use Rattle.std.proofs.Common.{◌≡◌, ◌-◌}
-use Rattle.gix_ref.specs.Known.{Known, Grows, known}
-use Rattle.gix_ref.specs.Leads.{leads}
+use Rattle.gix_ref_text.specs.Known.{Known, Grows}
+use Rattle.gix_ref.specs.Known.{known}
+use Rattle.gix_ref_text.specs.Leads.{leads}
 use Rattle.gix_ref.proofs.store.References.follow_on.Given as goal
 
 abbrev pub invariant-loop : goal.invariant-loop

@@ -1,6 +1,6 @@
 use Rattle.std.proofs.Common.{List, [], ◌∷◌, refl, inr}
 use Rattle.std.specs.Option.{option_map}
-use Rattle.gix_ref.specs.Known.{Read}
+use Rattle.gix_ref_text.specs.Known.{Read}
 use Rattle.gix_ref.proofs.Knows.{kept}
 use Rattle.gix_ref.proofs.store.References.keep.Goals as goal
 

@@ -1,6 +1,6 @@
 use Rattle.std.proofs.Common.{ap, ◌∙◌}
 use Rattle.std.specs.Prelude.{is_some}
-use Rattle.gix_ref.specs.Known.{first_read}
+use Rattle.gix_ref_text.specs.Known.{first_read}
 use Rattle.gix_ref.proofs.Knows.{found_last}
 use Rattle.gix_ref.proofs.store.References.read_loose.Goals as goal
 

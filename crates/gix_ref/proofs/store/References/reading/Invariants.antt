@@ -1,5 +1,6 @@
 use Rattle.std.proofs.Common.{◌≡◌, drop}
-use Rattle.gix_ref.specs.Known.{first_read, reads_of}
+use Rattle.gix_ref_text.specs.Known.{first_read}
+use Rattle.gix_ref.specs.Known.{reads_of}
 use Rattle.gix_ref.proofs.store.References.reading.Given as goal
 
 abbrev pub invariant-loop-reading : goal.invariant-loop-reading

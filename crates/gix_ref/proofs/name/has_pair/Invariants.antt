@@ -1,6 +1,0 @@
-use Rattle.std.proofs.Common.{◌≡◌, drop}
-use Rattle.gix_ref.specs.Names.{has_pair}
-use Rattle.gix_ref.proofs.name.has_pair.Given as goal
-
-abbrev pub invariant-loop-byte : goal.invariant-loop-byte
-invariant-loop-byte l = has_pair l.first l.second 0 l.name ≡ has_pair l.first l.second l.last (drop l.byte-index l.name)

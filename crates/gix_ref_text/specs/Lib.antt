@@ -1,0 +1,11 @@
+pub mod Lines
+pub mod Names
+pub mod Loose
+pub mod Packed
+pub mod Snapshot
+pub mod Said
+pub mod Known
+pub mod Leads
+pub mod Found
+pub mod Short
+pub mod Changes
