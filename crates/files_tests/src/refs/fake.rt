@@ -2,7 +2,7 @@
 
 ghost use Rattle.std.specs.Prelude.{◌≤◌, length, IfOk};
 
-use crate::files::Written;
+use super::files::Written;
 use gix_files::{FileError, Folders, Opened};
 use std::alloc::Allocator;
 use std::cell::Cell;

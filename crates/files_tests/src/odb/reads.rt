@@ -1,7 +1,7 @@
 //! Reads all objects while each call on a file, and each allocation, fails in turn.
 
-use crate::fake::{Fake, Turn};
-use crate::tables::{IDS, all_written};
+use super::fake::{Fake, Turn};
+use super::tables::{IDS, all_written};
 use gix_base::hash::{ObjectId, Prefix};
 use gix_files::Folders;
 use gix_odb::{Error, Store};

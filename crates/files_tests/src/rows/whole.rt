@@ -1,7 +1,7 @@
 //! Opens the chain of the tables as a whole (`gix_commitgraph`), while each allocation fails in turn.
 
-use crate::reads::is_right;
-use crate::tables::{COMMITS, Wanted, all_written};
+use super::reads::is_right;
+use super::tables::{COMMITS, Wanted, all_written};
 use gix_base::hash::ObjectId;
 use gix_commitgraph::commit_graph::{Chain, ChainFault, CommitGraph, LevelledGraph};
 use gix_revwalk::Seed;

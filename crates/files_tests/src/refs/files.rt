@@ -1,6 +1,6 @@
 //! Has the files of a repository in memory.
 
-use crate::texts::written_out;
+use super::texts::written_out;
 use std::alloc::{AllocError, Global};
 
 /// A file with its path.

@@ -1,6 +1,6 @@
 //! Has files `packed-refs`, names, and what git 2.39.5 says of each name. A bar is a line feed.
 
-use crate::questions::Ask;
+use super::questions::Ask;
 
 /// Files, and rows in the form of `questions` about references in them.
 pub(crate) static PACKED: [(&str, Ask, &str); 12] = [

@@ -1,7 +1,7 @@
 //! Answers the questions of the tables as texts, and compares them.
 
-use crate::questions::{Ask, Row};
-use crate::texts::Text;
+use super::questions::{Ask, Row};
+use super::texts::Text;
 use gix_base::hash::ObjectId;
 use gix_files::Folders;
 use gix_ref::{AtDate, Error, Listed, References, Skipped, Target};

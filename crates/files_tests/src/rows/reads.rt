@@ -1,7 +1,7 @@
 //! Reads all commits while each call on a file, and each allocation, fails in turn.
 
-use crate::fake::{Fake, Turn};
-use crate::tables::{COMMITS, Wanted, all_written};
+use super::fake::{Fake, Turn};
+use super::tables::{COMMITS, Wanted, all_written};
 use gix_base::hash::ObjectId;
 use gix_files::Folders;
 use gix_graph_rows::{Error, GraphRows};

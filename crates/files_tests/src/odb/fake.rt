@@ -2,7 +2,7 @@
 
 ghost use Rattle.std.specs.Prelude.{◌≤◌, length, IfOk};
 
-use crate::tables::PATHS;
+use super::tables::PATHS;
 use gix_files::{FileError, Folders, Opened};
 use std::alloc::Allocator;
 use std::cell::Cell;
@@ -61,6 +61,14 @@ impl<'a> Opened for Held<'a> {
     }
 }
 
+/// Returns what comes after a folder and a slash in a path.
+fn below<'a>(path: &'a [u8], folder: &[u8]) -> Option<&'a [u8]> {
+    match path.strip_prefix(folder) {
+        Some([b'/', rest @ ..]) => Some(rest),
+        _ => None,
+    }
+}
+
 impl<'a> Folders for Fake<'a> {
     type Opened = Held<'a>;
 
@@ -78,16 +86,30 @@ impl<'a> Folders for Fake<'a> {
         Ok(None)
     }
 
-    fn names<A: Allocator>(&self, _path: &[u8], _names: &mut Vec<u8, A>) -> Result<(), FileError> {
-        self.turn.call()
+    fn names<A: Allocator>(&self, path: &[u8], names: &mut Vec<u8, A>) -> Result<(), FileError> {
+        self.turn.call()?;
+        for name in &PATHS {
+            if let Some(rest) = below(name.as_bytes(), path) {
+                names.extend_from_slice(rest)?;
+                names.push(0)?;
+            }
+        }
+        Ok(())
     }
 
     fn real_path<A: Allocator>(
         &self,
-        _path: &[u8],
-        _real: &mut Vec<u8, A>,
+        path: &[u8],
+        real: &mut Vec<u8, A>,
     ) -> Result<bool, FileError> {
         self.turn.call()?;
+        let folder = path.strip_prefix(b"/").unwrap_or(path);
+        for name in &PATHS {
+            if below(name.as_bytes(), folder).is_some() {
+                real.extend_from_slice(folder)?;
+                return Ok(true);
+            }
+        }
         Ok(false)
     }
 }

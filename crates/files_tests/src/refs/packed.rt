@@ -2,10 +2,10 @@
 
 ghost use Rattle.std.specs.Prelude.{◌≤◌, length, IfOk};
 
-use crate::answers::{Outcome, asked};
-use crate::packed_rows::{DAMAGED, DANGEROUS, PACKED, WHOLE};
-use crate::questions::{Ask, row_of};
-use crate::texts::written_out;
+use super::answers::{Outcome, asked};
+use super::packed_rows::{DAMAGED, DANGEROUS, PACKED, WHOLE};
+use super::questions::{Ask, row_of};
+use super::texts::written_out;
 use gix_files::{FileError, Folders, Opened};
 use gix_ref::{Error, References};
 use std::alloc::{AllocError, Allocator, Global};

@@ -1,9 +1,9 @@
 //! Asks the questions of the tables, also while a call or an allocation fails.
 
-use crate::answers::{Outcome, asked};
-use crate::fake::Fake;
-use crate::files::{Written, files};
-use crate::questions::{Ask, Row, TABLES, row_of};
+use super::answers::{Outcome, asked};
+use super::fake::Fake;
+use super::files::{Written, files};
+use super::questions::{Ask, Row, TABLES, row_of};
 use gix_files::Folders;
 use gix_ref::References;
 use refusing::Refusing;

@@ -1,0 +1,5 @@
+//! Tests of `gix_odb`.
+
+mod fake;
+mod reads;
+mod tables;

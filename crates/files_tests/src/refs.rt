@@ -1,0 +1,11 @@
+//! Tests of `gix_ref`.
+
+mod answers;
+mod fake;
+mod files;
+mod moving;
+mod packed;
+mod packed_rows;
+mod questions;
+mod rows;
+mod texts;

@@ -1,9 +1,0 @@
-//! Tests of `gix_odb` over files in memory: each read and each allocation fails in turn.
-#![tactic(auto)]
-
-#[cfg(test)]
-mod fake;
-#[cfg(test)]
-mod reads;
-#[cfg(test)]
-mod tables;
