@@ -1,5 +1,4 @@
 //! Tests of `gix_odb`.
 
-mod fake;
 mod reads;
 mod tables;

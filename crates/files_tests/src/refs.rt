@@ -1,7 +1,6 @@
 //! Tests of `gix_ref`.
 
 mod answers;
-mod fake;
 mod files;
 mod moving;
 mod packed;

@@ -1,12 +1,13 @@
 //! Reads all objects while each call on a file, and each allocation, fails in turn.
 
-use super::fake::{Fake, Turn};
-use super::tables::{IDS, all_written};
+use super::tables::{FILES, IDS};
+use crate::failures::{Outcome, Trial, failed_allocations, failed_calls};
+use crate::fake::{Fake, Turn};
+use crate::files::files_of;
 use gix_base::hash::{ObjectId, Prefix};
 use gix_files::Folders;
 use gix_odb::{Error, Store};
-use refusing::Refusing;
-use std::alloc::{Allocator, Global};
+use std::alloc::Allocator;
 use std::cell::Cell;
 use std::io::ErrorKind;
 use std::test::Fail;
@@ -17,12 +18,6 @@ fn is_refusal(error: Error) -> bool {
         error,
         Error::Failed(_, ErrorKind::Other) | Error::OutOfMemory
     )
-}
-
-/// Returns the files. The call on them with the number `fails` fails.
-fn fake<'a>(files: &'a [Vec<u8>], calls: &'a Cell<u64>, fails: u64, most: usize) -> Fake<'a> {
-    let turn = Turn { calls, fails };
-    Fake { files, turn, most }
 }
 
 /// Opens the store, once more if the first try was refused.
@@ -37,112 +32,129 @@ fn opened<F: Folders + Copy + Drop, A: Allocator + Copy>(
     }
 }
 
-/// Tells whether the object with this id is read, at the second try if the first was refused.
-///
-/// A store that has passed over a folder is not whole, and may refuse once more.
-fn is_read<F: Folders + Drop, A: Allocator + Copy>(
+/// What is asked of a store.
+#[derive(Clone, Copy)]
+enum Ask {
+    /// Whether the object with an id is read.
+    Read(ObjectId),
+    /// Whether the store has the object.
+    Has(ObjectId),
+    /// Whether the id is the only one that begins with a prefix.
+    Completes(ObjectId, Prefix),
+    /// Whether a missing object is reported.
+    Misses,
+}
+
+/// Tells whether the object with an id is read.
+fn reads<F: Folders + Drop, A: Allocator + Copy>(
     alloc: A,
     store: &mut Store<F, A>,
     id: ObjectId,
-    is_whole: bool,
-) -> bool {
+) -> Result<bool, Error> {
     match store.read(alloc, id) {
-        Ok(_) => true,
-        Err(error) if is_refusal(error) => match store.read(alloc, id) {
-            Ok(_) => true,
-            Err(error) => !is_whole && is_refusal(error),
-        },
-        Err(_) => false,
+        Ok(_) => Ok(true),
+        Err(error) => Err(error),
     }
 }
 
-/// Tells whether a missing object is reported, in the same way.
-fn is_missing<F: Folders + Drop, A: Allocator + Copy>(
+/// Tells whether a missing object is reported.
+fn misses<F: Folders + Drop, A: Allocator + Copy>(
     alloc: A,
     store: &mut Store<F, A>,
-    is_whole: bool,
-) -> bool {
-    let id = ObjectId([0xf3; 20]);
-    match store.read(alloc, id) {
-        Ok(_) => false,
-        Err(Error::Missing(_)) => true,
-        Err(error) if is_refusal(error) => match store.read(alloc, id) {
-            Err(Error::Missing(_)) => true,
-            Err(error) => !is_whole && is_refusal(error),
-            Ok(_) => false,
-        },
-        Err(_) => false,
-    }
-}
-
-/// Tells whether the store has the object, in the same way.
-fn is_had<F: Folders + Drop, A: Allocator + Copy>(
-    alloc: A,
-    store: &mut Store<F, A>,
-    id: ObjectId,
-    is_whole: bool,
-) -> bool {
-    match store.has(alloc, id) {
-        Ok(is_there) => is_there,
-        Err(error) if is_refusal(error) => match store.has(alloc, id) {
-            Ok(is_there) => is_there,
-            Err(error) => !is_whole && is_refusal(error),
-        },
-        Err(_) => false,
+) -> Result<bool, Error> {
+    match reads(alloc, store, ObjectId([0xf3; 20])) {
+        Ok(_) => Ok(false),
+        Err(Error::Missing(_)) => Ok(true),
+        Err(error) => Err(error),
     }
 }
 
 /// Tells whether the id is the only one that begins with its first digits.
-fn is_alone<F: Folders + Drop, A: Allocator + Copy>(
+fn completes<F: Folders + Drop, A: Allocator + Copy>(
     alloc: A,
     store: &mut Store<F, A>,
     id: ObjectId,
     prefix: Prefix,
 ) -> Result<bool, Error> {
     let ids = store.completions(alloc, prefix, 2)?;
-    Ok(ids.len() == 1 && ids.first() == Some(&id))
+    Ok(ids.as_slice() == [id].as_slice())
 }
 
-/// Tells whether the first digits of an id are completed, in the same way.
-fn is_completed<F: Folders + Drop, A: Allocator + Copy>(
+/// Asks once.
+fn asked<F: Folders + Drop, A: Allocator + Copy>(
     alloc: A,
     store: &mut Store<F, A>,
-    id: ObjectId,
+    ask: Ask,
+) -> Result<bool, Error> {
+    match ask {
+        Ask::Read(id) => reads(alloc, store, id),
+        Ask::Has(id) => store.has(alloc, id),
+        Ask::Completes(id, prefix) => completes(alloc, store, id, prefix),
+        Ask::Misses => misses(alloc, store),
+    }
+}
+
+/// Says what came of a question whose answer is to be yes.
+fn outcome_of(answer: Result<bool, Error>) -> Outcome {
+    match answer {
+        Ok(true) => Outcome::Right,
+        Ok(false) => Outcome::Wrong,
+        Err(error) if is_refusal(error) => Outcome::Failed,
+        Err(_) => Outcome::Wrong,
+    }
+}
+
+/// Tells whether the answer is yes, at the second try if the first was refused.
+///
+/// A store that has passed over a folder is not whole, and may refuse once more.
+fn holds<F: Folders + Drop, A: Allocator + Copy>(
+    alloc: A,
+    store: &mut Store<F, A>,
+    ask: Ask,
+    is_whole: bool,
+) -> bool {
+    let mut outcome = outcome_of(asked(alloc, store, ask));
+    if outcome == Outcome::Failed {
+        outcome = outcome_of(asked(alloc, store, ask));
+    }
+    match outcome {
+        Outcome::Right => true,
+        Outcome::Wrong => false,
+        Outcome::Failed => !is_whole,
+    }
+}
+
+/// Tells whether the object with an id is found and read.
+fn is_found<F: Folders + Drop, A: Allocator + Copy>(
+    alloc: A,
+    store: &mut Store<F, A>,
     digits: &str,
     is_whole: bool,
 ) -> bool {
     let first = digits.as_bytes().get(..4).unwrap_or(&[]);
-    let Ok(prefix) = Prefix::from_hex(first) else {
+    let (Ok(id), Ok(prefix)) = (
+        ObjectId::from_hex(digits.as_bytes()),
+        Prefix::from_hex(first),
+    ) else {
         return false;
     };
-    match is_alone(alloc, store, id, prefix) {
-        Ok(is_so) => is_so,
-        Err(error) if is_refusal(error) => match is_alone(alloc, store, id, prefix) {
-            Ok(is_so) => is_so,
-            Err(error) => !is_whole && is_refusal(error),
-        },
-        Err(_) => false,
-    }
+    holds(alloc, store, Ask::Completes(id, prefix), is_whole)
+        && holds(alloc, store, Ask::Has(id), is_whole)
+        && holds(alloc, store, Ask::Read(id), is_whole)
 }
 
 /// Tells whether all objects are found and read, and no other.
-fn are_read<F: Folders + Drop, A: Allocator + Copy>(
+fn are_found<F: Folders + Drop, A: Allocator + Copy>(
     alloc: A,
     store: &mut Store<F, A>,
     is_whole: bool,
 ) -> bool {
     for digits in &IDS {
-        let Ok(id) = ObjectId::from_hex(digits.as_bytes()) else {
-            return false;
-        };
-        if !is_completed(alloc, store, id, digits, is_whole)
-            || !is_had(alloc, store, id, is_whole)
-            || !is_read(alloc, store, id, is_whole)
-        {
+        if !is_found(alloc, store, digits, is_whole) {
             return false;
         }
     }
-    is_missing(alloc, store, is_whole)
+    holds(alloc, store, Ask::Misses, is_whole)
 }
 
 /// Tells whether a new store reads all objects, or refuses those of a folder that it passed over.
@@ -151,59 +163,52 @@ fn reads_all<F: Folders + Copy + Drop, A: Allocator + Copy>(
     files: F,
     is_whole: bool,
 ) -> bool {
-    match opened(alloc, files) {
-        Some(mut store) => are_read(alloc, &mut store, is_whole),
+    match &mut opened(alloc, files) {
+        Some(store) => are_found(alloc, store, is_whole),
         None => false,
     }
 }
 
-/// Returns how many calls on files there are, each of which fails in turn, while all objects are
-/// read at the first or the second try, or refused.
-///
-/// A store that is opened then has to read all objects. Returns 0 if one is not read.
-fn failed_calls(alloc: Global, files: &[Vec<u8>], most: usize) -> u64 {
-    for fails in 0..100_000u64 {
-        let calls = Cell::new(0u64);
-        if !reads_all(alloc, fake(files, &calls, fails, most), false) {
-            return 0;
-        }
-        let called = calls.get();
-        if !reads_all(alloc, fake(files, &calls, u64::MAX, most), true) {
-            return 0;
-        }
-        if called <= fails {
-            return fails;
-        }
-    }
-    0
+/// Tells whether a new store reads all objects while no call fails.
+fn reads_anew<A: Allocator + Copy>(alloc: A, files: Fake<'_>) -> bool {
+    let calls = Cell::new(0u64);
+    let files = Fake {
+        files: files.files,
+        turn: Turn::new(&calls, u64::MAX),
+        most: files.most,
+    };
+    reads_all(alloc, files, true)
 }
 
-/// Returns how many allocations there are, each of which fails in turn, in the same way.
-fn failed_allocations(alloc: Global, files: &[Vec<u8>]) -> u64 {
-    for before in 0..100_000u64 {
-        let calls = Cell::new(0u64);
-        let memory = Refusing::new(alloc, before);
-        if !reads_all(&memory, fake(files, &calls, u64::MAX, usize::MAX), true) {
-            return 0;
-        }
-        if !memory.has_refused() {
-            return before;
-        }
+/// Reads all objects while a call fails. A store that is opened then has to read all of them.
+struct Calls;
+
+impl Trial for Calls {
+    fn holds<A: Allocator + Copy>(&self, alloc: A, files: Fake<'_>) -> bool {
+        reads_all(alloc, files, false) && reads_anew(alloc, files)
     }
-    0
+}
+
+/// Reads all objects while an allocation fails.
+struct Allocations;
+
+impl Trial for Allocations {
+    fn holds<A: Allocator + Copy>(&self, alloc: A, files: Fake<'_>) -> bool {
+        reads_all(alloc, files, true)
+    }
 }
 
 #[test]
 fn survives_each_failed_call(rt: HostRuntime) -> Result<(), Fail> {
-    let files = all_written(rt.alloc())?;
-    assert!(rt; failed_calls(rt.alloc(), &files, usize::MAX) > 30);
-    assert!(rt; failed_calls(rt.alloc(), &files, 100) > 60);
+    let files = files_of(rt.alloc(), &FILES)?;
+    assert!(rt; failed_calls(rt.alloc(), &files, usize::MAX, &Calls) > 30);
+    assert!(rt; failed_calls(rt.alloc(), &files, 100, &Calls) > 60);
     Ok(())
 }
 
 #[test]
 fn survives_each_failed_allocation(rt: HostRuntime) -> Result<(), Fail> {
-    let files = all_written(rt.alloc())?;
-    assert!(rt; failed_allocations(rt.alloc(), &files) > 30);
+    let files = files_of(rt.alloc(), &FILES)?;
+    assert!(rt; failed_allocations(rt.alloc(), &files, usize::MAX, &Allocations) > 30);
     Ok(())
 }

@@ -2,6 +2,7 @@
 
 use super::questions::{Ask, Row};
 use super::texts::Text;
+use crate::failures::Outcome;
 use gix_base::hash::ObjectId;
 use gix_files::Folders;
 use gix_ref::{AtDate, Error, Listed, References, Skipped, Target};
@@ -229,15 +230,6 @@ fn add_answer<F: Folders + Drop, A: Allocator + Copy>(
         Ask::All => add_all(references, &row.name, to),
         Ask::Heads => add_heads(references, to),
     }
-}
-
-/// Says what came of a question.
-#[derive(Clone, Copy, PartialEq, Eq)]
-pub(crate) enum Outcome {
-    Right,
-    Wrong,
-    /// The call on a file failed that was to fail, or the allocation.
-    Failed,
 }
 
 /// Returns the text for an error that an answer of the tables names.

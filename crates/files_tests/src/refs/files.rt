@@ -1,14 +1,7 @@
 //! Has the files of a repository in memory.
 
-use super::texts::written_out;
+use crate::files::{Written, written_out};
 use std::alloc::{AllocError, Global};
-
-/// A file with its path.
-#[derive(Drop)]
-pub(crate) struct Written {
-    pub(crate) path: Vec<u8>,
-    pub(crate) bytes: Vec<u8>,
-}
 
 /// Writes out the file of a row.
 fn file_of(alloc: Global, row: &str) -> Result<Written, AllocError> {

@@ -2,10 +2,11 @@
 
 ghost use Rattle.std.specs.Prelude.{◌≤◌, length, IfOk};
 
-use super::answers::{Outcome, asked};
+use super::answers::asked;
 use super::packed_rows::{DAMAGED, DANGEROUS, PACKED, WHOLE};
 use super::questions::{Ask, row_of};
-use super::texts::written_out;
+use crate::failures::Outcome;
+use crate::files::written_out;
 use gix_files::{FileError, Folders, Opened};
 use gix_ref::{Error, References};
 use std::alloc::{AllocError, Allocator, Global};

@@ -11,7 +11,8 @@
 //! - `nothing` is an answer without a name or an id.
 //! - A bar is a line feed, and each other character is the byte of its number.
 
-use super::texts::{after, written_out};
+use super::texts::after;
+use crate::files::written_out;
 use std::alloc::Global;
 
 /// A question.

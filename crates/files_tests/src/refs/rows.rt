@@ -1,15 +1,19 @@
 //! Asks the questions of the tables, also while a call or an allocation fails.
 
-use super::answers::{Outcome, asked};
-use super::fake::Fake;
-use super::files::{Written, files};
+use super::answers::asked;
+use super::files::files;
 use super::questions::{Ask, Row, TABLES, row_of};
+use crate::failures::{Outcome, Trial, failed_allocations, failed_calls};
+use crate::fake::{Fake, Turn};
+use crate::files::Written;
 use gix_files::Folders;
 use gix_ref::References;
-use refusing::Refusing;
 use std::alloc::{AllocError, Allocator, Global};
 use std::cell::Cell;
 use std::test::Fail;
+
+/// A read returns at most so many bytes.
+const MOST: usize = 100;
 
 /// Asks a question, and once more if it failed: a failure leaves nothing behind.
 fn asked_twice<F: Folders + Drop, A: Allocator + Copy>(alloc: A, files: F, row: &Row) -> Outcome {
@@ -26,52 +30,15 @@ fn asked_twice<F: Folders + Drop, A: Allocator + Copy>(alloc: A, files: F, row: 
 /// Tests whether a question is answered as git answers it, while no call fails.
 fn is_right(alloc: Global, files: &[Written], row: &Row) -> bool {
     let calls = Cell::new(0u64);
-    let files = Fake {
-        files,
-        calls: &calls,
-        fails: u64::MAX,
-    };
-    asked_twice(alloc, files, row) == Outcome::Right
+    let turn = Turn::new(&calls, u64::MAX);
+    let most = MOST;
+    asked_twice(alloc, Fake { files, turn, most }, row) == Outcome::Right
 }
 
-/// Tests whether no wrong answer comes while each call on files that a question makes fails in
-/// turn.
-fn survives_calls(alloc: Global, files: &[Written], row: &Row) -> bool {
-    for fails in 0..10_000u64 {
-        let calls = Cell::new(0u64);
-        let files = Fake {
-            files,
-            calls: &calls,
-            fails,
-        };
-        if asked_twice(alloc, files, row) == Outcome::Wrong {
-            return false;
-        }
-        if calls.get() <= fails {
-            return true;
-        }
+impl Trial for Row {
+    fn holds<A: Allocator + Copy>(&self, alloc: A, files: Fake<'_>) -> bool {
+        asked_twice(alloc, files, self) != Outcome::Wrong
     }
-    false
-}
-
-/// Tests whether no wrong answer comes while each allocation that a question makes fails in turn.
-fn survives_allocations(alloc: Global, files: &[Written], row: &Row) -> bool {
-    for before in 0..10_000u64 {
-        let calls = Cell::new(0u64);
-        let files = Fake {
-            files,
-            calls: &calls,
-            fails: u64::MAX,
-        };
-        let memory = Refusing::new(alloc, before);
-        if asked_twice(&memory, files, row) == Outcome::Wrong {
-            return false;
-        }
-        if !memory.has_refused() {
-            return true;
-        }
-    }
-    false
 }
 
 /// What is tested of a row.
@@ -89,7 +56,8 @@ fn holds(alloc: Global, files: &[Written], row: &Row, tested: Tested) -> bool {
         Tested::Answer => is_right(alloc, files, row),
         Tested::Failures => {
             !row.fails
-                || survives_calls(alloc, files, row) && survives_allocations(alloc, files, row)
+                || failed_calls(alloc, files, MOST, row) > 0
+                    && failed_allocations(alloc, files, MOST, row) > 0
         }
     }
 }

@@ -2,7 +2,7 @@
 
 use gix_base::hash::ObjectId;
 use gix_ref::Why;
-use std::alloc::{AllocError, Allocator, Global};
+use std::alloc::Allocator;
 use std::io::Write;
 
 /// Tests whether a text begins with a mark, and returns what comes after the mark.
@@ -11,16 +11,6 @@ pub(crate) fn after<'t>(text: &'t str, mark: &str) -> (bool, &'t str) {
         Some(rest) => (true, rest),
         None => (false, text),
     }
-}
-
-/// Writes out a text: each bar as a line feed, and each other character as the byte of its number.
-pub(crate) fn written_out(alloc: Global, text: &str) -> Result<Vec<u8>, AllocError> {
-    let mut bytes = Vec::new(alloc);
-    for one in text.chars() {
-        let byte = (one as u32 % 256) as u8;
-        bytes.push(if byte == b'|' { b'\n' } else { byte })?;
-    }
-    Ok(bytes)
 }
 
 /// A text that is added to. It notes whether an allocation failed, so that each caller need not.

@@ -1,14 +1,14 @@
 //! Reads all commits while each call on a file, and each allocation, fails in turn.
 
-use super::fake::{Fake, Turn};
-use super::tables::{COMMITS, Wanted, all_written};
+use super::tables::{COMMITS, FILES, Wanted};
+use crate::failures::{Outcome, Trial, failed_allocations, failed_calls};
+use crate::fake::Fake;
+use crate::files::files_of;
 use gix_base::hash::ObjectId;
 use gix_files::Folders;
 use gix_graph_rows::{Error, GraphRows};
 use gix_revwalk::graph::SourceCommit;
-use refusing::Refusing;
-use std::alloc::{Allocator, Global};
-use std::cell::Cell;
+use std::alloc::Allocator;
 use std::io::ErrorKind;
 use std::test::Fail;
 
@@ -18,12 +18,6 @@ fn is_refusal(error: Error) -> bool {
         error,
         Error::Failed(_, ErrorKind::Other) | Error::OutOfMemory
     )
-}
-
-/// Returns the files. The call on them with the number `fails` fails.
-fn fake<'a>(files: &'a [Vec<u8>], calls: &'a Cell<u64>, fails: u64, most: usize) -> Fake<'a> {
-    let turn = Turn { calls, fails };
-    Fake { files, turn, most }
 }
 
 /// Opens a commit-graph, once more if the first try was refused.
@@ -47,56 +41,64 @@ fn is_id(id: &ObjectId, number: usize) -> bool {
     }
 }
 
+/// Tells whether ids are those of the commits with numbers.
+fn are_ids(ids: &[ObjectId], numbers: &[usize]) -> bool {
+    for (id, number) in ids.iter().zip(numbers.iter()) {
+        if !is_id(id, *number) {
+            return false;
+        }
+    }
+    ids.len() == numbers.len()
+}
+
 /// Tells whether a commit is as it should be.
 pub(crate) fn is_right<A: Allocator>(commit: &SourceCommit<A>, wanted: &Wanted) -> bool {
     commit.time == wanted.time
         && commit.generation == Some(wanted.level)
-        && commit.parents.len() == wanted.parents.len()
-        && commit
-            .parents
-            .iter()
-            .zip(wanted.parents.iter())
-            .all(|(id, number)| is_id(id, *number))
+        && are_ids(&commit.parents, wanted.parents)
 }
 
-/// Tells whether a commit is read, at the second try if the first was refused.
+/// Says what came of a look-up. No commit is wanted if `wanted` is `None`.
+fn outcome_of<A: Allocator>(
+    answer: Result<Option<SourceCommit<A>>, Error>,
+    wanted: Option<&Wanted>,
+) -> Outcome {
+    let is_right = match (&answer, wanted) {
+        (Ok(Some(commit)), Some(wanted)) => is_right(commit, wanted),
+        (Ok(None), None) => true,
+        (Err(error), _) if is_refusal(*error) => return Outcome::Failed,
+        _ => false,
+    };
+    if is_right {
+        Outcome::Right
+    } else {
+        Outcome::Wrong
+    }
+}
+
+/// Tells whether a look-up answers as it should, at the second try if the first was refused.
+fn holds<F: Folders + Copy + Drop, A: Allocator + Copy>(
+    alloc: A,
+    rows: &mut GraphRows<F, A>,
+    id: ObjectId,
+    wanted: Option<&Wanted>,
+) -> bool {
+    let mut outcome = outcome_of(rows.commit(alloc, id), wanted);
+    if outcome == Outcome::Failed {
+        outcome = outcome_of(rows.commit(alloc, id), wanted);
+    }
+    outcome == Outcome::Right
+}
+
+/// Tells whether a commit is read.
 fn is_read<F: Folders + Copy + Drop, A: Allocator + Copy>(
     alloc: A,
     rows: &mut GraphRows<F, A>,
     wanted: &Wanted,
 ) -> bool {
-    let Ok(id) = ObjectId::from_hex(wanted.id.as_bytes()) else {
-        return false;
-    };
-    match rows.commit(alloc, id) {
-        Ok(Some(commit)) => is_right(&commit, wanted),
-        Ok(None) => false,
-        Err(error) => is_refusal(error) && is_read_now(alloc, rows, id, wanted),
-    }
-}
-
-/// Tells whether a commit is read at once.
-fn is_read_now<F: Folders + Copy + Drop, A: Allocator + Copy>(
-    alloc: A,
-    rows: &mut GraphRows<F, A>,
-    id: ObjectId,
-    wanted: &Wanted,
-) -> bool {
-    match rows.commit(alloc, id) {
-        Ok(Some(commit)) => is_right(&commit, wanted),
-        _ => false,
-    }
-}
-
-/// Tells whether a missing commit is reported, at the second try if the first was refused.
-fn is_missing<F: Folders + Copy + Drop, A: Allocator + Copy>(
-    alloc: A,
-    rows: &mut GraphRows<F, A>,
-) -> bool {
-    let id = ObjectId([0x79; 20]);
-    match rows.commit(alloc, id) {
-        Ok(found) => found.is_none(),
-        Err(error) => is_refusal(error) && matches!(rows.commit(alloc, id), Ok(None)),
+    match ObjectId::from_hex(wanted.id.as_bytes()) {
+        Ok(id) => holds(alloc, rows, id, Some(wanted)),
+        Err(_) => false,
     }
 }
 
@@ -110,7 +112,7 @@ fn are_read<F: Folders + Copy + Drop, A: Allocator + Copy>(
             return false;
         }
     }
-    is_missing(alloc, rows)
+    holds(alloc, rows, ObjectId([0x79; 20]), None)
 }
 
 /// Tells whether a new commit-graph reads all commits.
@@ -119,56 +121,39 @@ fn reads_all<F: Folders + Copy + Drop, A: Allocator + Copy>(
     files: F,
     folder: &[u8],
 ) -> bool {
-    match opened(alloc, files, folder) {
-        Some(mut rows) => rows.len() == 6 && are_read(alloc, &mut rows),
+    match &mut opened(alloc, files, folder) {
+        Some(rows) => rows.len() == 6 && are_read(alloc, rows),
         None => false,
     }
 }
 
-/// Returns how many calls on files there are, each of which fails in turn, while all commits are
-/// read at the first or the second try. Returns 0 if a commit is not read.
-fn failed_calls(alloc: Global, files: &[Vec<u8>], folder: &[u8], most: usize) -> u64 {
-    for fails in 0..100_000u64 {
-        let calls = Cell::new(0u64);
-        if !reads_all(alloc, fake(files, &calls, fails, most), folder) {
-            return 0;
-        }
-        if calls.get() <= fails {
-            return fails;
-        }
+/// Reads all commits of the commit-graph in a folder.
+struct Commits(&'static str);
+
+impl Trial for Commits {
+    fn holds<A: Allocator + Copy>(&self, alloc: A, files: Fake<'_>) -> bool {
+        reads_all(alloc, files, self.0.as_bytes())
     }
-    0
 }
 
-/// Returns how many allocations there are, each of which fails in turn, in the same way.
-fn failed_allocations(alloc: Global, files: &[Vec<u8>], folder: &[u8]) -> u64 {
-    for before in 0..100_000u64 {
-        let calls = Cell::new(0u64);
-        let memory = Refusing::new(alloc, before);
-        let files = fake(files, &calls, u64::MAX, usize::MAX);
-        if !reads_all(&memory, files, folder) {
-            return 0;
-        }
-        if !memory.has_refused() {
-            return before;
-        }
-    }
-    0
-}
+/// The commit-graph in one file, and the one in a chain.
+static SINGLE: Commits = Commits("single");
+
+static CHAIN: Commits = Commits("chain");
 
 #[test]
 fn survives_each_failed_call(rt: HostRuntime) -> Result<(), Fail> {
-    let files = all_written(rt.alloc())?;
-    assert!(rt; failed_calls(rt.alloc(), &files, b"single", usize::MAX) > 5);
-    assert!(rt; failed_calls(rt.alloc(), &files, b"chain", usize::MAX) > 10);
-    assert!(rt; failed_calls(rt.alloc(), &files, b"chain", 100) > 60);
+    let files = files_of(rt.alloc(), &FILES)?;
+    assert!(rt; failed_calls(rt.alloc(), &files, usize::MAX, &SINGLE) > 5);
+    assert!(rt; failed_calls(rt.alloc(), &files, usize::MAX, &CHAIN) > 10);
+    assert!(rt; failed_calls(rt.alloc(), &files, 100, &CHAIN) > 60);
     Ok(())
 }
 
 #[test]
 fn survives_each_failed_allocation(rt: HostRuntime) -> Result<(), Fail> {
-    let files = all_written(rt.alloc())?;
-    assert!(rt; failed_allocations(rt.alloc(), &files, b"single") > 15);
-    assert!(rt; failed_allocations(rt.alloc(), &files, b"chain") > 30);
+    let files = files_of(rt.alloc(), &FILES)?;
+    assert!(rt; failed_allocations(rt.alloc(), &files, usize::MAX, &SINGLE) > 15);
+    assert!(rt; failed_allocations(rt.alloc(), &files, usize::MAX, &CHAIN) > 30);
     Ok(())
 }

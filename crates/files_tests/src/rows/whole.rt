@@ -1,7 +1,8 @@
 //! Opens the chain of the tables as a whole (`gix_commitgraph`), while each allocation fails in turn.
 
 use super::reads::is_right;
-use super::tables::{COMMITS, Wanted, all_written};
+use super::tables::{COMMITS, FILES, Wanted};
+use crate::files::{Written, files_of};
 use gix_base::hash::ObjectId;
 use gix_commitgraph::commit_graph::{Chain, ChainFault, CommitGraph, LevelledGraph};
 use gix_revwalk::Seed;
@@ -56,30 +57,33 @@ fn is_whole(alloc: Global, files: &[Vec<u8>]) -> bool {
     }
 }
 
-/// Adds a copy of the file at a place.
-fn add_copy(
+/// Returns the bytes of the files at some places.
+fn bytes_at(
     alloc: Global,
-    files: &[Vec<u8>],
-    place: usize,
-    to: &mut Vec<Vec<u8>>,
-) -> Result<(), AllocError> {
-    if let Some(file) = files.get(place) {
-        to.push(file.as_slice().to_vec(alloc)?)?;
+    files: &[Written],
+    places: &[usize],
+) -> Result<Vec<Vec<u8>>, AllocError> {
+    let mut all = Vec::new(alloc);
+    for place in places {
+        if let Some(file) = files.get(*place) {
+            all.push(file.bytes.as_slice().to_vec(alloc)?)?;
+        }
     }
-    Ok(())
+    Ok(all)
 }
 
-/// Tells whether two of the files are refused as no chain, the lower one first.
-fn is_refused(
-    alloc: Global,
-    files: &[Vec<u8>],
-    lower: usize,
-    upper: usize,
-) -> Result<bool, AllocError> {
-    let mut two = Vec::new(alloc);
-    add_copy(alloc, files, lower, &mut two)?;
-    add_copy(alloc, files, upper, &mut two)?;
-    Ok(matches!(chain_of(alloc, alloc, &two), Some(Err(ChainFault::NoChain))))
+/// Returns the bytes of the files of the table at some places.
+fn files_at(alloc: Global, places: &[usize]) -> Result<Vec<Vec<u8>>, AllocError> {
+    let files = files_of(alloc, &FILES)?;
+    bytes_at(alloc, &files, places)
+}
+
+/// Tells whether files are refused as no chain, the lowest one first.
+fn is_refused(alloc: Global, files: &[Vec<u8>]) -> bool {
+    matches!(
+        chain_of(alloc, alloc, files),
+        Some(Err(ChainFault::NoChain))
+    )
 }
 
 /// Returns how many allocations there are, each of which fails in turn. Returns 0 if one fails
@@ -103,18 +107,17 @@ fn failed_allocations(alloc: Global, files: &[Vec<u8>]) -> u64 {
 
 #[test]
 fn opens_a_chain(rt: HostRuntime) -> Result<(), Fail> {
-    let files = all_written(rt.alloc())?;
-    assert!(rt; is_whole(rt.alloc(), files.get(1..3).unwrap_or(&[])));
-    assert!(rt; failed_allocations(rt.alloc(), files.get(1..3).unwrap_or(&[])) > 10);
+    let files = files_at(rt.alloc(), &[1, 2])?;
+    assert!(rt; is_whole(rt.alloc(), &files));
+    assert!(rt; failed_allocations(rt.alloc(), &files) > 10);
     Ok(())
 }
 
 #[test]
 fn refuses_what_is_no_chain(rt: HostRuntime) -> Result<(), Fail> {
-    let files = all_written(rt.alloc())?;
     // A file of another chain, and one without base graphs above another.
-    assert!(rt; is_refused(rt.alloc(), &files, 0, 2)?);
-    assert!(rt; is_refused(rt.alloc(), &files, 1, 0)?);
-    assert!(rt; !is_whole(rt.alloc(), files.get(2..3).unwrap_or(&[])));
+    assert!(rt; is_refused(rt.alloc(), &files_at(rt.alloc(), &[0, 2])?));
+    assert!(rt; is_refused(rt.alloc(), &files_at(rt.alloc(), &[1, 0])?));
+    assert!(rt; !is_whole(rt.alloc(), &files_at(rt.alloc(), &[2])?));
     Ok(())
 }

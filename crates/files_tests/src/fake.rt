@@ -1,29 +1,26 @@
-//! Has the files of the tables in memory, of which one call fails.
+//! Has files in memory, of which one call fails, and which may read a few bytes at a time.
 
 ghost use Rattle.std.specs.Prelude.{◌≤◌, length, IfOk};
 
-use super::files::Written;
+use crate::files::Written;
 use gix_files::{FileError, Folders, Opened};
 use std::alloc::Allocator;
 use std::cell::Cell;
 use std::io::ErrorKind;
 
-/// The files of a repository. The call with the number `fails` fails.
+/// Counts calls. The call with the number `fails` fails.
 #[derive(Clone, Copy, Drop)]
-pub(crate) struct Fake<'a> {
-    pub(crate) files: &'a [Written],
-    pub(crate) calls: &'a Cell<u64>,
-    pub(crate) fails: u64,
+pub(crate) struct Turn<'a> {
+    calls: &'a Cell<u64>,
+    fails: u64,
 }
 
-/// An open file of these.
-#[derive(Clone, Copy, Drop)]
-pub(crate) struct Held<'a> {
-    bytes: &'a [u8],
-    fake: Fake<'a>,
-}
+impl<'a> Turn<'a> {
+    /// Lets the call with a number fail.
+    pub(crate) fn new(calls: &'a Cell<u64>, fails: u64) -> Turn<'a> {
+        Turn { calls, fails }
+    }
 
-impl<'a> Fake<'a> {
     /// Counts a call, and fails if it is the one.
     fn call(&self) -> Result<(), FileError> {
         let n = self.calls.get();
@@ -33,6 +30,39 @@ impl<'a> Fake<'a> {
         } else {
             Ok(())
         }
+    }
+}
+
+/// Has files, those of a folder one after another. A read returns at most `most` bytes.
+#[derive(Clone, Copy, Drop)]
+pub(crate) struct Fake<'a> {
+    pub(crate) files: &'a [Written],
+    pub(crate) turn: Turn<'a>,
+    pub(crate) most: usize,
+}
+
+/// Is an open file of these.
+#[derive(Clone, Copy, Drop)]
+pub(crate) struct Held<'a> {
+    bytes: &'a [u8],
+    turn: Turn<'a>,
+    most: usize,
+}
+
+impl<'a> Opened for Held<'a> {
+    fn size(&self) -> Result<u64, FileError> {
+        self.turn.call()?;
+        Ok(self.bytes.len() as u64)
+    }
+
+    fn read_part(&self, at: u64, buf: &mut [u8]) -> Result<usize, FileError>
+        ensures { IfOk result (λ n. n ≤ length buf.new) }
+    {
+        self.turn.call()?;
+        let rest = self.bytes.get(at as usize..).unwrap_or(&[]);
+        let n = rest.len().min(buf.len()).min(self.most);
+        buf[..n].copy_from_slice(&rest[..n]);
+        Ok(n)
     }
 }
 
@@ -71,20 +101,14 @@ fn first_part(path: &[u8]) -> &[u8] {
     path.get(..len).unwrap_or(path)
 }
 
-impl<'a> Opened for Held<'a> {
-    fn size(&self) -> Result<u64, FileError> {
-        self.fake.call()?;
-        Ok(self.bytes.len() as u64)
-    }
-
-    fn read_part(&self, at: u64, buf: &mut [u8]) -> Result<usize, FileError>
-        ensures { IfOk result (λ n. n ≤ length buf.new) }
-    {
-        self.fake.call()?;
-        let rest = self.bytes.get(at as usize..).unwrap_or(&[]);
-        let n = rest.len().min(buf.len()).min(100);
-        buf[..n].copy_from_slice(&rest[..n]);
-        Ok(n)
+impl<'a> Fake<'a> {
+    /// Counts a call, which fails if it is the one or the path is not UTF-8.
+    fn call(&self, path: &[u8]) -> Result<(), FileError> {
+        self.turn.call()?;
+        if str::from_utf8(path).is_err() {
+            return Err(FileError::NotUtf8);
+        }
+        Ok(())
     }
 }
 
@@ -92,22 +116,20 @@ impl<'a> Folders for Fake<'a> {
     type Opened = Held<'a>;
 
     fn open(&self, path: &[u8]) -> Result<Option<Held<'a>>, FileError> {
-        self.call()?;
-        if str::from_utf8(path).is_err() {
-            return Err(FileError::NotUtf8);
-        }
+        self.call(path)?;
         match bytes_at(self.files, path) {
-            Some(bytes) => Ok(Some(Held { bytes, fake: *self })),
+            Some(bytes) => Ok(Some(Held {
+                bytes,
+                turn: self.turn,
+                most: self.most,
+            })),
             None if is_folder(self.files, path) => Err(FileError::Failed(ErrorKind::IsADirectory)),
             None => Ok(None),
         }
     }
 
     fn names<A: Allocator>(&self, path: &[u8], names: &mut Vec<u8, A>) -> Result<(), FileError> {
-        self.call()?;
-        if str::from_utf8(path).is_err() {
-            return Err(FileError::NotUtf8);
-        }
+        self.call(path)?;
         let mut last = b"".as_slice();
         for file in self.files {
             let name = first_part(below(&file.path, path).unwrap_or(b""));
@@ -122,10 +144,15 @@ impl<'a> Folders for Fake<'a> {
 
     fn real_path<A: Allocator>(
         &self,
-        _path: &[u8],
-        _real: &mut Vec<u8, A>,
+        path: &[u8],
+        real: &mut Vec<u8, A>,
     ) -> Result<bool, FileError> {
-        self.call()?;
-        Ok(false)
+        self.call(path)?;
+        let folder = path.strip_prefix(b"/").unwrap_or(path);
+        let is_there = is_folder(self.files, folder);
+        if is_there {
+            real.extend_from_slice(folder)?;
+        }
+        Ok(is_there)
     }
 }
