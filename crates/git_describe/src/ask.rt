@@ -4,7 +4,7 @@ use crate::table::{Name, Table};
 use crate::walk::{Candidate, Found, Search};
 use git_session::session::Session;
 use git_session::stop::{Stop, not_read};
-use gix_history::questions::{CountReachable, Describe, IsAncestor};
+use gix_questions::{CountReachable, Describe, IsAncestor};
 use gix_revision::describe::Options;
 use gix_revision::hash::ObjectId;
 use std::borrow::CowSlice;

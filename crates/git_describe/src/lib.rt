@@ -24,7 +24,7 @@ use git_session::names::commit_of;
 use git_session::ranges::revision;
 use git_session::session::Session;
 use git_session::stop::{Stop, fatal, not_read};
-use gix_history::questions::Describe;
+use gix_questions::Describe;
 use gix_repository::Refusal;
 use gix_revision::hash::ObjectId;
 use gix_revision::object::Kind;

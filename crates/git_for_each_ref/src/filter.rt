@@ -5,7 +5,7 @@ use crate::list::Candidate;
 use git_session::names::commit_of;
 use git_session::session::Session;
 use git_session::stop::Stop;
-use gix_history::questions::{Contains, ReachableNewestFirst};
+use gix_questions::{Contains, ReachableNewestFirst};
 use gix_revision::hash::ObjectId;
 use std::alloc::{AllocError, Global};
 use std::marker::Brand;

@@ -4,7 +4,7 @@ use crate::list::Candidate;
 use git_session::names::commit_of;
 use git_session::session::Session;
 use git_session::stop::{Stop, fatal, not_read};
-use gix_history::questions::AheadBehind;
+use gix_questions::AheadBehind;
 use gix_repository::Refusal;
 use gix_revision::hash::ObjectId;
 use gix_revision::object::Kind;

@@ -4,7 +4,7 @@
 //! they stand on a command line, and the word `batch`, which answers lines of such words.
 //!
 //! Merge bases, ancestry, depths, and which commits a whole list has are answers of proved
-//! questions of `gix_history` about the repository (`gix_repository`). The forms of options are
+//! questions (`gix_questions`) about the repository (`gix_repository`). The forms of options are
 //! those of `parse_options`. All else is made here and in the crates `git_describe`, `git_rev_list`,
 //! `git_for_each_ref` and `git_session`, and tested against git: what options mean, the order of
 //! lists, first parents, filters, what is printed, and the status.

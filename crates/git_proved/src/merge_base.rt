@@ -7,7 +7,7 @@ use git_session::options::next_item;
 use git_session::ranges::revision;
 use git_session::session::Session;
 use git_session::stop::{Stop, fatal, not_read};
-use gix_history::questions::{Independent, IsAncestor};
+use gix_questions::{Independent, IsAncestor};
 use gix_repository::Refusal;
 use gix_revision::hash::ObjectId;
 use parse_options::{Choice, Given, Item, Reader, Value};

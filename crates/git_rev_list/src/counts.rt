@@ -6,7 +6,7 @@ use crate::starts::Ends;
 use crate::wishes::{Order, Wishes};
 use git_session::session::Session;
 use git_session::stop::Stop;
-use gix_history::questions::{AheadBehind, CountReachable};
+use gix_questions::{AheadBehind, CountReachable};
 use gix_revision::hash::ObjectId;
 use std::marker::Brand;
 

@@ -7,7 +7,7 @@ use crate::topological::sort;
 use crate::wishes::{Order, Wishes};
 use git_session::session::Session;
 use git_session::stop::{Stop, not_read};
-use gix_history::questions::ReachableNewestFirst;
+use gix_questions::ReachableNewestFirst;
 use gix_revision::hash::ObjectId;
 use std::alloc::Global;
 use std::marker::Brand;

@@ -6,7 +6,7 @@ mod painting;
 use crate::bases::painting::met;
 use crate::session::Session;
 use crate::stop::{Stop, not_read};
-use gix_history::questions::{MergeBases, OctopusBases};
+use gix_questions::{MergeBases, OctopusBases};
 use gix_revision::hash::ObjectId;
 use std::alloc::{AllocError, Global};
 use std::marker::Brand;

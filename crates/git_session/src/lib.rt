@@ -7,7 +7,7 @@
 //! - [`options`], [`words`] and [`integer`] read the command line.
 //! - [`bases`] puts merge bases into git's order. [`queue`] is the queue of such walks.
 //!
-//! Merge bases are answers of proved questions (`gix_history`). Their order, and how a command line
+//! Merge bases are answers of proved questions (`gix_questions`). Their order, and how a command line
 //! is read, is tested against git.
 #![tactic(auto)]
 

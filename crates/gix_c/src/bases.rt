@@ -12,7 +12,7 @@ ghost use Rattle.gix_c.specs.Partial.{IsUnanswered, whole_of};
 use crate::handle::Handle;
 use crate::ids::{bytes_of, bytes_of_each, ids_of, write, write_found};
 use crate::status::{NONE, OK, OUT_OF_MEMORY};
-use gix_history::questions::{self, Independent, MergeBases, Octopus};
+use gix_questions::{Independent, MergeBases, Octopus};
 use gix_revision::hash::ObjectId;
 use std::alloc::Global;
 use std::marker::Brand;
@@ -155,7 +155,7 @@ pub extern "C" fn gix_history_is_ancestor(
     ensures named { history.new.value.named ≡ history.old.value.named }
     ensures table { history.new.value.table ≡ history.old.value.table }
 {
-    let question = questions::IsAncestor {
+    let question = gix_questions::IsAncestor {
         alloc,
         ancestor: ObjectId(*ancestor),
         of: ObjectId(*of),
@@ -200,7 +200,7 @@ pub extern "C" fn gix_history_reaches(
     ensures table { history.new.value.table ≡ history.old.value.table }
 {
     let ancestor = ObjectId(*ancestor);
-    let question = questions::IsAncestor {
+    let question = gix_questions::IsAncestor {
         alloc,
         ancestor,
         of: ObjectId(*from),

@@ -11,7 +11,7 @@ ghost use Rattle.gix_c.specs.Spans.{spec_at, HasCount, HasSides, HasSidesAtMost}
 use crate::handle::Handle;
 use crate::revisions::{Span, spec_of};
 use crate::status::{NO_KIND, OK};
-use gix_history::questions::{AheadBehind, CountCommits};
+use gix_questions::{AheadBehind, CountCommits};
 use gix_revision::hash::ObjectId;
 use std::alloc::Global;
 use std::marker::Brand;

@@ -2,9 +2,7 @@
 
 use crate::ask::Ask;
 use gix_history::Refused;
-use gix_history::questions::{
-    AheadBehind, CountCommits, Independent, IsAncestor, MergeBases, Octopus,
-};
+use gix_questions::{AheadBehind, CountCommits, Independent, IsAncestor, MergeBases, Octopus};
 use gix_resolve::{ListError, ahead_behind, commits, count_commits, newest_first, page};
 use gix_revision::error::NonEmpty;
 use gix_revision::graph::{Commit, Find, Graph};
@@ -30,7 +28,7 @@ fn list_refused(error: ListError) -> Refused {
 }
 
 impl Ask for MergeBases<'_> {
-    ghost use Rattle.gix_history.specs.BaseQuestions.{MeansBases};
+    ghost use Rattle.gix_questions.specs.BaseQuestions.{MeansBases};
 
     type Answer = Option<NonEmpty<ObjectId>>;
 
@@ -48,7 +46,7 @@ impl Ask for MergeBases<'_> {
 }
 
 impl Ask for Octopus<'_> {
-    ghost use Rattle.gix_history.specs.BaseQuestions.{MeansOctopus};
+    ghost use Rattle.gix_questions.specs.BaseQuestions.{MeansOctopus};
 
     type Answer = Option<ObjectId>;
 
@@ -66,7 +64,7 @@ impl Ask for Octopus<'_> {
 }
 
 impl Ask for Independent<'_> {
-    ghost use Rattle.gix_history.specs.BaseQuestions.{MeansIndependent};
+    ghost use Rattle.gix_questions.specs.BaseQuestions.{MeansIndependent};
 
     type Answer = Vec<ObjectId>;
 
@@ -84,7 +82,7 @@ impl Ask for Independent<'_> {
 }
 
 impl Ask for IsAncestor {
-    ghost use Rattle.gix_history.specs.AncestryQuestions.{MeansAncestor};
+    ghost use Rattle.gix_questions.specs.AncestryQuestions.{MeansAncestor};
 
     type Answer = bool;
 
@@ -99,7 +97,7 @@ impl Ask for IsAncestor {
 }
 
 impl Ask for AheadBehind {
-    ghost use Rattle.gix_history.specs.ReachQuestions.{MeansAheadBehind};
+    ghost use Rattle.gix_questions.specs.ReachQuestions.{MeansAheadBehind};
 
     type Answer = (usize, usize);
 

@@ -2,7 +2,6 @@
 use Rattle.std.proofs.Common.{◌≡◌, ◌⊎◌, inl, inr, ℕ, suc, zero, ◌+◌, ◌≤◌, ◌<◌, [], ◌∷◌, ◌++◌, List, Option, Some, None, is_some, cond, Bool, true, false, IsTrue, refl, sym, ap, ◌∙◌, subst, take, length, arith, IfSome}
 use Rattle.std.proofs.lemmas.List.{length-append, take_all, take-append-le}
 use Rattle.std.proofs.lemmas.Map.Keys.{IsDistinct-push}
-use Rattle.std.proofs.lemmas.Map.Made.{length-le_from_is_member}
 use Rattle.gix_base.specs.declared.hash.ObjectId.{ObjectId}
 use Rattle.gix_revwalk.specs.History.{History, Entry, Has, IsEdge, IsAncestor, IsAncestorOfOne, entry_at, same_id, is_one_of, parents_in}
 use Rattle.gix_revwalk.specs.History.IsAncestor.{itself, further}
@@ -14,7 +13,6 @@ use Rattle.gix_revwalk.proofs.Inserted.{entry-stays}
 use Rattle.gix_revwalk.proofs.Members.{one_of-left, one_of-right, one_of-cases, one_of-head, one_of-single, nothing}
 use Rattle.gix_commitgraph.proofs.Joins.{first-has}
 use Rattle.gix_history.specs.Levels.{Keeps}
-use Rattle.gix_history.specs.ReachQuestions.{MeansCountReachable}
 use Rattle.gix_history.specs.Whole.{IsLed, IsListed, Reads}
 use Rattle.gix_history.proofs.Grown.{by-id}
 
@@ -180,23 +178,6 @@ module _ (tips : List ObjectId) (h : History) (list : List ObjectId) (place coun
     (is.size.1.0, λ c. ((λ m. reached c ((is.size.1.1 c).0 m)), (λ up. (is.size.1.1 c).1 (within up.0 c (each up.0 (is.begins up.0 up.1)) up.2)))),
     is.size.2,
   )
-
-none-of-none : (h : History) (c : ObjectId) → ¬ IsAncestorOfOne h [] c
-none-of-none h c up = let wrong : false ≡ true = up.1 in cc
-
-counts-without : (h : History) (included : List ObjectId) (n : ℕ) → HasSize (IsAncestorOfOne h included) n → MeansCountReachable h included [] n
-counts-without h included n has = record {
-  size = λ never. (has.0, (has.1.0, λ c. ((λ m. ((has.1.1 c).0 m, none-of-none h c)), (λ beyond. (has.1.1 c).1 beyond.0))), has.2);
-  no_less = λ zs once each. let le = length-le_from_is_member same_id-laws zs has.0 once (λ c m. (has.1.1 c).1 (each c m).0) in let is = has.2 in omega arith;
-  no_more = (has.0, has.1.0, (λ c m. (has.1.1 c).0 m), let is = has.2 in omega arith);
-}
-
--- What the tips reach is what the included ones reach and no excluded one does, if none is excluded.
-pub counts-reachable : (h : History) (tips included excluded : List ObjectId) (n : ℕ) → tips ≡ included → excluded ≡ []
-    → HasSize (IsAncestorOfOne h tips) n → MeansCountReachable h included excluded n
-counts-reachable h tips included excluded n same none has =
-    subst (λ l. MeansCountReachable h included l n) (sym none)
-    (counts-without h included n (subst (λ l. HasSize (IsAncestorOfOne h l) n) same has))
 
 -- One more commit is read, if there is a next number.
 pub listed-next : (tips : List ObjectId) (h : History) (list : List ObjectId) (place count : ℕ) (k : ObjectId) (n : History) (longer : List ObjectId) (next : Option ℕ)

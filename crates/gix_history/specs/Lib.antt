@@ -1,11 +1,6 @@
 pub mod Origins
 pub mod Grown
 pub mod Tries
-pub mod BaseQuestions
-pub mod AncestryQuestions
-pub mod ListQuestions
-pub mod ReachQuestions
-pub mod DescribeQuestions
 pub mod Levels
 pub mod Waiting
 pub mod HistoryLaws

@@ -4,15 +4,15 @@
 //! [`Question`] wants one. An answer is right for every history that has the commits that were
 //! read, whatever lies beyond them ([`Beyond`]). The premises of the walks are the only ones.
 //!
-//! - [`questions`] has the questions: merge bases, ancestry, `describe`, revisions, lists and
-//!   counts, and which tips reach a commit.
+//! - [`Question`] is what a type is that can be asked. The crate `gix_questions` has such types:
+//!   merge bases, ancestry, `describe`, revisions, lists and counts.
 //! - [`Known`] is a history without a reader. It answers, or names the commit that it wants.
 //! - [`Loaded`] is the authentic mode: all that some tips reach, each commit the content of its id,
 //!   with levels. No question about it has a premise left.
 //!
 //! # Premises
 //!
-//! *Acyclic* and *ordered generations*, as [`gix_revision`] defines them.
+//! *Acyclic* and *ordered generations*, as `gix_revision` defines them.
 #![tactic(auto)]
 
 mod ahead;
@@ -24,7 +24,6 @@ pub mod laws;
 mod loaded;
 mod partial;
 mod question;
-pub mod questions;
 mod reader;
 mod whole;
 

@@ -1,8 +1,8 @@
 //! Asks about two lines of commits that fork at commit 60.
 
 use crate::fake::{Fake, id_of};
-use gix_history::questions::{AheadBehind, Contains, Describe, IsAncestor, MergeBases};
 use gix_history::{History, ReadError};
+use gix_questions::{AheadBehind, Contains, Describe, IsAncestor, MergeBases};
 use gix_revision::describe::Options;
 use std::alloc::Allocator;
 use std::borrow::CowSlice;

@@ -1,4 +1,4 @@
-//! Tests of `gix_history` over a reader in memory.
+//! Tests of `gix_history` and `gix_questions` over a reader in memory.
 #![tactic(auto)]
 
 #[cfg(test)]

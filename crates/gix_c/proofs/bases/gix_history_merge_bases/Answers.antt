@@ -1,6 +1,6 @@
 use Rattle.std.proofs.Common.{List, subst}
 use Rattle.gix_base.specs.declared.hash.ObjectId.{ObjectId}
-use Rattle.gix_history.specs.BaseQuestions.{MeansBases}
+use Rattle.gix_questions.specs.BaseQuestions.{MeansBases}
 use Rattle.gix_merge_base.specs.Bases.{ids_of}
 use Rattle.gix_c.specs.Answers.{id_of}
 use Rattle.gix_c.specs.Partial.{whole_in}

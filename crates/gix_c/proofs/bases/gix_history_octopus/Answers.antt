@@ -1,6 +1,6 @@
 use Rattle.std.proofs.Common.{List, map, Option, subst}
 use Rattle.gix_base.specs.declared.hash.ObjectId.{ObjectId}
-use Rattle.gix_history.specs.BaseQuestions.{MeansOctopus}
+use Rattle.gix_questions.specs.BaseQuestions.{MeansOctopus}
 use Rattle.gix_merge_base.specs.Octopus.{IsOctopusBase}
 use Rattle.gix_c.specs.Answers.{id_of}
 use Rattle.gix_c.specs.Partial.{whole_in, whole_of}

@@ -1,7 +1,0 @@
-use Rattle.gix_history.proofs.questions.ancestry.IsAncestorQuestion.ask.Goals as goal
-
-pub returns-in-Ok : goal.returns-in-Ok
-returns-in-Ok g c =
-    let e = c.in-Ok.ensures in
-    let is = c.with_seed-graph.ensures.source in
-    record { exact = rw is at e.ancestor; reached = rw is at e.reached; itself = rw is at e.same }

@@ -1,0 +1,4 @@
+pub mod Faults
+pub mod Contained
+pub mod Answered
+pub mod Counted

@@ -1,0 +1,5 @@
+pub mod BaseQuestions
+pub mod AncestryQuestions
+pub mod ListQuestions
+pub mod ReachQuestions
+pub mod DescribeQuestions
