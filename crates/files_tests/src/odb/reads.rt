@@ -1,9 +1,8 @@
 //! Reads all objects while each call on a file, and each allocation, fails in turn.
 
-use super::tables::{FILES, IDS};
+use super::tables::{IDS, files};
 use crate::failures::{Outcome, Trial, failed_allocations, failed_calls};
 use crate::fake::{Fake, Turn};
-use crate::files::files_of;
 use gix_base::hash::{ObjectId, Prefix};
 use gix_files::Folders;
 use gix_odb::{Error, Store};
@@ -200,7 +199,7 @@ impl Trial for Allocations {
 
 #[test]
 fn survives_each_failed_call(rt: HostRuntime) -> Result<(), Fail> {
-    let files = files_of(rt.alloc(), &FILES)?;
+    let files = files(rt.alloc())?;
     assert!(rt; failed_calls(rt.alloc(), &files, usize::MAX, &Calls) > 30);
     assert!(rt; failed_calls(rt.alloc(), &files, 100, &Calls) > 60);
     Ok(())
@@ -208,7 +207,7 @@ fn survives_each_failed_call(rt: HostRuntime) -> Result<(), Fail> {
 
 #[test]
 fn survives_each_failed_allocation(rt: HostRuntime) -> Result<(), Fail> {
-    let files = files_of(rt.alloc(), &FILES)?;
+    let files = files(rt.alloc())?;
     assert!(rt; failed_allocations(rt.alloc(), &files, usize::MAX, &Allocations) > 30);
     Ok(())
 }

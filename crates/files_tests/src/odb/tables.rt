@@ -1,5 +1,8 @@
 //! Has the files of two `objects` folders, as git 2.39.5 wrote them.
 
+use crate::files::{Written, files_of};
+use std::alloc::{AllocError, Global};
+
 /// The index of three blobs, of which two are deltas by offset.
 const OFFSET_INDEX: &str = "\
 signature and version: ff744f6300000002
@@ -86,7 +89,7 @@ text: #two|/second||none
 
 /// The paths of the files, in the form of `files`. The first folder has the second as its alternate,
 /// and two packs have the same blobs.
-pub(crate) static FILES: [(&str, &str); 9] = [
+static FILES: [(&str, &str); 9] = [
     ("first/info/alternates", ALTERNATES),
     ("first/pack/a.idx", OFFSET_INDEX),
     ("first/pack/a.pack", OFFSET_PACK),
@@ -107,3 +110,8 @@ pub(crate) static IDS: [&str; 6] = [
     "02d76dfb547c822116e37a74ff5e9d6e84b632b0",
     "b00f028e470a3f7b7e13a2b333fdc942d28e58f5",
 ];
+
+/// Writes out the files.
+pub(crate) fn files(alloc: Global) -> Result<Vec<Written>, AllocError> {
+    files_of(alloc, &FILES)
+}

@@ -1,9 +1,8 @@
 //! Reads all commits while each call on a file, and each allocation, fails in turn.
 
-use super::tables::{COMMITS, FILES, Wanted};
+use super::tables::{COMMITS, Wanted, files};
 use crate::failures::{Outcome, Trial, failed_allocations, failed_calls};
 use crate::fake::Fake;
-use crate::files::files_of;
 use gix_base::hash::ObjectId;
 use gix_files::Folders;
 use gix_graph_rows::{Error, GraphRows};
@@ -143,7 +142,7 @@ static CHAIN: Commits = Commits("chain");
 
 #[test]
 fn survives_each_failed_call(rt: HostRuntime) -> Result<(), Fail> {
-    let files = files_of(rt.alloc(), &FILES)?;
+    let files = files(rt.alloc())?;
     assert!(rt; failed_calls(rt.alloc(), &files, usize::MAX, &SINGLE) > 5);
     assert!(rt; failed_calls(rt.alloc(), &files, usize::MAX, &CHAIN) > 10);
     assert!(rt; failed_calls(rt.alloc(), &files, 100, &CHAIN) > 60);
@@ -152,7 +151,7 @@ fn survives_each_failed_call(rt: HostRuntime) -> Result<(), Fail> {
 
 #[test]
 fn survives_each_failed_allocation(rt: HostRuntime) -> Result<(), Fail> {
-    let files = files_of(rt.alloc(), &FILES)?;
+    let files = files(rt.alloc())?;
     assert!(rt; failed_allocations(rt.alloc(), &files, usize::MAX, &SINGLE) > 15);
     assert!(rt; failed_allocations(rt.alloc(), &files, usize::MAX, &CHAIN) > 30);
     Ok(())

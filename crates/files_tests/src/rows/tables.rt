@@ -1,5 +1,8 @@
 //! Has the commit-graphs of two `objects` folders, as git 2.39.5 wrote them.
 
+use crate::files::{Written, files_of};
+use std::alloc::{AllocError, Global};
+
 /// The commit-graph of six commits in one file.
 const SINGLE: &str = "\
 header: 4347504801010400
@@ -54,7 +57,7 @@ text: 790bba026ba89ef5536a519dfcf3ceec27e698f1|0b665c722a2835b0c247ea3a19c3815aa
 ";
 
 /// The paths of the files, in the form of `files`.
-pub(crate) static FILES: [(&str, &str); 4] = [
+static FILES: [(&str, &str); 4] = [
     ("single/info/commit-graph", SINGLE),
     (
         "chain/info/commit-graphs/graph-790bba026ba89ef5536a519dfcf3ceec27e698f1.graph",
@@ -114,3 +117,8 @@ pub(crate) static COMMITS: [Wanted; 6] = [
         parents: &[4, 3, 2, 0],
     },
 ];
+
+/// Writes out the files.
+pub(crate) fn files(alloc: Global) -> Result<Vec<Written>, AllocError> {
+    files_of(alloc, &FILES)
+}

@@ -1,8 +1,8 @@
 //! Opens the chain of the tables as a whole (`gix_commitgraph`), while each allocation fails in turn.
 
 use super::reads::is_right;
-use super::tables::{COMMITS, FILES, Wanted};
-use crate::files::{Written, files_of};
+use super::tables::{COMMITS, Wanted, files};
+use crate::files::Written;
 use gix_base::hash::ObjectId;
 use gix_commitgraph::commit_graph::{Chain, ChainFault, CommitGraph, LevelledGraph};
 use gix_revwalk::Seed;
@@ -74,7 +74,7 @@ fn bytes_at(
 
 /// Returns the bytes of the files of the table at some places.
 fn files_at(alloc: Global, places: &[usize]) -> Result<Vec<Vec<u8>>, AllocError> {
-    let files = files_of(alloc, &FILES)?;
+    let files = files(alloc)?;
     bytes_at(alloc, &files, places)
 }
 
