@@ -1,6 +1,6 @@
 //! Lets each call on files and each allocation fail in turn.
 
-use crate::fake::{Fake, Turn};
+use crate::fake::Fake;
 use crate::files::Written;
 use refusing::Refusing;
 use std::alloc::{Allocator, Global};
@@ -32,8 +32,7 @@ pub(crate) fn failed_calls<T: Trial>(
 ) -> u64 {
     for fails in 0..100_000u64 {
         let calls = Cell::new(0u64);
-        let turn = Turn::new(&calls, fails);
-        if !trial.holds(alloc, Fake { files, turn, most }) {
+        if !trial.holds(alloc, Fake::new(files, &calls, fails, most)) {
             return 0;
         }
         if calls.get() <= fails {
@@ -54,9 +53,8 @@ pub(crate) fn failed_allocations<T: Trial>(
 ) -> u64 {
     for before in 0..100_000u64 {
         let calls = Cell::new(0u64);
-        let turn = Turn::new(&calls, u64::MAX);
         let memory = Refusing::new(alloc, before);
-        if !trial.holds(&memory, Fake { files, turn, most }) {
+        if !trial.holds(&memory, Fake::new(files, &calls, u64::MAX, most)) {
             return 0;
         }
         if !memory.has_refused() {

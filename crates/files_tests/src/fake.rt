@@ -10,17 +10,12 @@ use std::io::ErrorKind;
 
 /// Counts calls. The call with the number `fails` fails.
 #[derive(Clone, Copy, Drop)]
-pub(crate) struct Turn<'a> {
+struct Turn<'a> {
     calls: &'a Cell<u64>,
     fails: u64,
 }
 
 impl<'a> Turn<'a> {
-    /// Lets the call with a number fail.
-    pub(crate) fn new(calls: &'a Cell<u64>, fails: u64) -> Turn<'a> {
-        Turn { calls, fails }
-    }
-
     /// Counts a call, and fails if it is the one.
     fn call(&self) -> Result<(), FileError> {
         let n = self.calls.get();
@@ -37,7 +32,7 @@ impl<'a> Turn<'a> {
 #[derive(Clone, Copy, Drop)]
 pub(crate) struct Fake<'a> {
     pub(crate) files: &'a [Written],
-    pub(crate) turn: Turn<'a>,
+    turn: Turn<'a>,
     pub(crate) most: usize,
 }
 
@@ -102,6 +97,17 @@ fn first_part(path: &[u8]) -> &[u8] {
 }
 
 impl<'a> Fake<'a> {
+    /// Has these files. The call on them with the number `fails` fails.
+    pub(crate) fn new(
+        files: &'a [Written],
+        calls: &'a Cell<u64>,
+        fails: u64,
+        most: usize,
+    ) -> Fake<'a> {
+        let turn = Turn { calls, fails };
+        Fake { files, turn, most }
+    }
+
     /// Counts a call, which fails if it is the one or the path is not UTF-8.
     fn call(&self, path: &[u8]) -> Result<(), FileError> {
         self.turn.call()?;

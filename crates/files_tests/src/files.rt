@@ -39,11 +39,11 @@ pub(crate) fn written_out(alloc: Global, text: &str) -> Result<Vec<u8>, AllocErr
 fn add_digits(bytes: &mut Vec<u8>, digits: &str) -> Result<(), AllocError> {
     let mut high = None;
     for digit in digits.chars() {
-        let value = digit.to_digit(16).unwrap_or(0) % 16;
+        let value = digit.to_digit(16).unwrap_or(0);
         match high {
             None => high = Some(value),
             Some(first) => {
-                bytes.push((first * 16 + value) as u8)?;
+                bytes.push((first % 16 * 16 + value % 16) as u8)?;
                 high = None;
             }
         }

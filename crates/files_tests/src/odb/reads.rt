@@ -2,7 +2,7 @@
 
 use super::tables::{IDS, files};
 use crate::failures::{Outcome, Trial, failed_allocations, failed_calls};
-use crate::fake::{Fake, Turn};
+use crate::fake::Fake;
 use gix_base::hash::{ObjectId, Prefix};
 use gix_files::Folders;
 use gix_odb::{Error, Store};
@@ -171,11 +171,7 @@ fn reads_all<F: Folders + Copy + Drop, A: Allocator + Copy>(
 /// Tells whether a new store reads all objects while no call fails.
 fn reads_anew<A: Allocator + Copy>(alloc: A, files: Fake<'_>) -> bool {
     let calls = Cell::new(0u64);
-    let files = Fake {
-        files: files.files,
-        turn: Turn::new(&calls, u64::MAX),
-        most: files.most,
-    };
+    let files = Fake::new(files.files, &calls, u64::MAX, files.most);
     reads_all(alloc, files, true)
 }
 

@@ -4,7 +4,7 @@ use super::answers::asked;
 use super::files::files;
 use super::questions::{Ask, Row, TABLES, row_of};
 use crate::failures::{Outcome, Trial, failed_allocations, failed_calls};
-use crate::fake::{Fake, Turn};
+use crate::fake::Fake;
 use crate::files::Written;
 use gix_files::Folders;
 use gix_ref::References;
@@ -30,9 +30,8 @@ fn asked_twice<F: Folders + Drop, A: Allocator + Copy>(alloc: A, files: F, row: 
 /// Tests whether a question is answered as git answers it, while no call fails.
 fn is_right(alloc: Global, files: &[Written], row: &Row) -> bool {
     let calls = Cell::new(0u64);
-    let turn = Turn::new(&calls, u64::MAX);
-    let most = MOST;
-    asked_twice(alloc, Fake { files, turn, most }, row) == Outcome::Right
+    let files = Fake::new(files, &calls, u64::MAX, MOST);
+    asked_twice(alloc, files, row) == Outcome::Right
 }
 
 impl Trial for Row {
