@@ -68,10 +68,15 @@ fn reason(error: io::Error) -> Option<&'static [u8]> {
     }
 }
 
-/// Returns git's end for a folder of `-C` that is not entered.
+/// Returns git's end for a folder of `-C` that is not entered, with the reason.
+fn cannot_change<'t>(rt: &HostRuntime, folder: &'t [u8], reason: &'t [u8]) -> Stop {
+    fatal(rt.alloc(), &[b"cannot change to '", folder, b"': ", reason])
+}
+
+/// Returns the end for a folder of `-C` that is not entered.
 fn not_entered(rt: &HostRuntime, folder: &[u8], error: io::Error) -> Stop {
     match reason(error) {
-        Some(reason) => fatal(rt.alloc(), &[b"cannot change to '", folder, b"': ", reason]),
+        Some(reason) => cannot_change(rt, folder, reason),
         None => not_read(rt.alloc(), &[b"the folder of -C is not entered"]),
     }
 }
