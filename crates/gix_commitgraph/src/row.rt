@@ -7,24 +7,24 @@ ghost use Rattle.std.specs.Prelude.{◌≡◌, ◌^◌, ◌<◌};
 ghost use Rattle.gix_commitgraph.specs.FileCommits.{date_of, generation_for, level_of};
 
 /// Returns the topological level; 0 if git did not compute it.
-pub fn level(high: usize) -> usize
-    ensures { result ≡ level_of high }
+pub fn level(high: u32) -> u32
+    ensures value { result ≡ level_of high }
+    ensures bound { result < 2 ^ 30 }
 {
     high / 4
 }
 
-/// Returns the generation number for a level: the level, unless it is 0.
-pub fn generation(level: usize) -> Option<u32>
-    requires { level < 2 ^ 30 }
-    ensures { result ≡ generation_for level }
+/// Returns the generation number: the topological level, unless it is 0.
+pub fn generation(high: u32) -> Option<u32>
+    ensures { result ≡ generation_for (level_of high) }
 {
-    if level == 0 { None } else { Some(level as u32) }
+    let level = level(high);
+    if level == 0 { None } else { Some(level) }
 }
 
 /// Returns the commit date, in seconds since the Unix epoch. It has 34 bits.
-pub fn date(high: usize, low: usize) -> i64
-    requires { low < 2 ^ 32 }
+pub fn date(high: u32, low: u32) -> i64
     ensures { result ≡ date_of high low }
 {
-    (high % 4 * 0x1_0000_0000 + low) as i64
+    (u64::from(high % 4) * 0x1_0000_0000 + u64::from(low)) as i64
 }

@@ -10,6 +10,7 @@ use crate::row::Row;
 use crate::source::Source;
 use gix_base::hash::ObjectId;
 use gix_commitgraph::position::{Counted, Place};
+use gix_commitgraph::row;
 use gix_files::Opened;
 use std::alloc::Allocator;
 
@@ -93,7 +94,7 @@ impl<O: Opened, A: Allocator + Copy> Layer<O, A> {
         let at = self.row_place(row).saturating_add(28);
         let mut bytes = [0u8; 4];
         self.blocks.fill(alloc, &self.source, at, &mut bytes)?;
-        Ok(u32::from_be_bytes(bytes) / 4)
+        Ok(row::level(u32::from_be_bytes(bytes)))
     }
 
     /// Returns the commit at a place of this file, whose row was read.

@@ -50,20 +50,20 @@ impl Row {
         ensures value { result ≡ level_in self.now.bytes }
         ensures bound { result < 2 ^ 30 }
     {
-        row::level(word_at(&self.bytes, 28)) as u32
+        row::level(number(self, 28))
     }
 
     /// Returns the generation number: the topological level, unless it is 0.
     pub(crate) fn generation(&self) -> Option<u32>
         ensures { result ≡ generation_in self.now.bytes }
     {
-        row::generation(row::level(word_at(&self.bytes, 28)))
+        row::generation(number(self, 28))
     }
 
     /// Returns the commit date, in seconds since the Unix epoch. It has 34 bits.
     pub(crate) fn date(&self) -> i64
         ensures { result ≡ date_in self.now.bytes }
     {
-        row::date(word_at(&self.bytes, 28), word_at(&self.bytes, 32))
+        row::date(number(self, 28), number(self, 32))
     }
 }

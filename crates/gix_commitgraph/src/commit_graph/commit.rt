@@ -8,7 +8,7 @@ ghost use Rattle.gix_commitgraph.specs.FileChecks.{IsSound, IsSoundIn};
 
 use crate::commit_graph::check::{HIGH, NONE};
 use crate::commit_graph::layout::Layout;
-use crate::row::{date, generation, level};
+use crate::row;
 use gix_base::hash::ObjectId;
 use gix_ids::{id_at, word_at};
 use gix_revwalk::graph::SourceCommit;
@@ -105,12 +105,12 @@ pub(crate) fn commit_in<A: Allocator>(
     requires here { i < l.table.count }
     ensures { IfOk result (λ commit. entry_of commit ≡ entry_in below.now bytes.now l i) }
 {
-    let high = word_at(bytes, l.rows + 36 * i + 28);
-    let low = word_at(bytes, l.rows + 36 * i + 32);
+    let high = word_at(bytes, l.rows + 36 * i + 28) as u32;
+    let low = word_at(bytes, l.rows + 36 * i + 32) as u32;
     Ok(SourceCommit {
         parents: parents(bytes, l, below, i, alloc)?,
-        time: date(high, low),
-        generation: generation(level(high)),
+        time: row::date(high, low),
+        generation: row::generation(high),
     })
 }
 

@@ -18,7 +18,7 @@ fn level(bytes: &[u8], l: Layout, i: usize) -> usize
     ensures value { result ≡ level_at bytes.now l i }
     ensures bound { result < 2 ^ 30 }
 {
-    row::level(word_at(bytes, l.rows + 36 * i + 28))
+    row::level(word_at(bytes, l.rows + 36 * i + 28) as u32) as usize
 }
 
 /// Returns whether `p` is the position of a commit whose level is less than `limit`.
