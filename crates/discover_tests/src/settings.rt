@@ -70,6 +70,25 @@ static INDEX: &str = "\
 +[splitIndex]sharedIndexExpire=never\n\
 ";
 
+/// Settings of filters for `git describe --dirty`, which reads a file.
+static FILTERS: &str = "\
+-[filter \"x\"]clean\n\
++[filter \"x\"]clean=\n\
+-[filter \"x\"]smudge\n\
++[filter \"x\"]smudge=\n\
+-[filter \"x\"]process\n\
++[filter \"x\"]process=\n\
++[filter \"x\"]required\n\
+-[filter \"x\"]required=z\n\
++[filter \"x\"]required=no\n\
++[filter \"x\"]other\n\
++[filter]clean\n\
++[filter]required=z\n\
+-[filter \"\"]clean\n\
+-[filter \"a.b\"]clean\n\
+-[Filter \"X\"]CLEAN\n\
+";
+
 /// Settings for `git rev-parse main@{u}`. None is about the branch or its remote.
 static REMOTES: &str = "\
 -[branch \"nosuch\"]remote\n\
@@ -317,6 +336,12 @@ fn first_wrong(alloc: Global, rows: &str, checked: Checked) -> Result<Option<&st
 #[test]
 fn checks_settings_of_the_index(rt: HostRuntime) -> Result<(), Fail> {
     assert!(rt; first_wrong(rt.alloc(), INDEX, Checked::Index)?.is_none());
+    Ok(())
+}
+
+#[test]
+fn checks_settings_of_filters(rt: HostRuntime) -> Result<(), Fail> {
+    assert!(rt; first_wrong(rt.alloc(), FILTERS, Checked::Index)?.is_none());
     Ok(())
 }
 

@@ -124,7 +124,7 @@ fn counts(session: &Session<'_>, difference: Difference<'_>) -> Result<bool, Sto
     }
 }
 
-/// Checks the settings that git reads with the index. It may refuse one that is malformed.
+/// Checks the settings that git reads for `--dirty`. It may refuse one that is malformed.
 fn check_settings(session: &Session<'_>) -> Result<(), Stop> {
     match session.repository.settings().check_for_index(session.alloc) {
         Ok(()) => Ok(()),

@@ -18,6 +18,7 @@ mod color;
 mod command_line;
 mod environment;
 mod error;
+mod filters;
 mod format;
 mod gitfile;
 mod head;

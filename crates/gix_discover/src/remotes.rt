@@ -51,7 +51,7 @@ static REMOTE: [(&'static str, Kind); 15] = [
 /// Returns the subsection and the key in the name of a setting.
 ///
 /// Returns `None` if the name does not begin with `section`, or has no subsection.
-fn parts<'a>(name: &'a [u8], section: &[u8]) -> Option<(&'a [u8], &'a [u8])> {
+pub(crate) fn parts<'a>(name: &'a [u8], section: &[u8]) -> Option<(&'a [u8], &'a [u8])> {
     let rest = name.strip_prefix(section)?;
     let dot = rest.iter().rposition(|b| *b == b'.')?;
     Some((rest.get(..dot)?, rest.get(dot.checked_add(1)?..)?))

@@ -9,6 +9,7 @@ ghost use Rattle.gix_discover.specs.Settings.{settings_of};
 use crate::checks::{check, check_index};
 use crate::environment::{Environment, Variable};
 use crate::error::{DiscoverError, Reason, about, about_value};
+use crate::filters::check_filters;
 use crate::format::{boolean_of, needed};
 use crate::include::{Known, Reader, Reading};
 use crate::layout::Layout;
@@ -215,18 +216,20 @@ impl<A: Allocator + Copy> Settings<A> {
         self.boolean(alloc, b"core", None, b"usereplacerefs", true)
     }
 
-    /// Checks the settings that git reads when it reads or writes the index, as `index.threads`.
+    /// Checks the settings that git reads when it compares the index with the working tree.
     ///
     /// git looks at some of them only if it writes the index (git-config, "index.threads",
-    /// "core.sharedRepository", "splitIndex.maxPercentChange").
+    /// "core.sharedRepository", "splitIndex.maxPercentChange"), and at those of filters only if it
+    /// reads a file (gitattributes, "filter").
     ///
     /// # Errors
     ///
     /// - `MissingValue`, `BadBoolean`, `BadNumber` or `BadValue` if git may refuse the last value
-    ///   of one of them.
+    ///   of one of them, or any value of a filter.
     /// - `OutOfMemory` if an allocation failed.
     pub fn check_for_index(&self, alloc: A) -> Result<(), DiscoverError<A>> {
-        check_index(alloc, &self.entries)
+        check_index(alloc, &self.entries)?;
+        check_filters(alloc, &self.entries)
     }
 
     /// Checks the settings of all branches and remotes, as git does before it looks for a sibling.
