@@ -39,7 +39,7 @@ pub(crate) fn head_tree(session: &mut Session<'_>) -> Result<ObjectId, Stop> {
     }
 }
 
-/// Returns an entry of a tree with its path.
+/// Returns an entry of a tree with its path. Fails for a tree that is replaced (git-replace).
 fn with_path(session: &Session<'_>, folder: &[u8], entry: &TreeEntry<'_>) -> Result<Listed, Stop> {
     if entry.is_tree() {
         expect_own(session, entry.id)?;

@@ -212,21 +212,16 @@ fn changes_of<F: Folders + Drop, A: Allocator + Copy>(
     Ok(changes)
 }
 
-/// Returns what a repository changes: nothing in authentic mode.
-fn sound_changes<F: Folders + Drop, A: Allocator + Copy>(
-    alloc: A,
-    files: &F,
-    environment: &Environment<A>,
-    layout: &Layout<A>,
-    settings: &Settings<A>,
-    references: &mut References<F, A>,
+/// Fails in authentic mode if the repository changes commits.
+fn expect_unchanged<A: Allocator + Copy>(
+    changes: &Changes<A>,
     mode: Mode,
-) -> Result<Changes<A>, OpenError<A>> {
-    let changes = changes_of(alloc, files, environment, layout, settings, references)?;
+) -> Result<(), OpenError<A>> {
     if mode == Mode::Authentic && !changes.is_empty() {
-        return Err(OpenError::IsChanged);
+        Err(OpenError::IsChanged)
+    } else {
+        Ok(())
     }
-    Ok(changes)
 }
 
 /// Opens the commit-graph. As git does, it passes over one that cannot be used.
@@ -286,7 +281,7 @@ fn usable_rows<F: Folders + Copy + Drop, A: Allocator + Copy>(
     }
 }
 
-/// Opens what commits are read from.
+/// Opens what commits are read from. Fails in authentic mode if the repository changes commits.
 fn commits_of<F: Folders + Copy + Drop, A: Allocator + Copy>(
     alloc: A,
     files: F,
@@ -295,6 +290,7 @@ fn commits_of<F: Folders + Copy + Drop, A: Allocator + Copy>(
     changes: Changes<A>,
     mode: Mode,
 ) -> Result<Commits<F, A>, OpenError<A>> {
+    expect_unchanged(&changes, mode)?;
     let store = sound_store(alloc, files, layout, &changes)?;
     let rows = usable_rows(alloc, files, layout, settings, &changes, mode)?;
     Ok(Commits {
@@ -339,14 +335,13 @@ impl<F: Places + Copy + Drop, A: Allocator + Copy> Repository<F, A> {
         let layout = discover(alloc, &files, environment)?;
         let settings = Settings::read(alloc, &files, environment, &layout)?;
         let mut references = References::open(alloc, files, &layout.git_dir, &layout.common_dir)?;
-        let changes = sound_changes(
+        let changes = changes_of(
             alloc,
             &files,
             environment,
             &layout,
             &settings,
             &mut references,
-            opening.mode,
         )?;
         let commits = commits_of(alloc, files, &layout, &settings, changes, opening.mode)?;
         let abbrev = settings.abbrev(alloc)?;
