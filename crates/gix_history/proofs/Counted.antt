@@ -1,12 +1,12 @@
 -- All that some commits reach is read.
-use Rattle.std.proofs.Common.{◌≡◌, ◌⊎◌, inl, inr, ℕ, suc, zero, ◌+◌, ◌≤◌, ◌<◌, [], ◌∷◌, ◌++◌, List, Option, Some, None, is_some, cond, Bool, true, false, IsTrue, refl, sym, ap, ◌∙◌, subst, take, length, arith, IfSome}
+use Rattle.std.proofs.Common.{◌≡◌, inl, inr, ℕ, suc, zero, ◌+◌, ◌≤◌, [], ◌∷◌, ◌++◌, List, Option, Some, None, is_some, cond, true, false, IsTrue, refl, sym, ap, ◌∙◌, subst, take, length, arith, IfSome}
 use Rattle.std.proofs.lemmas.List.{length-append, take_all, take-append-le}
 use Rattle.std.proofs.lemmas.Map.Keys.{IsDistinct-push}
 use Rattle.gix_base.specs.declared.hash.ObjectId.{ObjectId}
 use Rattle.gix_revwalk.specs.History.{History, Entry, Has, IsEdge, IsAncestor, IsAncestorOfOne, entry_at, same_id, is_one_of, parents_in}
 use Rattle.gix_revwalk.specs.History.IsAncestor.{itself, further}
 use Rattle.gix_revwalk.specs.Numbers.{item_at}
-use Rattle.gix_revwalk.specs.Sizes.{Lists, HasSize}
+use Rattle.gix_revwalk.specs.Sizes.{HasSize}
 use Rattle.gix_revwalk.proofs.Growth.{one_of-item, take-item}
 use Rattle.gix_revwalk.proofs.Ids.{same_id-true, same_id-itself, same_id-laws}
 use Rattle.gix_revwalk.proofs.Inserted.{entry-stays}

@@ -1,5 +1,5 @@
 -- The number of all that some commits reach, if none is excluded.
-use Rattle.std.proofs.Common.{◌≡◌, ℕ, [], List, false, true, IsTrue, sym, subst, arith}
+use Rattle.std.proofs.Common.{◌≡◌, ℕ, [], List, false, true, sym, subst, arith}
 use Rattle.std.proofs.lemmas.Map.Made.{length-le_from_is_member}
 use Rattle.gix_base.specs.declared.hash.ObjectId.{ObjectId}
 use Rattle.gix_revwalk.specs.History.{History, IsAncestorOfOne}

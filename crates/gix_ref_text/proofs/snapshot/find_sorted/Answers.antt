@@ -1,7 +1,7 @@
 use Rattle.std.proofs.Common.{◌≡◌, None, length, sym, ap, ◌∙◌, subst, arith}
 use Rattle.std.specs.Cmp.Lexicographic.{slice_cmp}
 use Rattle.std.specs.Ordering.{nat_cmp}
-use Rattle.std.specs.declared.cmp.Ordering.TheVariants.{Less, Equal, Greater}
+use Rattle.std.specs.declared.cmp.Ordering.TheVariants.{Equal}
 use Rattle.gix_ref_text.specs.Lines.{lines}
 use Rattle.gix_ref_text.specs.Snapshot.{first_says, name_at, places_say, AreSorted}
 use Rattle.gix_ref_text.proofs.Places.{split-at, same-name, behind-sorted, front-sorted, look-behind, look-here, look-before}

@@ -1,4 +1,4 @@
-use Rattle.std.proofs.Common.{◌≡◌, ◌∙◌, ap, sym, None}
+use Rattle.std.proofs.Common.{◌∙◌, ap, sym, None}
 use Rattle.gix_ref_text.specs.Leads.{name_leads}
 use Rattle.gix_ref_text.specs.Short.{first_found}
 use Rattle.gix_ref.proofs.Knows.{if_ok}
