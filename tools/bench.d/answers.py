@@ -2,15 +2,21 @@
 
 For each number of commits it makes a repository below the folder. Every tenth commit merges a side branch of five
 commits, and every thousandth has a tag. Each question is asked with a commit-graph file and without, by one process
-each time. A row has the least time of the program and of git, in milliseconds, and their ratio.
+each time. A row has the least time of the program and of git, their ratio, and the most memory that each held.
+
+Some questions are asked again in authentic mode. git has no such mode, and is asked the plain question. Last, `batch`
+answers 100 questions in one process, where git needs 100 processes.
 """
 
 from __future__ import annotations
 
 import os
+import shutil
 import subprocess
 import sys
 import time
+from collections.abc import Callable, Iterator
+from typing import NamedTuple
 
 QUESTIONS = (
     "merge-base main topic",
@@ -24,6 +30,12 @@ QUESTIONS = (
     "rev-list --left-right --count main...topic",
     "for-each-ref --contains near",
 )
+
+# Questions that are asked in authentic mode, too.
+AUTHENTIC = ("merge-base main topic", "describe --tags", "rev-list --count HEAD")
+
+# Questions for `batch`. None needs a walk over the whole history.
+IN_TURN = 25 * ("merge-base main topic", "describe --tags", "rev-parse --short HEAD~1", "rev-list -n 1 HEAD")
 
 
 def history(commits: int) -> bytes:
@@ -64,16 +76,49 @@ def history(commits: int) -> bytes:
     return "\n".join(lines).encode()
 
 
-def least(words: list[str]) -> float:
-    """Returns the least time of a process in milliseconds: of five runs, or of more in half a second."""
+class Asked(NamedTuple):
+    """A question: what it is called, the program's words and its input, and the words of each process of git."""
+
+    name: str
+    ours: list[str]
+    given: bytes
+    theirs: list[list[str]]
+
+
+def questions(program: str, place: str) -> Iterator[Asked]:
+    """Returns what is asked in one repository."""
+    mine, git = [program, "-C", place], ["git", "-C", place]
+    for one in QUESTIONS:
+        yield Asked(f"`{one}`", [*mine, *one.split()], b"", [[*git, *one.split()]])
+    for one in AUTHENTIC:
+        yield Asked(f"`--authentic {one}`", [*mine, "--authentic", *one.split()], b"", [[*git, *one.split()]])
+    given = "".join(f"{one}\n" for one in IN_TURN).encode()
+    yield Asked(f"{len(IN_TURN)} questions, `batch`", [*mine, "batch"], given, [[*git, *one.split()] for one in IN_TURN])
+
+
+def ask(words: list[str], given: bytes = b"") -> None:
+    """Runs a process that has to end with status 0."""
+    done = subprocess.run(words, input=given, stdout=subprocess.DEVNULL, stderr=subprocess.PIPE)
+    if done.returncode != 0:
+        raise SystemExit(f"{words}: status {done.returncode}, {done.stderr.decode(errors='replace')}")
+
+
+def least(once: Callable[[], object]) -> float:
+    """Returns the least time of a call in milliseconds: of five calls, or of more in half a second."""
     times: list[float] = []
     while len(times) < 5 or sum(times) < 500 and len(times) < 50:
         began = time.perf_counter()
-        done = subprocess.run(words, stdout=subprocess.DEVNULL, stderr=subprocess.PIPE)
+        once()
         times.append(1000 * (time.perf_counter() - began))
-        if done.returncode != 0:
-            raise SystemExit(f"{words}: status {done.returncode}, {done.stderr.decode(errors='replace')}")
     return min(times)
+
+
+def memory(words: list[str], given: bytes = b"") -> str:
+    """Returns the most memory that a process held."""
+    if not shutil.which("time"):
+        return "-"
+    done = subprocess.run(["time", "-f", "%M", *words], input=given, stdout=subprocess.DEVNULL, stderr=subprocess.PIPE)
+    return f"{digits(int(done.stderr.split()[-1]) / 1024)} MB"
 
 
 def digits(number: float) -> str:
@@ -85,8 +130,16 @@ def shown(milliseconds: float) -> str:
     return f"{digits(milliseconds)} ms" if milliseconds < 1000 else f"{milliseconds / 1000:.1f} s"
 
 
+def row(asked: Asked) -> str:
+    """Asks the program and git, and returns the row without the first two columns."""
+    ours = least(lambda: ask(asked.ours, asked.given))
+    theirs = least(lambda: [ask(words) for words in asked.theirs])
+    memories = memory(asked.ours, asked.given), memory(asked.theirs[0])
+    return " | ".join((asked.name, shown(ours), shown(theirs), digits(ours / theirs), *memories))
+
+
 def main(program: str, folder: str, *sizes: str) -> None:
-    print("| Commits | Commit-graph | Question | ours | git | ratio |\n| --- | --- | --- | --- | --- | --- |")
+    print("| Commits | Commit-graph | Question | ours | git | ratio | memory | memory, git |\n|" + " --- |" * 8)
     for size in sizes:
         place = os.path.join(folder, size)
         git = ["git", "-C", place]
@@ -98,11 +151,8 @@ def main(program: str, folder: str, *sizes: str) -> None:
                 subprocess.run([*git, "commit-graph", "write", "--reachable"], check=True, stderr=subprocess.DEVNULL)
             else:
                 subprocess.run([*git, "config", "core.commitGraph", "false"], check=True)
-            for question in QUESTIONS:
-                words = question.split(" ")
-                ours, theirs = least([program, "-C", place, *words]), least([*git, *words])
-                row = (f"{int(size):,}", graph, f"`{question}`", shown(ours), shown(theirs), digits(ours / theirs))
-                print(f"| {' | '.join(row)} |", flush=True)
+            for asked in questions(program, place):
+                print(f"| {int(size):,} | {graph} | {row(asked)} |", flush=True)
 
 
 if __name__ == "__main__":
