@@ -873,6 +873,14 @@ def nowhere(room: Room) -> list[Command]:
     damaged.may_be_refused = True
     commands = rows(damaged, "rev-parse HEAD", "rev-parse v1", "rev-list --all", "describe --all",
                     "for-each-ref", "merge-base HEAD HEAD~1")
+    # `packed-refs` says of a commit that it is a tag. git then takes it for one, and fails.
+    untrue = room.copy(base, "a peeled commit")
+    untrue.git("tag", "-a", "-m", "x", "marked", base.ids[1])
+    untrue.git("pack-refs", "--all")
+    with open(untrue.path + b"/.git/packed-refs", "ab") as file:
+        file.write(f"{base.ids[0]} refs/tags/zz\n^{base.ids[1]}\n".encode())
+    untrue.may_be_refused = True
+    commands += rows(untrue, "describe", "describe --tags", "describe marked", "describe --all")
     head = base.ids[-1]
     for place in (gone, lacking, garbage, tagged_head, circle, dangling):
         place.git("tag", "-f", "t", base.ids[1])

@@ -168,16 +168,22 @@ pub(crate) fn say_unread(session: &mut Session<'_>, id: ObjectId) -> Result<(), 
 }
 
 /// Returns the date of a name's annotated tag; `None` if the tag is missing, which git says.
+///
+/// # Errors
+///
+/// - `Refused` if the object is no tag, although `packed-refs` says where it leads.
+/// - Those of [`said`].
 fn date_of(session: &mut Session<'_>, name: &Name) -> Result<Option<u64>, Stop> {
     if name.date.is_some() {
         return Ok(name.date);
     }
-    match said(session, name.id)? {
-        Some(tag) => Ok(Some(tag.date)),
-        None => {
+    match session.repository.tag(name.id) {
+        Ok(tag) => Ok(Some(tag.date)),
+        Err(Refusal::Object(gix_odb::Error::Missing(_))) if !session.repository.is_partial() => {
             say_unread(session, name.id)?;
             Ok(None)
         }
+        Err(refusal) => Err(Stop::from(refusal)),
     }
 }
 
