@@ -30,8 +30,9 @@ FOLDER = "usr/lib/x86_64-linux-gnu"
 
 WHAT = """\
  gix_revision finds merge bases, describes commits by their tags, and resolves
- revisions such as main~2 and v1.0..topic. Each answer comes from a call with a
- machine-checked proof.
+ revisions such as main~2 and v1.0..topic. The answers of the library come from
+ calls with a machine-checked proof. git-proved reads names and options by code
+ that is tested, not proved.
  .
 """
 

@@ -20,7 +20,7 @@ NAME = f"gix_revision_proved-{VERSION}"
 METADATA = f"""Metadata-Version: 2.1
 Name: gix-revision-proved
 Version: {VERSION}
-Summary: Merge bases, commit descriptions and git revisions, each answer proved
+Summary: Merge bases, commit descriptions and git revisions, over proved code
 License: MIT OR Apache-2.0
 Platform: Linux, x86-64-v2
 Requires-Python: >=3.10
