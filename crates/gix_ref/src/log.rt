@@ -2,7 +2,7 @@
 
 use crate::error::{Error, Fault};
 use crate::files::read;
-use crate::store::References;
+use crate::store::{Link, References};
 use gix_files::Folders;
 use gix_ref_text::log::Reflog;
 use std::alloc::Allocator;
@@ -29,6 +29,15 @@ impl<F: Folders + Drop, A: Allocator + Copy> References<F, A> {
         match read(self.alloc, &self.files, &path, name)? {
             Some(bytes) => Ok(Some(Reflog::parse(self.alloc, &bytes)?)),
             None => Ok(None),
+        }
+    }
+
+    /// Reads a reflog by which a name is looked up. As in git, a symbolic link is none.
+    pub(crate) fn read_own_log(&self, name: &[u8]) -> Result<Option<Reflog<A>>, Fault> {
+        let path = self.path(b"logs/", name)?;
+        match self.link_at(&path, name)? {
+            Link::None => self.read_log(name),
+            Link::Text(_) | Link::Below(_) => Ok(None),
         }
     }
 }

@@ -144,9 +144,9 @@ impl<F: Folders + Drop, A: Allocator + Copy> References<F, A> {
     /// Returns the reflog of the reference with a full name, or else of the one to which it leads.
     fn log_of(&self, name: Vec<u8, A>, led: Reference<A>) -> Result<Option<Logged<A>>, Fault> {
         let id = led.id;
-        let (name, reflog) = match self.read_log(&name)? {
+        let (name, reflog) = match self.read_own_log(&name)? {
             Some(reflog) => (name, reflog),
-            None => match self.read_log(&led.name)? {
+            None => match self.read_own_log(&led.name)? {
                 Some(reflog) => (led.name, reflog),
                 None => return Ok(None),
             },

@@ -34,9 +34,9 @@ enum LooseFile<A: Allocator> {
     Unreadable(ErrorKind),
 }
 
-/// Whether there is a symbolic link in place of a loose reference.
+/// Whether there is a symbolic link in place of a loose reference or a reflog.
 #[derive(Drop)]
-enum Link<A: Allocator> {
+pub(crate) enum Link<A: Allocator> {
     Text(Vec<u8, A>),
     None,
     /// There can be none: the name is below that of a file, or too long.
@@ -135,8 +135,8 @@ impl<F: Folders + Drop, A: Allocator + Copy> References<F, A> {
         Ok(path)
     }
 
-    /// Reads the text of the symbolic link in place of a loose reference, if there is one.
-    fn link_at(&self, path: &[u8], name: &[u8]) -> Result<Link<A>, Fault> {
+    /// Reads the text of the symbolic link at the path of a reference or reflog, if there is one.
+    pub(crate) fn link_at(&self, path: &[u8], name: &[u8]) -> Result<Link<A>, Fault> {
         let mut text = Vec::new(self.alloc);
         match self.files.link(path, &mut text) {
             Ok(true) => Ok(Link::Text(text)),
