@@ -305,7 +305,7 @@ fn is_taken(alloc: Global, text: &str, checked: Checked) -> Result<bool, AllocEr
         Err(ParseError::OutOfMemory) => return Err(AllocError),
     };
     let checked = match checked {
-        Checked::Index => settings.check_for_index(alloc),
+        Checked::Index => settings.check_for_work_tree(alloc),
         Checked::Remotes => settings.check_remotes(alloc),
     };
     match checked {

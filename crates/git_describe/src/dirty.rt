@@ -126,7 +126,11 @@ fn counts(session: &Session<'_>, difference: Difference<'_>) -> Result<bool, Sto
 
 /// Checks the settings that git reads for `--dirty`. It may refuse one that is malformed.
 fn check_settings(session: &Session<'_>) -> Result<(), Stop> {
-    match session.repository.settings().check_for_index(session.alloc) {
+    match session
+        .repository
+        .settings()
+        .check_for_work_tree(session.alloc)
+    {
         Ok(()) => Ok(()),
         Err(error) => Err(refused(session.alloc, &error)),
     }

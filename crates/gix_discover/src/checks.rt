@@ -7,6 +7,8 @@
 
 use crate::color::is_color_value;
 use crate::error::{DiscoverError, Reason, about, about_value};
+use crate::filters::filter_fault;
+use crate::remotes::sibling_fault;
 use gix_config::{Entry, boolean, is_blank, is_word, number, size, value_of};
 use std::alloc::Allocator;
 
@@ -205,6 +207,15 @@ static INDEX: [(&'static str, Kind); 6] = [
     ),
 ];
 
+/// Returns the subsection and the key in the name of a setting.
+///
+/// Returns `None` if the name does not begin with `section`, or has no subsection.
+pub(crate) fn parts<'a>(name: &'a [u8], section: &[u8]) -> Option<(&'a [u8], &'a [u8])> {
+    let rest = name.strip_prefix(section)?;
+    let dot = rest.iter().rposition(|b| *b == b'.')?;
+    Some((rest.get(..dot)?, rest.get(dot.checked_add(1)?..)?))
+}
+
 /// Tells whether a text is one of some words in any letter case.
 fn is_any_word(text: &[u8], words: &[&str]) -> bool {
     words.iter().any(|word| is_word(text, word.as_bytes()))
@@ -359,11 +370,7 @@ fn kind_of(name: &[u8]) -> Option<Kind> {
 }
 
 /// Returns the error for the value of a setting.
-pub(crate) fn error_of<A: Allocator + Copy>(
-    alloc: A,
-    reason: Reason,
-    entry: &Entry<A>,
-) -> DiscoverError<A> {
+fn error_of<A: Allocator + Copy>(alloc: A, reason: Reason, entry: &Entry<A>) -> DiscoverError<A> {
     match (reason, value_of(entry)) {
         (Reason::UnexpandedPath | Reason::BadRefspec, Some(text)) => about(alloc, reason, text),
         (Reason::BadBoolean | Reason::BadNumber | Reason::BadValue, Some(value)) => {
@@ -373,17 +380,35 @@ pub(crate) fn error_of<A: Allocator + Copy>(
     }
 }
 
-/// Checks every value of the settings that git checks.
-fn check_each<A: Allocator + Copy>(
+/// Says of which settings every value is checked.
+#[derive(Clone, Copy)]
+pub(crate) enum Group {
+    /// Those that git checks whatever it is asked.
+    Usual { has_home: bool },
+    /// Those of branches, remotes and URLs.
+    Siblings,
+    /// Those of filters.
+    Filters,
+}
+
+/// Returns the reason against a setting of a group; `None` if git takes it.
+fn group_fault(group: Group, name: &[u8], value: Option<&[u8]>) -> Option<Reason> {
+    match group {
+        Group::Usual { has_home } => fault(kind_of(name)?, value, has_home),
+        Group::Siblings => sibling_fault(name, value),
+        Group::Filters => filter_fault(name, value),
+    }
+}
+
+/// Checks every value of the settings of a group.
+pub(crate) fn check_each<A: Allocator + Copy>(
     alloc: A,
     entries: &[Entry<A>],
-    has_home: bool,
+    group: Group,
 ) -> Result<(), DiscoverError<A>> {
     for entry in entries {
-        if let Some(kind) = kind_of(&entry.name) {
-            if let Some(reason) = fault(kind, value_of(entry), has_home) {
-                return Err(error_of(alloc, reason, entry));
-            }
+        if let Some(reason) = group_fault(group, &entry.name, value_of(entry)) {
+            return Err(error_of(alloc, reason, entry));
         }
     }
     Ok(())
@@ -443,6 +468,6 @@ pub(crate) fn check<A: Allocator + Copy>(
     entries: &[Entry<A>],
     has_home: bool,
 ) -> Result<(), DiscoverError<A>> {
-    check_each(alloc, entries, has_home)?;
+    check_each(alloc, entries, Group::Usual { has_home })?;
     check_reading(alloc, entries)
 }

@@ -4,11 +4,9 @@
 //! git reads all of them when it first looks for the upstream of a branch, or for where it is
 //! pushed. It fails if one is malformed, whatever branch or remote it is about.
 
-use crate::checks::{boolean_fault, error_of, is_any, unless};
-use crate::error::{DiscoverError, Reason};
+use crate::checks::{boolean_fault, is_any, parts, unless};
+use crate::error::Reason;
 use crate::refspec::{is_fetch, is_push};
-use gix_config::{Entry, value_of};
-use std::alloc::Allocator;
 
 /// Says what the value of a remote's setting has to be.
 #[derive(Clone, Copy)]
@@ -48,15 +46,6 @@ static REMOTE: [(&'static str, Kind); 15] = [
     ("vcs", Kind::Text),
 ];
 
-/// Returns the subsection and the key in the name of a setting.
-///
-/// Returns `None` if the name does not begin with `section`, or has no subsection.
-pub(crate) fn parts<'a>(name: &'a [u8], section: &[u8]) -> Option<(&'a [u8], &'a [u8])> {
-    let rest = name.strip_prefix(section)?;
-    let dot = rest.iter().rposition(|b| *b == b'.')?;
-    Some((rest.get(..dot)?, rest.get(dot.checked_add(1)?..)?))
-}
-
 /// Returns the reason against a value of a kind; `None` if git takes it.
 fn fault(kind: Kind, value: Option<&[u8]>) -> Option<Reason> {
     match (kind, value) {
@@ -85,7 +74,7 @@ fn remote_fault(remote: &[u8], key: &[u8], value: Option<&[u8]>) -> Option<Reaso
 }
 
 /// Returns the reason against a setting; `None` if git takes it.
-fn setting_fault(name: &[u8], value: Option<&[u8]>) -> Option<Reason> {
+pub(crate) fn sibling_fault(name: &[u8], value: Option<&[u8]>) -> Option<Reason> {
     if let Some((branch, key)) = parts(name, b"branch.") {
         if branch.is_empty() {
             return Some(Reason::BadConfigKey);
@@ -103,17 +92,4 @@ fn setting_fault(name: &[u8], value: Option<&[u8]>) -> Option<Reason> {
     }
     let needs_value = name == b"remote.pushdefault".as_slice();
     unless(value.is_some() || !needs_value, Reason::MissingValue)
-}
-
-/// Checks the settings of all branches, remotes and URLs.
-pub(crate) fn check_remotes<A: Allocator + Copy>(
-    alloc: A,
-    entries: &[Entry<A>],
-) -> Result<(), DiscoverError<A>> {
-    for entry in entries {
-        if let Some(reason) = setting_fault(&entry.name, value_of(entry)) {
-            return Err(error_of(alloc, reason, entry));
-        }
-    }
-    Ok(())
 }

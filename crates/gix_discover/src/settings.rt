@@ -6,16 +6,14 @@ ghost use Rattle.gix_config.specs.Names.{name_of};
 ghost use Rattle.gix_config.specs.Values.{shown, all_shown, values_of, last_value};
 ghost use Rattle.gix_discover.specs.Settings.{settings_of};
 
-use crate::checks::{check, check_index};
+use crate::checks::{Group, check, check_each, check_index};
 use crate::environment::{Environment, Variable};
 use crate::error::{DiscoverError, Reason, about, about_value};
-use crate::filters::check_filters;
 use crate::format::{boolean_of, needed};
 use crate::include::{Known, Reader, Reading};
 use crate::layout::Layout;
 use crate::paths::within;
 use crate::places::Places;
-use crate::remotes::check_remotes;
 use gix_config::{Entry, all_values, is_word, number};
 use std::alloc::{AllocError, Allocator, Global};
 
@@ -227,9 +225,9 @@ impl<A: Allocator + Copy> Settings<A> {
     /// - `MissingValue`, `BadBoolean`, `BadNumber` or `BadValue` if git may refuse the last value
     ///   of one of them, or any value of a filter.
     /// - `OutOfMemory` if an allocation failed.
-    pub fn check_for_index(&self, alloc: A) -> Result<(), DiscoverError<A>> {
+    pub fn check_for_work_tree(&self, alloc: A) -> Result<(), DiscoverError<A>> {
         check_index(alloc, &self.entries)?;
-        check_filters(alloc, &self.entries)
+        check_each(alloc, &self.entries, Group::Filters)
     }
 
     /// Checks the settings of all branches and remotes, as git does before it looks for a sibling.
@@ -247,7 +245,7 @@ impl<A: Allocator + Copy> Settings<A> {
     /// - `BadConfigKey` if a branch has an empty name.
     /// - `OutOfMemory` if an allocation failed.
     pub fn check_remotes(&self, alloc: A) -> Result<(), DiscoverError<A>> {
-        check_remotes(alloc, &self.entries)
+        check_each(alloc, &self.entries, Group::Siblings)
     }
 
     /// Returns the last value of `branch.NAME.KEY`, as of `remote`, `merge` or `pushremote`.
