@@ -18,7 +18,7 @@ use crate::ask::{is_any_reached, is_own, nearest, question};
 use crate::asked::{Abbrev, Asked};
 use crate::dirty::is_dirty;
 use crate::patterns::refuse_odd;
-use crate::table::{Name, Priority, Table, say_unread};
+use crate::table::{Name, Priority, Table, tag_of};
 use crate::walk::{Candidate, Search, walk_from};
 use git_session::names::commit_of;
 use git_session::ranges::revision;
@@ -171,21 +171,14 @@ fn read_tag(
     name: &Name,
     path: &[u8],
 ) -> Result<(ObjectId, Vec<u8>), Stop> {
-    match session.repository.tag(name.id) {
-        Ok(tag) if tag.name.contains(&0) => Err(not_read(
-            session.alloc,
-            &[b"a tag's name has a byte that is 0"],
-        )),
-        Ok(tag) => {
-            expect_kind(session, tag.target, tag.kind)?;
-            Ok((tag.target, tag.name))
-        }
-        Err(Refusal::Object(gix_odb::Error::Missing(_))) if !session.repository.is_partial() => {
-            say_unread(session, name.id)?;
-            Err(fatal(session.alloc, &[b"annotated tag ", path, b" not available"]))
-        }
-        Err(refusal) => Err(Stop::from(refusal)),
+    let Some(tag) = tag_of(session, name.id)? else {
+        return Err(fatal(session.alloc, &[b"annotated tag ", path, b" not available"]));
+    };
+    if tag.name.contains(&0) {
+        return Err(not_read(session.alloc, &[b"a tag's name has a byte that is 0"]));
     }
+    expect_kind(session, tag.target, tag.kind)?;
+    Ok((tag.target, tag.name))
 }
 
 impl<'w> Describer<'w> {

@@ -4,6 +4,7 @@ use crate::asked::Asked;
 use crate::patterns::counts;
 use git_session::session::Session;
 use git_session::stop::Stop;
+use gix_odb::Tag;
 use gix_ref::{Listed, Listing};
 use gix_repository::Refusal;
 use gix_revision::Seed;
@@ -161,29 +162,37 @@ fn leads_to(
 }
 
 /// Says, as git does, that an annotated tag is not read.
-pub(crate) fn say_unread(session: &mut Session<'_>, id: ObjectId) -> Result<(), AllocError> {
+fn say_unread(session: &mut Session<'_>, id: ObjectId) -> Result<(), AllocError> {
     let mut digits = [0u8; 40];
     let written = id.write_hex(40, &mut digits);
     session.say(&[b"error: Could not read ", &digits[..written]])
 }
 
-/// Returns the date of a name's annotated tag; `None` if the tag is missing, which git says.
+/// Returns an annotated tag; `None` if it is missing, which git says.
 ///
 /// # Errors
 ///
 /// - `Refused` if the object is no tag, although `packed-refs` says where it leads.
 /// - Those of [`said`].
+pub(crate) fn tag_of(session: &mut Session<'_>, id: ObjectId) -> Result<Option<Tag>, Stop> {
+    match session.repository.tag(id) {
+        Ok(tag) => Ok(Some(tag)),
+        Err(Refusal::Object(gix_odb::Error::Missing(_))) if !session.repository.is_partial() => {
+            say_unread(session, id)?;
+            Ok(None)
+        }
+        Err(refusal) => Err(Stop::from(refusal)),
+    }
+}
+
+/// Returns the date of a name's annotated tag; `None` if the tag is missing, which git says.
 fn date_of(session: &mut Session<'_>, name: &Name) -> Result<Option<u64>, Stop> {
     if name.date.is_some() {
         return Ok(name.date);
     }
-    match session.repository.tag(name.id) {
-        Ok(tag) => Ok(Some(tag.date)),
-        Err(Refusal::Object(gix_odb::Error::Missing(_))) if !session.repository.is_partial() => {
-            say_unread(session, name.id)?;
-            Ok(None)
-        }
-        Err(refusal) => Err(Stop::from(refusal)),
+    match tag_of(session, name.id)? {
+        Some(tag) => Ok(Some(tag.date)),
+        None => Ok(None),
     }
 }
 
