@@ -170,11 +170,17 @@ pub(crate) struct Asked<'w> {
     pub(crate) texts: Vec<&'w [u8]>,
 }
 
-/// Returns the end for a value that is no number.
-fn no_number(alloc: Global) -> Stop {
+/// Returns the end for a value of an option that is no number.
+fn no_number<'t>(alloc: Global, option: &'t [u8], value: &'t [u8]) -> Stop {
     not_read(
         alloc,
-        &[b"the number of an option of describe is not supported"],
+        &[
+            b"the number '",
+            value,
+            b"' of ",
+            option,
+            b" is not supported",
+        ],
     )
 }
 
@@ -193,7 +199,7 @@ fn abbrev_of(alloc: Global, given: Given<'_, Key>) -> Result<Abbrev, Stop> {
             Ok(digits) => Ok(Abbrev::Least(digits.clamp(LEAST_DIGITS, 40))),
             Err(_) => Ok(Abbrev::Least(LEAST_DIGITS)),
         },
-        None => Err(no_number(alloc)),
+        None => Err(no_number(alloc, b"--abbrev", value)),
     }
 }
 
@@ -207,7 +213,7 @@ fn candidates_of(alloc: Global, given: Given<'_, Key>) -> Result<usize, Stop> {
             Ok(most) => Ok(most.min(MOST_CANDIDATES)),
             Err(_) => Ok(0),
         },
-        None => Err(no_number(alloc)),
+        None => Err(no_number(alloc, b"--candidates", value)),
     }
 }
 

@@ -32,35 +32,35 @@ enum Key {
     Format,
     Count,
     Sort,
-    /// An option of git that is not supported.
-    Other,
+    /// An option of git that is not supported, with its name.
+    Other(&'static str),
 }
 
 /// The options of `for-each-ref`.
 static CHOICES: [Choice<Key>; 14] = [
     Choice {
-        key: Key::Other,
+        key: Key::Other("shell"),
         short: b's',
         long: "shell",
         value: Value::Never,
         has_no: true,
     },
     Choice {
-        key: Key::Other,
+        key: Key::Other("perl"),
         short: b'p',
         long: "perl",
         value: Value::Never,
         has_no: true,
     },
     Choice {
-        key: Key::Other,
+        key: Key::Other("python"),
         short: 0,
         long: "python",
         value: Value::Never,
         has_no: true,
     },
     Choice {
-        key: Key::Other,
+        key: Key::Other("tcl"),
         short: 0,
         long: "tcl",
         value: Value::Never,
@@ -81,7 +81,7 @@ static CHOICES: [Choice<Key>; 14] = [
         has_no: true,
     },
     Choice {
-        key: Key::Other,
+        key: Key::Other("color"),
         short: 0,
         long: "color",
         value: Value::Joined,
@@ -95,7 +95,7 @@ static CHOICES: [Choice<Key>; 14] = [
         has_no: true,
     },
     Choice {
-        key: Key::Other,
+        key: Key::Other("points-at"),
         short: 0,
         long: "points-at",
         value: Value::Always,
@@ -130,7 +130,7 @@ static CHOICES: [Choice<Key>; 14] = [
         has_no: false,
     },
     Choice {
-        key: Key::Other,
+        key: Key::Other("ignore-case"),
         short: 0,
         long: "ignore-case",
         value: Value::Never,
@@ -191,16 +191,40 @@ fn count(alloc: Global, text: &[u8]) -> Result<i32, Stop> {
     }
 }
 
+/// Returns the name of an option.
+fn name_of(key: Key) -> &'static str {
+    match key {
+        Key::Contains => "contains",
+        Key::NoContains => "no-contains",
+        Key::Merged => "merged",
+        Key::NoMerged => "no-merged",
+        Key::Format => "format",
+        Key::Count => "count",
+        Key::Sort => "sort",
+        Key::Other(name) => name,
+    }
+}
+
 /// Returns the end for an option that is not supported.
-fn unsupported(alloc: Global) -> Stop {
-    not_read(alloc, &[b"an option of for-each-ref is not supported"])
+fn unsupported(alloc: Global, given: Given<'_, Key>) -> Stop {
+    let no = if given.is_no { "no-" } else { "" };
+    let name = name_of(given.key);
+    not_read(
+        alloc,
+        &[
+            b"option `",
+            no.as_bytes(),
+            name.as_bytes(),
+            b"' is not supported",
+        ],
+    )
 }
 
 impl<'w> Asked<'w> {
     /// Notes an option. A commit that it names is looked up at once, as in git.
     fn note(&mut self, session: &mut Session<'_>, given: Given<'w, Key>) -> Result<(), Stop> {
         if given.is_no {
-            return self.take_back(session.alloc, given.key);
+            return self.take_back(session.alloc, given);
         }
         let value = given.value;
         let commit = value.unwrap_or(b"HEAD");
@@ -212,17 +236,17 @@ impl<'w> Asked<'w> {
             Key::Format => self.format = value.unwrap_or(b""),
             Key::Count => self.count = count(session.alloc, value.unwrap_or(b""))?,
             Key::Sort => self.is_reversed = is_falling(session.alloc, value.unwrap_or(b""))?,
-            Key::Other => return Err(unsupported(session.alloc)),
+            Key::Other(_) => return Err(unsupported(session.alloc, given)),
         }
         Ok(())
     }
 
     /// Notes an option of the form `--no-NAME`.
-    fn take_back(&mut self, alloc: Global, key: Key) -> Result<(), Stop> {
-        match key {
+    fn take_back(&mut self, alloc: Global, given: Given<'_, Key>) -> Result<(), Stop> {
+        match given.key {
             Key::Count => self.count = 0,
             Key::Sort => self.is_reversed = false,
-            _ => return Err(unsupported(alloc)),
+            _ => return Err(unsupported(alloc, given)),
         }
         Ok(())
     }

@@ -33,7 +33,10 @@ fn ask(session: &mut Session<'_>, word: &[u8], words: &[&[u8]]) -> Result<u8, St
     } else if word == b"for-each-ref".as_slice() {
         for_each_ref(session, words)
     } else {
-        Err(not_read(session.alloc, &[b"the word '", word, b"' is not supported"]))
+        Err(not_read(
+            session.alloc,
+            &[b"'", word, b"' is not a command; -h lists them"],
+        ))
     }
 }
 

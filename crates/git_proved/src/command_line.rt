@@ -188,10 +188,14 @@ fn answer(rt: &HostRuntime, words: &[Vec<u8>]) -> Result<u8, Stop> {
         Asked::Word(word, rest) => serve(rt, &front, word, rest),
         Asked::Help => Ok(print_text(&mut rt.stdout(), HELP)),
         Asked::Version => Ok(print_text(&mut rt.stdout(), VERSION)),
-        Asked::Nothing => Err(not_read(rt.alloc(), &[b"a word is wanted; -h prints the help"])),
-        Asked::Unread(_) => Err(not_read(
+        Asked::Nothing => Err(not_read(rt.alloc(), &[b"no command is given; -h lists them"])),
+        Asked::Unread(option) => Err(not_read(
             rt.alloc(),
-            &[b"an option before the word is not supported"],
+            &[
+                b"option '",
+                option,
+                b"' before the command is unknown or has no value",
+            ],
         )),
     }
 }

@@ -171,7 +171,7 @@ fn finish_end<I: BufRead, O: Write, E: Write>(
 /// answered, and for one whose help is asked for.
 fn unread(alloc: Global, word: &[u8], words: &[&[u8]]) -> Option<Stop> {
     if !WORDS.iter().any(|known| known.as_bytes() == word) {
-        return Some(not_read(alloc, &[b"the word '", word, b"' is not supported"]));
+        return Some(not_read(alloc, &[b"'", word, b"' is not a command; -h lists them"]));
     }
     let wants_help = match words.split_first() {
         Some((first, rest)) => {

@@ -250,10 +250,10 @@ fn is_dashes(session: &Session<'_>, line: &[u8]) -> Result<bool, Stop> {
 /// # Errors
 ///
 /// - `Fatal`, with git's message, if one names nothing.
-/// - `NotRead` if paths follow, or if standard input is not there.
+/// - `NotRead` if paths follow, or in a batch, whose standard input has its questions.
 pub(crate) fn read_input(session: &mut Session<'_>, starts: &mut Starts) -> Result<(), Stop> {
     let Some(input) = session.input.take() else {
-        return Err(not_read(session.alloc, &[b"rev-list: standard input is not there"]));
+        return Err(not_read(session.alloc, &[b"rev-list: batch has no --stdin"]));
     };
     let flags = Flags {
         is_turned: false,

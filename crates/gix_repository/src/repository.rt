@@ -151,8 +151,8 @@ impl<F: Folders + Drop, A: Allocator + Copy> Repository<F, A> {
         &self.messages
     }
 
-    /// Forgets the messages, and what was read of `packed-refs`. A batch does so before each
-    /// question.
+    /// Forgets the messages, whether some are left out, and what was read of `packed-refs`. A batch
+    /// does so before each question.
     pub fn refresh(&mut self) {
         self.messages.clear();
         self.is_quiet = false;
