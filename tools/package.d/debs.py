@@ -1,6 +1,6 @@
 """Writes the three packages for Debian and its kin: debs.py PREFIX FOLDER
 
-- gix-revision-proved has the programs, their manual pages and the completion.
+- gix-revision-proved has the programs, their manual pages, the completion, and documents.
 - libgix-revision1 has the shared library; the number is that of its soname.
 - libgix-revision-dev has the header, the archive, the files for pkg-config and CMake, and documents.
 
@@ -18,7 +18,7 @@ from email.utils import formatdate
 from typing import NamedTuple
 
 from archives import EPOCH, PROGRAMS, File, ar_of, bytes_of, files_below, folders_of, gzip_of, needs_of, tar_of, write, xz_of
-from documents import documents, origin
+from documents import OF_PROGRAMS, documents, origin, pages
 
 VERSION = os.environ["VERSION"]
 MAJOR = VERSION.split(".")[0]
@@ -68,6 +68,7 @@ def programs(prefix: str) -> Package:
             files.append(File(f"usr/{it.path}.gz", gzip_of(it.data)))
         elif it.path.startswith(("bin/", "libexec/", "share/bash-completion/")):
             files.append(it.at(f"usr/{it.path}"))
+    files += pages("usr/share/doc/gix-revision-proved", OF_PROGRAMS)
     text = " The package has the programs: git-proved, which git runs as `git proved`,\n revtool and from-git.\n"
     depends = depends_of(*(f"{prefix}/{PROGRAMS}/{it}" for it in ("git-proved", "revtool")))
     # git runs git-proved as `git proved`, and from-git runs git.

@@ -3,17 +3,35 @@
 from __future__ import annotations
 
 import os
+import re
 
 from archives import File, bytes_of
 
-PAGES = ("C", "LINES", "PROVED", "PROVED-PARTS", "DEFINITIONS", "DIFFERENCES")
+# The pages for users of the library, and those for users of the programs.
+OF_LIBRARY = ("C", "LINES", "PROVED", "PROVED-PARTS", "DEFINITIONS", "DIFFERENCES")
+OF_PROGRAMS = ("LINES", "DIFFERENCES")
+
+_LINK = re.compile(r"(?<!!)\[([^\]]*)\]\(([^)#]*)(#[^)]*)?\)")
+_PICTURE = re.compile(r"!\[[^\]]*\]\(([^)]*)\)")
+
+
+def pages(folder: str, names: tuple[str, ...]) -> list[File]:
+    """Returns these pages and their pictures. A link to a file that is not among them becomes plain text."""
+    there = {"", *(f"{it}.md" for it in names)}
+    files = {}
+    for name in names:
+        text = bytes_of(f"docs/{name}.md").decode()
+        for picture in _PICTURE.findall(text):
+            files[picture] = File(f"{folder}/{picture}", bytes_of(f"docs/{picture}"))
+        kept = _LINK.sub(lambda it: it[0] if it[2] in there or "://" in it[2] else it[1], text)
+        files[name] = File(f"{folder}/{name}.md", kept.encode())
+    return list(files.values())
 
 
 def documents(folder: str) -> list[File]:
     """Returns the pages for users of the library, and the examples in C."""
-    pages = [File(f"{folder}/{it}.md", bytes_of(f"docs/{it}.md")) for it in PAGES]
     examples = [File(f"{folder}/examples/{it}.c", bytes_of(f"examples/c/{it}.c")) for it in ("bases", "libgit2")]
-    return [*pages, *examples]
+    return [*pages(folder, OF_LIBRARY), *examples]
 
 
 def origin() -> str:

@@ -24,7 +24,7 @@ True
 >>> history.rev_parse("main~2")
 Traceback (most recent call last):
 ...
-gix_revision_proved.Fault: the revision has fault 24, in 1 bytes from byte 5
+gix_revision_proved.Fault: the revision has fault 24 at byte 5: a step leads to no parent, or starts at no commit
 
 A Repository is one on disk. It asks the program `git-proved`, which reads it:
 

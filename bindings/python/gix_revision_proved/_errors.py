@@ -43,6 +43,38 @@ class Wants(Refused):
     """The answer needs a commit that was not added; `wanted` has its id."""
 
 
+# What the faults mean, in the order of their numbers.
+_FAULTS = (
+    "a second operator, or an operator without a revision",
+    "HEAD is meant, and there is no ref HEAD",
+    "a range after '^'",
+    "text is left over",
+    "the text names no revision",
+    "the text names no revision, and ends with '^!', '^@' or '^-'",
+    "':' alone",
+    "':/' alone",
+    "'/!' is followed neither by '-' nor by '!'",
+    "a commit by its message is not supported",
+    "an entry of the index is not supported",
+    "no ref or commit has this name, or several commits have it",
+    "'@' after a name, without '{'",
+    "a brace is never closed",
+    "a minus sign before zeros",
+    "a negative number in braces after a name",
+    "an entry of a reflog after an abbreviated id",
+    "an upstream after an abbreviated id",
+    "the text in the braces is not a date",
+    "reflogs, earlier branches and upstreams are not supported",
+    "'~' at the start",
+    "a sign in the wrong place",
+    "not a number, or too large a number",
+    "a step leads to no parent, or starts at no commit",
+    "the commit is not what '^{..}' asks for",
+    "an unknown word in '^{..}'",
+    "what '^-' repeats was refused",
+)
+
+
 class Fault(Refused):
     """The revision has a fault, with a number from 1 to 27.
 
@@ -57,7 +89,9 @@ class Fault(Refused):
         self.length = length
 
     def __str__(self) -> str:
-        return f"the revision has fault {self.number}, in {self.length} bytes from byte {self.start}"
+        place = f" at byte {self.start}" if self.length else ""
+        meaning = _FAULTS[self.number - 1] if 1 <= self.number <= len(_FAULTS) else "unknown to this package"
+        return f"the revision has fault {self.number}{place}: {meaning}"
 
 
 class NotThere(Refused):

@@ -175,6 +175,8 @@ class Calls(unittest.TestCase):
         with self.assertRaises(Fault) as refused:
             self.history.resolve(b"main..nowhere~2")
         self.assertEqual((refused.exception.number, refused.exception.start, refused.exception.length), (12, 6, 9))
+        told = "no ref or commit has this name, or several commits have it"
+        self.assertEqual(str(refused.exception), f"the revision has fault 12 at byte 6: {told}")
 
     def test_names_are_taken_back(self) -> None:
         self.history.name("main", id_of(0x44))

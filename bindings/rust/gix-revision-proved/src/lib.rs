@@ -163,6 +163,53 @@ pub enum Error {
     Unknown(i32),
 }
 
+/// What the faults mean, in the order of their numbers.
+const FAULTS: [&str; 27] = [
+    "a second operator, or an operator without a revision",
+    "HEAD is meant, and there is no ref HEAD",
+    "a range after '^'",
+    "text is left over",
+    "the text names no revision",
+    "the text names no revision, and ends with '^!', '^@' or '^-'",
+    "':' alone",
+    "':/' alone",
+    "'/!' is followed neither by '-' nor by '!'",
+    "a commit by its message is not supported",
+    "an entry of the index is not supported",
+    "no ref or commit has this name, or several commits have it",
+    "'@' after a name, without '{'",
+    "a brace is never closed",
+    "a minus sign before zeros",
+    "a negative number in braces after a name",
+    "an entry of a reflog after an abbreviated id",
+    "an upstream after an abbreviated id",
+    "the text in the braces is not a date",
+    "reflogs, earlier branches and upstreams are not supported",
+    "'~' at the start",
+    "a sign in the wrong place",
+    "not a number, or too large a number",
+    "a step leads to no parent, or starts at no commit",
+    "the commit is not what '^{..}' asks for",
+    "an unknown word in '^{..}'",
+    "what '^-' repeats was refused",
+];
+
+/// Writes the number of a fault, where it is, and what it means.
+fn write_fault(
+    f: &mut fmt::Formatter<'_>,
+    number: u8,
+    start: usize,
+    length: usize,
+) -> fmt::Result {
+    write!(f, "the revision has fault {number}")?;
+    if length > 0 {
+        write!(f, " at byte {start}")?;
+    }
+    let place = usize::from(number).checked_sub(1);
+    let meaning = place.and_then(|place| FAULTS.get(place));
+    write!(f, ": {}", meaning.unwrap_or(&"unknown to this crate"))
+}
+
 impl fmt::Display for Error {
     fn fmt(&self, f: &mut fmt::Formatter<'_>) -> fmt::Result {
         match self {
@@ -184,10 +231,7 @@ impl fmt::Display for Error {
                 number,
                 start,
                 length,
-            } => write!(
-                f,
-                "the revision has fault {number}, in {length} bytes from byte {start}"
-            ),
+            } => write_fault(f, *number, *start, *length),
         }
     }
 }

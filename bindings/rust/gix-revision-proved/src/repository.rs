@@ -124,6 +124,12 @@ struct Answer {
     output: Vec<u8>,
 }
 
+/// Returns the error for a program that was not started, with its path.
+fn not_started(program: &OsStr, error: &io::Error) -> AskError {
+    let path = Path::new(program).display();
+    io::Error::new(error.kind(), format!("{path}: {error}")).into()
+}
+
 /// Returns the program: `GIT_PROVED`, or that beside the running program, or that on the path.
 fn program() -> PathBuf {
     let named = env::var_os("GIT_PROVED").filter(|it| !it.is_empty());
@@ -226,6 +232,7 @@ impl Repository {
         path: impl AsRef<Path>,
         authentic: bool,
     ) -> Result<Repository, AskError> {
+        let program = program.as_ref();
         let errors = unnamed_file()?;
         let mut child = Command::new(program)
             .arg("-C")
@@ -235,7 +242,8 @@ impl Repository {
             .stdin(Stdio::piped())
             .stdout(Stdio::piped())
             .stderr(errors.try_clone()?)
-            .spawn()?;
+            .spawn()
+            .map_err(|error| not_started(program, &error))?;
         let (Some(input), Some(output)) = (child.stdin.take(), child.stdout.take()) else {
             return Err(AskError::Unknown);
         };

@@ -270,14 +270,17 @@ fn texts_are_resolved() -> Result<(), Error> {
     );
     history.name(b"5555", id(0x44))?;
     assert_eq!(history.rev_parse(b"5555", 0, 0)?, Span::Include(id(0x44)));
+    let fault = Error::Fault {
+        number: 12,
+        start: 6,
+        length: 9,
+    };
     assert_eq!(
-        history.resolve(b"main..nowhere~2", 0, 0),
-        Err(Error::Fault {
-            number: 12,
-            start: 6,
-            length: 9
-        })
+        fault.to_string(),
+        "the revision has fault 12 at byte 6: no ref or commit has this name, or several commits \
+         have it"
     );
+    assert_eq!(history.resolve(b"main..nowhere~2", 0, 0), Err(fault));
     Ok(())
 }
 
