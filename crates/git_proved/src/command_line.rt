@@ -176,6 +176,18 @@ fn serve(rt: &HostRuntime, front: &Front<'_>, word: &[u8], words: &[&[u8]]) -> R
     ))
 }
 
+/// Returns the end for an option before the command that is not read.
+fn unread(rt: &HostRuntime, option: &[u8]) -> Stop {
+    not_read(
+        rt.alloc(),
+        &[
+            b"option '",
+            option,
+            b"' before the command is unknown or has no value",
+        ],
+    )
+}
+
 /// Answers the command line, and returns the status.
 fn answer(rt: &HostRuntime, words: &[Vec<u8>]) -> Result<u8, Stop> {
     let mut slices = Vec::new(rt.alloc());
@@ -189,14 +201,7 @@ fn answer(rt: &HostRuntime, words: &[Vec<u8>]) -> Result<u8, Stop> {
         Asked::Help => Ok(print_text(&mut rt.stdout(), HELP)),
         Asked::Version => Ok(print_text(&mut rt.stdout(), VERSION)),
         Asked::Nothing => Err(not_read(rt.alloc(), &[b"no command is given; -h lists them"])),
-        Asked::Unread(option) => Err(not_read(
-            rt.alloc(),
-            &[
-                b"option '",
-                option,
-                b"' before the command is unknown or has no value",
-            ],
-        )),
+        Asked::Unread(option) => Err(unread(rt, option)),
     }
 }
 
