@@ -387,7 +387,8 @@ GIX_MUST_USE
 int32_t gix_history_wanted(gix_history *history, gix_id *out);
 
 /*
- * Frees a history that gix_history_new or gix_history_open has made.
+ * Frees a history that gix_history_new, gix_history_open or
+ * gix_history_open_chain has made.
  *
  * It must not be used again. NULL is allowed and does nothing.
  */
