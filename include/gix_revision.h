@@ -3,7 +3,7 @@
  *
  * A gix_history has commits: those of git's commit-graph, commits that the
  * program adds one by one, or both. The functions answer questions about it.
- * Each has a proved contract; docs/PROVED.md says what it promises.
+ * Each has a proved contract; docs/PROVED-PARTS.md says what it promises.
  *
  * RESULTS
  *   Most functions return a gix_code:
@@ -11,8 +11,9 @@
  *   GIX_NONE          Answered: there is no such thing, or the answer is no.
  *   a negative code   The call failed; see the enum below.
  *   GIX_FAULT + n     The revision has fault n, 1 to 27 (docs/LINES.md).
- *   gix_strerror says the same in words. GIX_OK is 0: to use an answer in an
- *   `if`, call gix_history_reaches, which returns 1 for yes and 0 for no.
+ *   gix_strerror says the same in words. GIX_OK is 0, so an `if` takes a yes
+ *   for false. gix_history_reaches returns 1 for yes and 0 for no. Compare its
+ *   result with 1: a negative code is true in an `if`, too.
  *
  *   After any code other than GIX_OK, output parameters are unchanged. There
  *   are two exceptions: a fault n is described in *fault, and with GIX_NONE
@@ -34,9 +35,10 @@
  *   Two functions return pages: gix_history_list and gix_history_missing. A
  *   page has at most out_len results, and *count is the number on the page.
  *   For the first page pass after_len 0. For the next one pass after_len 1 and
- *   in *after the last id of the page before. A page that is not full is the
- *   last. Each page costs as much as the whole list. gix_history_list_all and
- *   gix_history_missing_all compute a long list once.
+ *   in *after a copy of the last id of the page before, since `after` must not
+ *   point into `out`. A page that is not full is the last. Each page costs as
+ *   much as the whole list. gix_history_list_all and gix_history_missing_all
+ *   compute a long list once.
  *
  * THREADS
  *   A history may be used and freed on another thread than the one that made
@@ -83,8 +85,9 @@
  *   gix_history_merge_bases to gix_history_newest_first, gix_history_describe,
  *   gix_history_describe_by, gix_history_resolve, gix_history_rev_parse,
  *   gix_history_list, gix_history_list_all and gix_history_count. The other
- *   functions know only the commits that were added. So do abbreviated ids in
- *   revisions.
+ *   functions know only the commits that were added. So do ids in revisions,
+ *   abbreviated or with all 40 digits: an id that was not added is not found
+ *   (fault 12). A name that gix_history_name gave to it is found.
  *
  *   Questions about a partial history cache nothing, so each one walks anew.
  *   Add many commits before the next one. A list or a count can need all
@@ -212,7 +215,7 @@ static inline const char *gix_strerror(int32_t code) {
     case GIX_FAULT + 24:
         return "a step leads to no parent, or starts at no commit";
     case GIX_FAULT + 25:
-        return "the commit is not what '^{..}' asks for";
+        return "the commit is missing, or not what '^{..}' or ':' asks for";
     case GIX_FAULT + 26:
         return "an unknown word in '^{..}'";
     case GIX_FAULT + 27:
@@ -332,7 +335,7 @@ int32_t gix_history_open_chain(const gix_bytes *files, size_t files_len,
 /* What can be wrong with the bytes of a commit-graph file; see
  * gitformat-commit-graph(5). */
 enum {
-    GIX_GRAPH_TOO_SHORT = 1,    /* too short for its parts */
+    GIX_GRAPH_TOO_SHORT = 1,    /* too short for header, table and hash */
     GIX_GRAPH_SIGNATURE = 2,    /* does not begin with CGPH */
     GIX_GRAPH_VERSION = 3,      /* a version other than 1 */
     GIX_GRAPH_HASH = 4,         /* ids that are not SHA-1 ids */
@@ -348,8 +351,8 @@ enum {
     GIX_GRAPH_FANOUT = 14,      /* the numbers of OIDF fall */
     GIX_GRAPH_ID_ORDER = 15,    /* the ids do not rise */
     GIX_GRAPH_ID_PLACE = 16,    /* an id is not where OIDF says */
-    GIX_GRAPH_PARENT = 17,      /* a parent that is no commit of the file */
-    GIX_GRAPH_EDGE_PARENT = 18, /* the same in EDGE */
+    GIX_GRAPH_PARENT = 17,      /* a parent is no commit, or no list of EDGE */
+    GIX_GRAPH_EDGE_PARENT = 18, /* a parent in EDGE is no commit of the file */
     GIX_GRAPH_EDGE_END = 19,    /* the last list in EDGE does not end */
     GIX_GRAPH_EDGE_ORDER = 20   /* lists in EDGE overlap or are out of order */
 };
@@ -440,8 +443,8 @@ int32_t gix_history_insert_object(gix_history *history, const gix_id *id,
 /*
  * Returns the number of commits that the history has.
  *
- * After an insertion that returned GIX_OUT_OF_MEMORY, the number may be too
- * great by one until a commit with this id is added.
+ * Each insertion that returned GIX_OUT_OF_MEMORY may make the number too great
+ * by one, until a commit with its id is added.
  */
 GIX_MUST_USE
 size_t gix_history_len(gix_history *history);
@@ -477,7 +480,8 @@ int32_t gix_history_commit(gix_history *history, const gix_id *id,
  * Returns how many hex digits of `id` are enough, like `git rev-parse --short`.
  *
  * It is the least number, from `least` on and from 4 to 40, such that no other
- * id of a commit of the history begins with these digits. git may print more
+ * id of a commit of the history begins with these digits. The id of an
+ * insertion that returned GIX_OUT_OF_MEMORY may count, too. git may print more
  * digits, because it looks at all objects.
  */
 GIX_MUST_USE
@@ -647,7 +651,8 @@ typedef struct gix_ids gix_ids;
 /*
  * Makes the list of all missing parents, for gix_ids_read and gix_ids_len.
  *
- * The list is that of this moment. The caller frees it with gix_ids_free.
+ * The list is that of this moment. The caller frees it with gix_ids_free. What
+ * *out owned before is not freed.
  *
  * Returns:
  *   GIX_OK
@@ -718,12 +723,13 @@ typedef struct {
  *
  * A commit with a name of its own has depth 0. Otherwise *depth is at least the
  * number of commits that `commit` reaches and the named commit does not. With
- * how->first_parent only first parents count as parents. Which of several
- * equally near names is chosen is not promised.
+ * how->first_parent only first parents count as parents. Which ancestor's name
+ * is chosen is not promised.
  *
  * Premises: none for the above. With older parents *depth is the least such
  * number of all named ancestors, if at most how->max_candidates and at most 32
- * ancestors have names.
+ * ancestors have names. Which of several equally near names is chosen then is
+ * not promised.
  *
  * Each call walks the history anew, and first reads all names. To describe
  * many commits, use gix_history_describe_by. What other queries have cached is
@@ -755,7 +761,7 @@ typedef struct gix_names gix_names;
  *
  * If `names` has several names for one commit, the first one counts. `seed` is
  * that of the table's hash map, as for gix_history_new. The caller frees the
- * table with gix_names_free.
+ * table with gix_names_free. What *out owned before is not freed.
  *
  * Returns:
  *   GIX_OK
@@ -786,12 +792,12 @@ void gix_names_free(gix_names *names);
 
 /* Kinds of sets of commits, as gitrevisions(7) writes them. */
 enum {
-    GIX_INCLUDE = 0,        /* first */
-    GIX_EXCLUDE = 1,        /* ^first */
-    GIX_RANGE = 2,          /* first..second */
-    GIX_MERGE = 3,          /* first...second */
-    GIX_ONLY_PARENTS = 4,   /* first^@ */
-    GIX_WITHOUT_PARENTS = 5 /* first^! */
+    GIX_INCLUDE = 0,        /* first: what it reaches */
+    GIX_EXCLUDE = 1,        /* ^first: no commit */
+    GIX_RANGE = 2,          /* first..second: what only second reaches */
+    GIX_MERGE = 3,          /* first...second: what only one of them reaches */
+    GIX_ONLY_PARENTS = 4,   /* first^@: what its parents reach */
+    GIX_WITHOUT_PARENTS = 5 /* first^!: the commit alone */
 };
 
 /* A set of commits. */
@@ -799,7 +805,7 @@ typedef struct {
     uint32_t kind;
     gix_id first;
     /* Read only for GIX_RANGE and GIX_MERGE. For the other kinds the library
-     * writes `first` here. */
+     * writes `first` here (tested, not proved). */
     gix_id second;
 } gix_span;
 
@@ -868,8 +874,8 @@ int32_t gix_history_resolve(gix_history *history, const uint8_t *text,
  * abbreviated id, as in git.
  *
  * `1059-login` is the ref of that name, if there is one. 40 hex digits mean the
- * id, even if a ref has that name. `^{}` and `^{object}` after a commit are
- * accepted.
+ * id, even if a ref has that name; a commit with this id has to be there.
+ * `^{}` and `^{object}` after a commit are accepted.
  *
  * Returns:
  *   GIX_OK             *out is the set. *fault is unchanged.
@@ -903,7 +909,8 @@ int32_t gix_history_list(gix_history *history, const gix_span *span,
  * Makes the list of the commits of a set in rising order of their ids, for
  * gix_ids_read and gix_ids_len.
  *
- * The list is that of this moment. The caller frees it with gix_ids_free.
+ * The list is that of this moment. The caller frees it with gix_ids_free. What
+ * *out owned before is not freed.
  *
  * Returns:
  *   GIX_OK

@@ -34,7 +34,7 @@ A Repository is one on disk. It asks the program `git-proved`, which reads it:
 An id is passed as its 20 bytes or its 40 hex digits, and returned as hex digits. A name or a
 revision is passed as bytes, or as a str that is encoded as UTF-8. A list of ids may be any
 sequence. Integers that the library cannot take raise OverflowError, and every call can raise
-MemoryError.
+MemoryError. A question about a partial history (`History.set_partial`) can raise Wants, too.
 
 Any thread may use a history: its calls wait for each other. The environment variable
 GIX_REVISION_LIBRARY has the path of libgix_revision.so. Without it the library beside this package

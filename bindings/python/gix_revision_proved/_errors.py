@@ -69,7 +69,7 @@ _FAULTS = (
     "a sign in the wrong place",
     "not a number, or too large a number",
     "a step leads to no parent, or starts at no commit",
-    "the commit is not what '^{..}' asks for",
+    "the commit is missing, or not what '^{..}' or ':' asks for",
     "an unknown word in '^{..}'",
     "what '^-' repeats was refused",
 )

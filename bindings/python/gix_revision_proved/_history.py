@@ -157,8 +157,8 @@ class History:
     def __len__(self) -> int:
         """Returns the number of commits.
 
-        After an `insert` that raised MemoryError, it may be too great by one until a commit with
-        this id is added.
+        Each insertion that raised MemoryError may make it too great by one, until a commit with its
+        id is added.
         """
         return self._owner.call("len")
 
@@ -203,7 +203,8 @@ class History:
         """Makes the history partial, or complete again.
 
         A partial history may have commits that were not added. A question that needs such a commit
-        raises Wants, and an answer is right whatever else the history has.
+        raises Wants. An answer is right whatever other commits the history has, but premises
+        concern these, too.
 
         >>> history = History()
         >>> history.set_partial()
@@ -391,7 +392,8 @@ class History:
         """Returns an iterator over the commits of a set in rising order of their ids.
 
         They are those of the moment when the first one is asked for, and are fetched `page` at a
-        time, or 1000. Raises NoKind, and ValueError if `page` is less than 1.
+        time, or 1000. The call raises ValueError if `page` is less than 1. The first step of the
+        iterator raises NoKind, or Wants in a partial history.
         """
         return self._ids(_length(page), "list_all", _raw(span))
 

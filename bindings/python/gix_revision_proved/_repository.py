@@ -113,6 +113,8 @@ class Repository:
     - NotThere: git would end with status 128, for example because a revision names nothing.
     - NotRead: the program does not read the question, or fails.
     - ValueError: an argument cannot be a revision, or the repository is closed.
+
+    The constructor raises OSError if the program is not found, or does not start.
     """
 
     def __init__(self, path: Text | os.PathLike[str] = ".", *, program: str | None = None, authentic: bool = False) -> None:

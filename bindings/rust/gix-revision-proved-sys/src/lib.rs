@@ -1,5 +1,6 @@
-//! The declarations of the C header `gix_revision.h`. The header says what each function does, and
-//! what its caller has to ensure.
+//! The functions, structs, codes and kinds of sets of the C header `gix_revision.h`. It says what
+//! each function does, and what its caller has to ensure. The results of `gix_graph_fault` have
+//! names only there.
 #![no_std]
 #![allow(non_camel_case_types)]
 

@@ -3,8 +3,9 @@
 //!
 //! A [`History`] has commits: those of git's commit-graph file, commits that the program adds, or
 //! both. Its methods answer questions about it. Each of them calls a function of the library, whose
-//! contract is proved; `docs/PROVED.md` says what it promises. Every method that returns a `Result`
-//! can fail with [`Error::OutOfMemory`]; "Errors" lists the other errors.
+//! contract is proved; `docs/PROVED-PARTS.md` says what it promises. Every method that returns a
+//! `Result` can fail with [`Error::OutOfMemory`], and a question about a
+//! [partial](History::set_partial) history also with [`Error::Wants`]. "Errors" lists the others.
 //!
 //! A [`Repository`] is one on disk. It asks the program `git-proved`, which reads it.
 //!
@@ -189,7 +190,7 @@ const FAULTS: [&str; 27] = [
     "a sign in the wrong place",
     "not a number, or too large a number",
     "a step leads to no parent, or starts at no commit",
-    "the commit is not what '^{..}' asks for",
+    "the commit is missing, or not what '^{..}' or ':' asks for",
     "an unknown word in '^{..}'",
     "what '^-' repeats was refused",
 ];
@@ -288,7 +289,7 @@ pub struct How {
     pub first_parent: bool,
     /// Print the digits alone if no name is found.
     pub fallback_to_id: bool,
-    /// Print depth and digits also if the commit itself has a name.
+    /// Print depth and digits also if the commit itself has a name. Ignored if `hex_len` is 0.
     pub long_form: bool,
 }
 
@@ -578,7 +579,8 @@ impl History {
     /// Makes the history partial, or complete again.
     ///
     /// A partial history may have commits that were not added. A question that needs such a commit
-    /// fails with [`Error::Wants`], and an answer is right whatever else the history has.
+    /// fails with [`Error::Wants`]. An answer is right whatever other commits the history has, but
+    /// premises concern these, too.
     ///
     /// ```
     /// use gix_revision_proved::{Error, History, Id};
@@ -609,8 +611,8 @@ impl History {
 
     /// Returns the number of commits.
     ///
-    /// After an [`insert`](History::insert) that failed with [`Error::OutOfMemory`], it may be too
-    /// great by one until a commit with this id is added.
+    /// Each insertion that failed with [`Error::OutOfMemory`] may make it too great by one, until a
+    /// commit with its id is added.
     pub fn len(&mut self) -> usize {
         unsafe { sys::gix_history_len(self.at()) }
     }
