@@ -2,10 +2,10 @@
 # calls this function.
 _git_proved() {
     local word='' at
-    # The command comes after the options, and after the value of -C.
+    # The command comes after the options, and after a value that is a word of its own.
     for ((at = __git_cmd_idx + 1; at < cword; at++)); do
         case ${words[at]} in
-            -C) ((at++)) ;;
+            -C | --git-dir | --work-tree) ((at++)) ;;
             -*) ;;
             *)
                 word=${words[at]}
