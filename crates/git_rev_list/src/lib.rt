@@ -1,9 +1,10 @@
 //! Answers `rev-list` (git-rev-list).
 //!
-//! What a list has is the answer of a proved question, and so is each count. The order of a list is
-//! made here, as git makes it: the commits of the set come one after another, by what is read of
-//! each. If only some commits are wanted of all that revisions reach, as by `-n 10`, the list is
-//! read as git reads it, and is not that of a question.
+//! Which commits some reach and others do not is the answer of a proved question, and so is how
+//! many these are. The order of a list is made here, as git makes it: the commits of the set come
+//! one after another, by what is read of each. What `--first-parent` follows, and what other
+//! options leave out or add, is also found here. If only some commits are wanted of all that
+//! revisions reach, as by `-n 10`, the list is read as git reads it, and is not that of a question.
 #![tactic(auto)]
 
 mod boundary;

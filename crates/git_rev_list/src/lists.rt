@@ -183,8 +183,9 @@ fn listed_whole(
 
 /// Lists the commits that are printed, in git's order.
 ///
-/// The set is that of a proved question, unless only some commits are wanted of all that revisions
-/// reach: then no more commits are read than git reads, and each is a parent of one before.
+/// The set is that of a proved question, unless only first parents are followed, or only some
+/// commits are wanted of all that revisions reach. In the last case no more commits are read than
+/// git reads, and each is one at which the list begins, or a parent of one before.
 ///
 /// # Errors
 ///

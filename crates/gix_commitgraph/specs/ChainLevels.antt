@@ -27,8 +27,8 @@ over_in h (Some e) = is_over h e
 abbrev pub is_high : History → ObjectId → Bool
 is_high h a = over_in h (entry_at h a)
 
--- Each commit of the files has a level, and each of its parents has a lesser one. The files are a
--- chain, the lowest first.
+-- The lowest of the files, which is the first, has LevelsFall. Each commit of the other files has a
+-- generation number, and all its parents are commits of the chain with smaller ones.
 abbrev pub ChainFalls : List (List ℕ) → Type 0
 ChainFalls [] = ⊥
 ChainFalls (s ∷ files) =

@@ -23,6 +23,6 @@ pub record Holds (h : History) (hashes : List ℕ) (j : History) (ids : List Obj
 abbrev pub IsNext : List ℕ → History → List ℕ → Type 0
 IsNext hashes h s = IsLayer hashes (length (ids_of h)) s × IsFresh h s
 
--- The commits j and the ids are those of the history h, and own are the hashes of its files.
+-- The commits j and the ids are those of the history h. The hashes own may be any.
 abbrev pub HoldsSome : History → History → List ObjectId → List ℕ → Type 0
 HoldsSome h j ids own = (hashes : List ℕ) × Holds h hashes j ids own

@@ -12,8 +12,9 @@ pub record Fits (s : List ℕ) (l : Layout) : Type 0 where
   pub edges : l.edges + 4 * l.edge_count ≤ length s
 
 module _ (s : List ℕ) (l : Layout) where
-  -- The first parent of the commit at position i is none, or a number less than n. The second is
-  -- none, a number less than n, or the place of a list in EDGE.
+  -- Each of the two numbers for parents of the commit at position i is 0x70000000 or less than n.
+  -- But if the second one has its highest bit set, a list of parents begins within EDGE where it
+  -- says.
   pub record HasParents (n i : ℕ) : Type 0 where
     pub first : row_word s l i 20 ≢ 0x7000_0000 → row_word s l i 20 < n
     pub second : row_word s l i 24 ≢ 0x7000_0000 → row_word s l i 24 < 2 ^ 31 → row_word s l i 24 < n

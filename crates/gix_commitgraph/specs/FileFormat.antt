@@ -36,8 +36,8 @@ abbrev pub MayHave : Option Chunk → ℕ → Type 0
 MayHave None n = Unit {0}
 MayHave (Some c) n = c.start + n ≡ c.end
 
--- OIDF has 256 numbers of 4 bytes. OIDL has 20 bytes for each commit, and CDAT has 36. EDGE, if it
--- exists, has entries of 4 bytes.
+-- OIDF has 256 numbers of 4 bytes. OIDL has 20 bytes for each commit, and CDAT has 36. The size of
+-- EDGE, if it exists, is a multiple of 4 bytes.
 pub record HasChunks (s : List ℕ) : Type 0 where
   pub fanout : MustHave (chunk_at s oidf) 1024
   pub ids : MustHave (chunk_at s oidl) (20 * (layout_of s).table.count)

@@ -18,7 +18,7 @@ module _ (s : List ℕ) (l : Layout) where
   abbrev pub is_above : ℕ → Bool
   is_above i = nat_lt 0 (level_at s l i) && list_all (is_lower (level_at s l i)) (parents_at s l i)
 
--- Each commit of the file s has a level, and each of its parents has a lesser one.
+-- Each commit of the file s has a level, and all its parents are commits of s with lesser ones.
 abbrev pub LevelsFall : List ℕ → Type 0
 LevelsFall s = (i : ℕ) → i < (layout_of s).table.count → is_above s (layout_of s) i ≡ true
 

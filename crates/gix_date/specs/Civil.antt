@@ -6,7 +6,7 @@ use Rattle.gix_date.specs.declared.date.error.DateError.{DateError}
 use Rattle.gix_date.specs.declared.date.error.DateError.TheVariants.{OutOfRange}
 use Rattle.gix_date.specs.Numerals.{number_of}
 
--- The day number of a date, 0 for 1970-01-01, if the calendar has that date.
+-- The day number of a date, 0 for 1970-01-01, if the calendar has that date in the years 0 to 9999.
 unfoldable pub day_number : (year month day : ℕ) → Result ℤ DateError
 day_number year month day =
     if nat_le year 9999 && is_in_range 1 12 month && is_in_range 1 (days_in_month (pos year) month) day

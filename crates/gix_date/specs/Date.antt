@@ -12,7 +12,7 @@ use Rattle.gix_date.specs.RelativeDate.{relative_date}
 use Rattle.gix_date.specs.Rfc2822Date.{rfc2822_date}
 
 -- The time that a text stands for at a moment: by the form whose shape it has, and otherwise by
--- RFC 2822.
+-- RFC 2822. Bytes that are not UTF-8 are not a date.
 unfoldable pub date_of : List ℕ → Time → Result Time DateError
 date_of text now =
     if is_utf8 text

@@ -36,8 +36,9 @@ abbrev pub LiesMonthsBefore : (year : ℤ) (month : ℕ) (months : ℕ) (date : 
 LiesMonthsBefore year month months date =
     IsInRange 1 12 month × ((year *ℤ pos 12 +ℤ pos (month + months)) ≡ (date.year *ℤ pos 12 +ℤ pos date.month))
 
--- So many months before a date is the same day of the month that lies so many months before, or that month's last where it
--- has no such day: a date of that month and of no other.
+-- So many months before a date is the same day of the month that is so many months earlier, or that
+-- month's last day if it does not have this day: a date of that month and of no other. The calendar
+-- has to have the year of that month.
 abbrev pub MonthsArePulledBack : Type 0
 MonthsArePulledBack =
     (date : Date) (months : ℕ) (year : ℤ) (month : ℕ) → LiesMonthsBefore year month months date → IsYear year

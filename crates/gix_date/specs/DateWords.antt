@@ -11,9 +11,9 @@ abbrev pub begin_with : ℕ → List (List ℕ) → List (List ℕ)
 begin_with byte [] = (byte ∷ []) ∷ []
 begin_with byte (word ∷ words) = (byte ∷ word) ∷ words
 
--- The words of a text, which one or more spaces or dots separate. The flag says that one comes before
--- the text.
--- A text that begins with one has an empty word in front, and a text that ends with one has an empty word at its end.
+-- The words of a text, which one or more spaces or dots separate. The flag says that one comes
+-- before the text. Without the flag, a text that begins with one has an empty word in front. A text
+-- that ends with one has an empty word at its end.
 unfoldable pub words_from : (parted : Bool) → List ℕ → List (List ℕ)
 words_from parted [] = [] ∷ []
 words_from true (b ∷ bs) = if is_gap b then words_from true bs else begin_with b (words_from false bs)

@@ -17,8 +17,8 @@ zone_text behind hours minutes = (if behind then 45 else 43) ∷ (pad2 hours ++ 
 abbrev pub raw_text : (seconds : ℤ) (behind : Bool) (hours minutes : ℕ) → List ℕ
 raw_text seconds behind hours minutes = signed_decimal seconds ++ (32 ∷ zone_text behind hours minutes)
 
--- A time that is printed so reads back at every moment: any seconds of an `i64`, and an offset below
--- 24 hours.
+-- A time that is printed so reads back at every moment: any seconds of an `i64`, and an offset of
+-- whole minutes below 24 hours.
 abbrev pub TimesReadBack : Type 0
 TimesReadBack =
     (seconds : ℤ) (behind : Bool) (hours minutes : ℕ) (now : Time) → FitsSigned w64 seconds → hours ≤ 23 → minutes ≤ 59

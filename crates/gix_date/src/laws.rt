@@ -13,10 +13,10 @@ pub fn ago_is_never_later()
     ensures { AgoIsNeverLater }
 {}
 
-/// States that counting months back leads to the same day of that month, or to its last day.
+/// States that counting months back leads to the same day of that month.
 ///
-/// A shorter month never runs over into the next. A date before the beginning of the calendar is
-/// refused.
+/// If that month does not have this day, it leads to the month's last day: a shorter month never
+/// runs over into the next. A date before the beginning of the calendar is refused.
 pub fn months_are_pulled_back()
     ensures back { MonthsArePulledBack }
     ensures refused { MonthsBeforeYearsAreRefused }
@@ -24,7 +24,8 @@ pub fn months_are_pulled_back()
 
 /// States that seconds and an offset, printed as `1234567890 +0200`, read back at every moment.
 ///
-/// The seconds are any that an `i64` holds, and the offset is at most 23 hours and 59 minutes.
+/// The seconds are any that an `i64` holds. The offset has whole minutes, and is at most 23 hours
+/// and 59 minutes.
 #[tactic(auto, using(crate::proofs::Printed::times_read_back))]
 pub fn times_read_back()
     ensures { TimesReadBack }

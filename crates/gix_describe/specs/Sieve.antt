@@ -6,7 +6,7 @@ use Rattle.gix_describe.specs.Described.{Names}
 use Rattle.gix_describe.specs.Trace.{is_named}
 
 -- The bit of an id. The last byte of the id selects the word, the byte before it the place in the
--- word.
+-- word, both modulo 64.
 abbrev pub bit_in : List ℕ → ObjectId → ℕ
 bit_in words id = bit_at (slice_index words (slice_index id.0 19 % 64)) (slice_index id.0 18 % 64)
 

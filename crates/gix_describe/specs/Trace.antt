@@ -10,7 +10,7 @@ use Rattle.gix_describe.specs.Order.{IsBefore}
 abbrev pub is_edge : History → ObjectId → ObjectId → Bool
 is_edge h a b = is_one_of (parents_in (entry_at h a)) b && is_some (entry_at h b)
 
--- Whether c is the start s or a parent of a popped commit.
+-- Whether c is the start s, or a parent of a popped commit that the history has.
 abbrev pub is_met : History → ObjectId → List ObjectId → ObjectId → Bool
 is_met h s popped c = same_id s c || list_any (λ p. is_edge h p c) popped
 

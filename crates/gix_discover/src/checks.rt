@@ -4,6 +4,10 @@
 //! each value of the keys in `CHECKED` and `ADVICE`. It checks the last value of the keys in
 //! `READING` when it first looks for an object, as nearly every question does, and of those in
 //! `INDEX` when it reads or writes the index.
+//!
+//! git also checks each value of two further groups of settings (`Group`). It checks those of
+//! branches, remotes and URLs when it first looks for the upstream of a branch, or for where it is
+//! pushed, and those of filters when it first reads a file of the working tree.
 
 use crate::color::is_color_value;
 use crate::error::{DiscoverError, Reason, about, about_value};

@@ -18,7 +18,7 @@ pub use system::System;
 pub enum FileError {
     /// The system failed.
     Failed(ErrorKind),
-    /// The path is not UTF-8, and `std` opens no such path.
+    /// The path is not UTF-8, and `std` opens no such path; or the text of a symbolic link is not.
     NotUtf8,
     /// An allocation failed.
     OutOfMemory,
@@ -43,7 +43,7 @@ pub trait Opened: Drop {
 
     /// Reads bytes from `at` on into `buf`, and returns how many. It may read fewer than there are.
     ///
-    /// It reads none only if `buf` is empty or the file ends there.
+    /// It should read none only if `buf` is empty or the file ends there. No contract says so.
     fn read_part(&self, at: u64, buf: &mut [u8]) -> Result<usize, FileError>
         ensures { IfOk result (λ n. n ≤ length buf.new) };
 }

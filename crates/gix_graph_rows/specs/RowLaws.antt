@@ -1,4 +1,5 @@
--- A row that is read alone says what the file says of its commit.
+-- A row that is read alone says of its commit the date, the generation number and the number of
+-- parents that the file says.
 use Rattle.std.specs.Prelude.{ℕ, ◌+◌, ◌*◌, ◌<◌, List, take, drop}
 use Rattle.gix_commitgraph.specs.FileChecks.{IsSound}
 use Rattle.gix_commitgraph.specs.FileCommits.{entry_of_row}

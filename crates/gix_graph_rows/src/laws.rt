@@ -2,7 +2,8 @@
 
 ghost use Rattle.gix_graph_rows.specs.RowLaws.{RowsSayTheSame};
 
-/// States that a row of a sound commit-graph file, read alone, says what the file says of a commit.
+/// States that a row of a sound commit-graph file, read alone, says of a commit the date, the
+/// generation number and the number of parents that the file says.
 pub fn rows_say_the_same()
     ensures { RowsSayTheSame }
 {}

@@ -83,7 +83,7 @@ impl<A: Allocator + Copy> Known<A> {
 
     /// Guarantees that each commit is from where it was noted to be. Does nothing else.
     ///
-    /// A commit that is noted as authentic is what the content of its id says.
+    /// A commit that is noted as authentic is what a content says whose hash is its id.
     pub fn sourced(&self)
         ensures { AreSourced self.now }
     {

@@ -9,8 +9,8 @@ pub fn plain_is_authentic()
     ensures { PlainIsAuthentic }
 {}
 
-/// States that a tip reaches in one loaded history what it reaches in another, or a collision is at
-/// hand.
+/// States that a tip of a loaded history reaches in it what it reaches in another one, or a
+/// collision is at hand.
 pub fn tips_determine()
     ensures { TipsDetermine }
 {}

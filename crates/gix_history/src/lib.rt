@@ -8,11 +8,11 @@
 //!   merge bases, ancestry, `describe`, revisions, lists and counts.
 //! - [`Known`] is a history without a reader. It answers, or names the commit that it wants.
 //! - [`Loaded`] is the authentic mode: all that some tips reach, each commit the content of its id,
-//!   with levels. No question about it has a premise left.
+//!   with levels. Of the premises only *older parents* is left, for the depth of a description.
 //!
 //! # Premises
 //!
-//! *Acyclic* and *ordered generations*, as `gix_revision` defines them.
+//! *Acyclic*, *ordered generations* and *older parents*, as `gix_revision` defines them.
 #![tactic(auto)]
 
 mod ahead;

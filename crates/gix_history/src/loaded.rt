@@ -134,10 +134,10 @@ impl<A: Allocator + Copy> Loaded<A> {
         self.levels.len()
     }
 
-    /// Guarantees that questions about the loaded commits have no premise left. Does nothing else.
+    /// Guarantees that the loaded commits are acyclic, with ordered generations. Does nothing else.
     ///
-    /// The commits are acyclic, their generation numbers are ordered, each parent is loaded, and
-    /// each commit is what the content of its id says.
+    /// Each parent is loaded, and each commit is what a content says whose hash is its id. Of the
+    /// premises of questions only *older parents* is left, for the depth of a description.
     pub fn premises(&self)
         ensures acyclic { (ids : List ObjectId) → IsAcyclicFrom self.now ids }
         ensures ordered { (ids : List ObjectId) → GenerationsNeverRiseFrom self.now ids }

@@ -30,7 +30,7 @@ pub struct Read<A: Allocator> {
 }
 
 impl<A: Allocator> Read<A> {
-    /// Returns a commit that the repository changes: no content whose hash is its id says so.
+    /// Returns a commit that the repository changes. No content whose hash is its id has to say so.
     pub fn changed(commit: SourceCommit<A>) -> Self
         ensures { (id : ObjectId) → IsReadOf id (Some result) }
     {

@@ -8,7 +8,7 @@ use thiserror::Error as StdError;
 /// Says what is wrong with a table of ids.
 #[derive(Clone, Copy, Debug, PartialEq, Eq, Drop, StdError)]
 pub enum TableFault {
-    /// A number of the fanout table is less than the one before it, or greater than the last.
+    /// A number of the fanout table is less than the one before it, or exceeds the number of ids.
     Fanout,
     /// An id is not where the fanout table says.
     IdPlace,

@@ -54,7 +54,8 @@ impl Candidates {
 }
 
 /// Returns the position of an id in a span, or as an error the position before which it would be
-/// stored there. A few guesses narrow the span, and bisection ends the search.
+/// stored there. If the ids of the span do not rise, an error may be the answer although they have
+/// the id. A few guesses narrow the span, and bisection ends the search.
 pub fn narrow(bytes: &[u8], t: Table, span: Span, id: ObjectId) -> Result<usize, usize>
     requires ids { t.ids + 20 * span.high ≤ length bytes.now }
     requires order { span.low ≤ span.high }

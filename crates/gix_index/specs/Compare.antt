@@ -16,7 +16,8 @@ has_kind mode f c =
 unfoldable pub has_other_size : Stat → Status → Bool
 has_other_size s f = not (s.size == 0) && not (s.size == f.size)
 
--- Size and times are as noted, and so are owner, group and inode if they are compared.
+-- The size and the mtime are as noted. If c.owner is set, so are owner, group and inode, and the
+-- ctime as well if c.ctime is set.
 unfoldable pub is_as_noted : Stat → Status → Checks → Bool
 is_as_noted s f c =
     (s.size == f.size)

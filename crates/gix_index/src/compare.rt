@@ -20,17 +20,19 @@ const EMPTY: ObjectId = ObjectId([
 pub struct Checks {
     /// Whether a file that may be executed differs from one that may not (`core.fileMode`).
     pub mode: bool,
-    /// Whether the time of the last change of metadata counts (`core.trustctime`).
+    /// Whether the time of the last change of metadata counts, if `owner` is set
+    /// (`core.trustctime`).
     pub ctime: bool,
-    /// Whether owner, group and inode count, and the time of the last change of metadata
-    /// (`core.checkStat`).
+    /// Whether owner, group and inode count, and, if `ctime` is set, the time of the last change of
+    /// metadata (`core.checkStat`).
     pub owner: bool,
 }
 
 /// Says how a file and its entry compare.
 #[derive(Clone, Copy, Debug, PartialEq, Eq)]
 pub enum Change {
-    /// All that the entry has noted is as it was.
+    /// The size and the times in whole seconds are as noted, and so are owner, group and inode, as
+    /// far as they are compared.
     Kept,
     /// The kind of the file, its mode or its size is another one.
     Changed,
@@ -38,7 +40,8 @@ pub enum Change {
     Unsure,
 }
 
-/// Tests whether a file is of the kind of its entry, and may be executed if the entry says so.
+/// Tests whether a file is of the kind of its entry and, if modes are compared, may be executed
+/// exactly if the entry says so.
 #[tactic(auto, unfolding(crate::specs::Compare::has_kind))]
 fn has_kind(mode: u32, status: &Status, checks: Checks) -> bool
     ensures { result ≡ has_kind mode status.now checks }
@@ -55,7 +58,7 @@ fn has_other_size(stat: &Stat, status: &Status) -> bool
     stat.size != 0 && stat.size != status.size
 }
 
-/// Tests whether what was noted is as it was.
+/// Tests whether what was noted is as it was, as far as it is compared.
 #[tactic(auto, unfolding(crate::specs::Compare::is_as_noted))]
 fn is_as_noted(stat: &Stat, status: &Status, checks: Checks) -> bool
     ensures { result ≡ is_as_noted stat.now status.now checks }
@@ -85,7 +88,7 @@ impl Change {
         ensures changed { (result ≡ Change.Changed)
             ↔ (may_be_same entry.now.stat entry.now.mode status.now checks ≡ false) }
 
-        // All that was noted is as it was.
+        // All that is compared is as it was noted.
         ensures kept { result ≡ Change.Kept → is_as_noted entry.now.stat status.now checks ≡ true }
     {
         if !may_be_same(&entry.stat, entry.mode, status, checks) {

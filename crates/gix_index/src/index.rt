@@ -23,8 +23,8 @@ const CHECKSUM: usize = 20;
 /// What an index file says.
 #[derive(Debug, Drop)]
 pub struct Index<A: Allocator = Global> {
-    /// The entries, in the order of the file: by their paths, and those of one path by their
-    /// stages.
+    /// The entries, in the order of the file. git sorts them by their paths, and those of one path
+    /// by their stages.
     pub entries: Vec<Entry<A>, A>,
     /// The tree that the entries make, if git has noted it since the last change.
     pub root: Option<ObjectId>,

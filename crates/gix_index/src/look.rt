@@ -292,9 +292,9 @@ impl<F: Statuses + Copy + Drop, A: Allocator + Copy> WorkTree<F, A> {
     /// (git-update-index, "--refresh").
     ///
     /// Flags that say not to look at the file are not considered. The file is read only if what the
-    /// system says of it does not decide. `Undecided` is the answer if git might convert the
-    /// content, for a submodule that is checked out, and for a symbolic link if there are none in
-    /// the working tree.
+    /// system says of it does not decide. `Undecided` is the answer if only git decides, such as if
+    /// git might convert the content, for a submodule that is checked out, and for a symbolic link
+    /// if there are none in the working tree.
     ///
     /// # Errors
     ///

@@ -32,7 +32,8 @@ has_marks a w = (not w.one || a.one) && ((not w.two || a.two) && (not w.stale ||
 abbrev pub joined : MarkSet → MarkSet → MarkSet
 joined w a = record { one = w.one || a.one; two = w.two || a.two; stale = w.stale || a.stale; result = a.result }
 
--- The marks that a commit hands on to its parents: its own, and stale if both sides reach it.
+-- The marks that a commit hands on to its parents: its own except that of a result, and stale if
+-- both sides reach it.
 abbrev pub handed_on : MarkSet → MarkSet
 handed_on m = record { one = m.one; two = m.two; stale = m.stale || (m.one && m.two); result = false }
 

@@ -6,12 +6,12 @@ use Rattle.gix_revwalk.specs.History.{History, Has, entry_at, is_one_of, same_id
 use Rattle.gix_base.specs.declared.hash.ObjectId.{ObjectId}
 use Rattle.gix_merge_base.specs.Marks.{MarkSet, HasMarksOf, handed_on, becomes_result, joined, marks_in}
 
--- How many marks the commits of a list have in all.
+-- How many marks the commits of a list have in all, not counting that of a result.
 abbrev pub total : List ObjectId → (ObjectId → MarkSet) → ℕ
 total [] m = 0
 total (x ∷ xs) m = marks_in (m x) + total xs m
 
--- Each commit with a mark is one of ids.
+-- Each commit with a mark other than that of a result is one of ids.
 abbrev pub Covers : List ObjectId → (ObjectId → MarkSet) → Type 0
 Covers ids m = (p : ObjectId) → (1 ≤ marks_in (m p)) → IsTrue (is_one_of ids p)
 

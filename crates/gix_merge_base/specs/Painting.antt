@@ -30,7 +30,8 @@ MayBeMetFrom h ids q = IsTrue (is_one_of ids q) ⊎ IsAncestorOfOne h ids q
 abbrev pub AreFrom : History → List ObjectId → List ObjectId → Type 0
 AreFrom h ids xs = (x : ObjectId) → IsTrue (is_one_of xs x) → MayBeMetFrom h ids x
 
--- The id x is f or one of os, or a parent of a reachable commit that is not a common ancestor.
+-- The id x is f or one of os, or it is a parent of a commit a that is an ancestor of one of them,
+-- but not a common ancestor.
 abbrev pub IsOutside : History → ObjectId → List ObjectId → ObjectId → Type 0
 IsOutside h f os x =
     IsHandedIn f os x

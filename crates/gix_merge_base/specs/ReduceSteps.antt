@@ -51,8 +51,8 @@ pub record IsOrder {S T : Type 0} (h : History) (g : Graphed S T) (ps : List (�
 abbrev pub AreMetBefore : (ObjectId → MarkSet) → List ObjectId → ℕ → Type 0
 AreMetBefore m ids place = AllWithin (λ c. IsTrue (m c).stale) ids 0 place
 
--- All of ids before the place were met, and none that was not met has a generation number below
--- bound.
+-- All of ids before the place were met, and none of ids that was not met has a generation number
+-- below bound.
 pub record IsLeft (h : History) (m : ObjectId → MarkSet) (ids : List ObjectId) (place bound : ℕ) : Type 0 where
   pub before : AreMetBefore m ids place
   pub least : (r : ObjectId) → IsTrue (is_one_of ids r) → (m r).stale ≡ false → bound ≤ generation_of h r

@@ -105,7 +105,8 @@ pub fn ordered_ids_fall()
 
 /// States that the sorted merge bases are one list.
 ///
-/// So an answer depends on the history and the arguments alone, and not on what the graph held.
+/// An answer that has exactly the merge bases therefore depends on the history and the arguments
+/// alone, and not on what the graph held.
 pub fn ordered_bases_are_one()
     ensures { OrderedBasesAreOne }
 {}

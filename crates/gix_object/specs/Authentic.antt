@@ -11,7 +11,7 @@ abbrev pub Contents : Type 0
 Contents = ObjectId → List ℕ
 
 -- The content is the one of this commit, and id is the hash of the content (git-hash-object;
--- gitglossary, "object name").
+-- gitglossary, "object name"). The commit has no generation number.
 pub record IsAuthentic (content : List ℕ) (id : ObjectId) (commit : Entry) : Type 0 where
   pub named : id_of_object Commit content ≡ id
   pub says : IsCommit content commit.parents commit.time

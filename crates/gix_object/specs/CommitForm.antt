@@ -36,8 +36,9 @@ pub data IsBroken (tree : ObjectId) : List ℕ → Type 0 where
   here : (text : List ℕ) → is_parent text ≡ true → (¬ IsParent tree text) → IsBroken tree text
   later : (text : List ℕ) → IsParent tree text → IsBroken tree (drop 48 text) → IsBroken tree text
 
--- The text begins with the line of a tree and the lines of these parents, and the lines of the
--- author and of the committer have this time.
+-- The text begins with the line of a tree and the lines of these parents. The lines of the author
+-- and of the committer follow and have this time, which is less than 2^63. If there are no such
+-- lines, the time is 0 (`seconds_at`).
 pub record IsCommit (text : List ℕ) (parents : List ObjectId) (time : ℤ) : Type 0 where
   pub rest : List ℕ
   pub tree : HasTree text

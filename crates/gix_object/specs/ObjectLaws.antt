@@ -9,7 +9,7 @@ use Rattle.gix_object.specs.declared.commit.ParseError.{ParseError}
 use Rattle.gix_object.specs.declared.commit.ParseError.TheVariants.{OutOfMemory}
 use Rattle.gix_object.specs.declared.tag.ParseError.{ParseError as TagError}
 
--- A content is the one of a commit with one list of parents and one time.
+-- A content is the one of at most one commit, by parents and time.
 abbrev pub OneCommit : Type 0
 OneCommit =
     (text : List ℕ) (parents others : List ObjectId) (time moment : ℤ)
@@ -27,7 +27,7 @@ OneCommitError =
     (text : List ℕ) (error other : ParseError) → error ≢ OutOfMemory → other ≢ OutOfMemory
     → commit.IsRefused text error → commit.IsRefused text other → error ≡ other
 
--- A content is the one of a tag with one target, one kind, one name and one date.
+-- A content is the one of at most one tag, by target, kind, name and date.
 abbrev pub OneTag : Type 0
 OneTag =
     (text : List ℕ) (target other : ObjectId) (kind more : Kind) (name word : List ℕ) (date moment : ℕ)

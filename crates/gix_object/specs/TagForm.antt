@@ -37,7 +37,7 @@ name_of text = before line_feed (drop 4 text)
 unfoldable pub tagged_at : List ℕ → ℕ
 tagged_at text = if begins (codes "tagger ") text then date_at (after 62 text) else 0
 
--- The date of the tagger in the line after the line of the name.
+-- The date of the tagger in the line after the line of the name; 0 if that is no tagger's line.
 abbrev pub date_in : List ℕ → ℕ
 date_in text = tagged_at (after line_feed (drop 4 text))
 
@@ -57,7 +57,7 @@ pub record IsTag (text : List ℕ) (target : ObjectId) (kind : Kind) (name : Lis
   pub dates : date ≡ date_in (lines_of_name text)
 
 -- Why the text is not read: the first of its three lines that is missing or malformed, or a type
--- that is not the name of a kind.
+-- that is not the name of a kind. A text of fewer than 64 bytes has no line of an object.
 abbrev pub IsRefused : List ℕ → ParseError → Type 0
 IsRefused text BadObject = ¬ HasObject text
 IsRefused text BadType = HasObject text × (¬ HasType (drop 48 text))

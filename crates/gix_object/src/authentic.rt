@@ -20,7 +20,7 @@ use thiserror::Error as StdError;
 pub enum ReadError {
     /// The content, as that of a commit, has another id.
     WrongId,
-    /// The content has the id, and [`parse`] returns this error for it.
+    /// The content has the id, and is not read as a commit for this reason.
     Parse(ParseError),
 }
 
@@ -42,7 +42,7 @@ impl fmt::Display for ReadError {
 /// # Errors
 ///
 /// - [`ReadError::WrongId`]: the content, as that of a commit, has another id.
-/// - [`ReadError::Parse`]: it has the id, and [`parse`] returns this error.
+/// - [`ReadError::Parse`]: it has the id, and what [`parse`] says of this error is so of it.
 pub fn read<A: Allocator>(
     alloc: A,
     id: ObjectId,

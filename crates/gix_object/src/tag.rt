@@ -22,7 +22,9 @@ pub struct Tag<'a> {
     pub kind: Kind,
     /// The name in the tag line, which may be empty.
     pub name: &'a [u8],
-    /// The tagger's date in seconds since the Unix epoch, modulo 2^64. It is 0 if git finds none.
+    /// The tagger's date in seconds since the Unix epoch. It is 0 if git finds none.
+    ///
+    /// A date before the epoch counts down from 2^64. What 64 bits cannot hold is `u64::MAX`.
     pub date: u64,
 }
 

@@ -1,4 +1,5 @@
--- What ids determine: the answers are the same over each history that is authentic and closed.
+-- What ids determine: the answers are the same over any two histories that are authentic and
+-- closed, or a collision is at hand.
 use Rattle.std.specs.Prelude.{◌≡◌, ◌⊎◌, ◌↔◌, ℕ, ◌∷◌, [], List, length, Bool, IsTrue, Option}
 use Rattle.std.specs.List.Sorted.{IsStrictlySortedBy}
 use Rattle.gix_base.specs.Hash.{id_order}
@@ -14,7 +15,7 @@ abbrev pub BothHave : History → History → List ObjectId → Type 0
 BothHave h k ids = (id : ObjectId) → IsTrue (is_one_of ids id) → Has h id × Has k id
 
 -- Let two histories be authentic and closed. Then the statement S holds of them, or a collision is
--- at hand.
+-- at hand. The laws below are about such histories.
 abbrev pub HoldsOrCollides : (History → History → Type 0) → Type 0
 HoldsOrCollides S =
     (contents others : Contents) (h k : History) → AreAuthentic contents h → AreAuthentic others k

@@ -15,15 +15,15 @@ use Rattle.gix_odb.specs.declared.error.Error.TheVariants.{Missing, Altered, Not
 abbrev pub IsOther : ObjectId → ObjectId → Type 0
 IsOther id other = (other ≢ id) × ((kind : Kind) × (content : List ℕ) × IsObject other kind content)
 
--- Why a copy of the object with this id is not taken. If there are bytes in its place, they are
--- another object.
+-- Why a copy of the object with this id is not taken. If the bytes of a copy have another id, that
+-- is the id of an object.
 abbrev pub IsFailure : ObjectId → Failure → Type 0
 IsFailure id NoCopy = Unit {0}
 IsFailure id (OtherObject other) = IsOther id other
 IsFailure id (InFile fault) = Unit {0}
 
--- An error of the read of id. If it names an object, it names this one. None is about what the
--- object says.
+-- An error of the read of id. `Missing` and `Altered` name this id. None is about what the object
+-- says.
 abbrev pub IsRefused : ObjectId → Error → Type 0
 IsRefused id (Missing other) = other ≡ id
 IsRefused id (Altered wanted other) = (wanted ≡ id) × IsOther id other
@@ -36,8 +36,8 @@ IsRefused id (Unsupported file feature) = Unit {0}
 IsRefused id (Failed file kind) = Unit {0}
 IsRefused id OutOfMemory = Unit {0}
 
--- An error of the read of id as a commit. The object with this id is of another kind, or git
--- refuses its content as a commit, or no copy of the object is taken.
+-- An error of the read of id as a commit. The object with this id is of another kind, or its
+-- content is refused as that of a commit, or no copy of the object is taken.
 abbrev pub IsNoCommit : ObjectId → Error → Type 0
 IsNoCommit id (Missing other) = other ≡ id
 IsNoCommit id (Altered wanted other) = (wanted ≡ id) × IsOther id other
@@ -50,8 +50,8 @@ IsNoCommit id (Unsupported file feature) = Unit {0}
 IsNoCommit id (Failed file kind) = Unit {0}
 IsNoCommit id OutOfMemory = Unit {0}
 
--- An error of the read of id as a tag. The object with this id is of another kind, or git refuses its
--- content as a tag, or no copy of the object is taken.
+-- An error of the read of id as a tag. The object with this id is of another kind, or its content
+-- is refused as that of a tag, or no copy of the object is taken.
 abbrev pub IsNoTag : ObjectId → Error → Type 0
 IsNoTag id (Missing other) = other ≡ id
 IsNoTag id (Altered wanted other) = (wanted ≡ id) × IsOther id other

@@ -144,14 +144,15 @@ impl<F: Folders + Drop, A: Allocator + Copy> Store<F, A> {
     ///
     /// # Errors
     ///
-    /// - `Missing` if no copy was found.
-    /// - `Altered`, `Damaged`, `Unsupported` or `Failed`, for the first copy that failed.
+    /// - `Missing` if no copy was found, and all folders were read.
+    /// - `Altered`, `Damaged`, `Unsupported` or `Failed`, for the first copy that failed, or for a
+    ///   folder that was not read.
     /// - `OutOfMemory` if an allocation failed.
     pub fn read(&mut self, alloc: A, id: ObjectId) -> Result<Object<A>, Error>
         // The object has this id.
         ensures found { IfOk result (λ o. IsObject id o.kind o.content.items) }
 
-        // An error about an object is about this one, and none is about a commit.
+        // `Missing` and `Altered` name this id. None is about what the object says.
         ensures refused { IfErr result (IsRefused id) }
     {
         match self.read_twice(alloc, id) {
@@ -166,13 +167,14 @@ impl<F: Folders + Drop, A: Allocator + Copy> Store<F, A> {
     ///
     /// - Those of [`Store::read`].
     /// - `NotACommit` if the object is authentic, and of another kind.
-    /// - `Malformed` if the object is authentic, and git refuses it as a commit.
+    /// - `Malformed` if the object is authentic, and git refuses it as a commit, or its date does
+    ///   not fit.
     #[tactic(auto, using(crate::proofs::Refused::refused_commit))]
     pub fn commit(&mut self, alloc: A, id: ObjectId) -> Result<SourceCommit<A>, Error>
         // A content with this id says the parents and the date.
         ensures found { IfOk result (λ c. IsCommitOf id (entry_of c)) }
 
-        // Each error has its cause.
+        // `NotACommit` and `Malformed` have their cause. The other errors are those of `read`.
         ensures refused { IfErr result (IsNoCommit id) }
     {
         match self.read(alloc, id) {
@@ -192,7 +194,7 @@ impl<F: Folders + Drop, A: Allocator + Copy> Store<F, A> {
         // A content with this id says the target, its kind, the name and the date.
         ensures found { IfOk result (λ t. IsTagOf id t.target t.kind t.name.items t.date) }
 
-        // Each error has its cause.
+        // `NotATag` and `MalformedTag` have their cause. The other errors are those of `read`.
         ensures refused { IfErr result (IsNoTag id) }
     {
         match self.read(alloc, id) {
@@ -210,7 +212,7 @@ impl<F: Folders + Drop, A: Allocator + Copy> Store<F, A> {
         // A content of this kind has this id.
         ensures found { IfOk result (λ kind. (content : List ℕ) × IsObject id kind content) }
 
-        // An error about an object is about this one, and none is about its kind.
+        // `Missing` and `Altered` name this id. None is about what the object says.
         ensures refused { IfErr result (IsRefused id) }
     {
         match self.read(alloc, id) {
@@ -228,7 +230,7 @@ impl<F: Folders + Drop, A: Allocator + Copy> Store<F, A> {
     /// - `Damaged`, `Unsupported` or `Failed` if no copy was found, and a file or folder was not read.
     /// - `OutOfMemory` if an allocation failed.
     pub fn has(&mut self, alloc: A, id: ObjectId) -> Result<bool, Error>
-        // An error about an object is about this one, and none is about its kind.
+        // `Missing` and `Altered` name this id. None is about what the object says.
         ensures refused { IfErr result (IsRefused id) }
     {
         match self.has_twice(alloc, id) {

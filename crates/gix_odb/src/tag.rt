@@ -20,7 +20,9 @@ pub struct Tag<A: Allocator = Global> {
     pub kind: Kind,
     /// The tag's name.
     pub name: Vec<u8, A>,
-    /// The tagger's date in seconds since the Unix epoch, modulo 2^64. It is 0 if git finds none.
+    /// The tagger's date in seconds since the Unix epoch. It is 0 if git finds none.
+    ///
+    /// A date before the epoch counts down from 2^64. What 64 bits cannot hold is `u64::MAX`.
     pub date: u64,
 }
 

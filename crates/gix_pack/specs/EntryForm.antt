@@ -16,7 +16,7 @@ type_of text = slice_index text 0 / 16 % 8
 abbrev pub low_size : List ℕ → ℕ
 low_size bytes = slice_index bytes 0 % 16 + 16 * low_first (drop 1 bytes)
 
--- The size that the entry at the beginning of text has once it is inflated.
+-- The size that the entry at the beginning of text has, as it says, once it is inflated.
 abbrev pub size_of : List ℕ → ℕ
 size_of text = low_size (number_bytes text)
 
@@ -34,8 +34,8 @@ HasBody type rest (Whole kind) n = (type ≡ type_number kind) × (n ≡ 0)
 HasBody type rest (OffsetDelta distance) n = (type ≡ 6) × HasNumber rest × (distance ≡ high_first (number_bytes rest)) × (n ≡ number_length rest)
 HasBody type rest (IdDelta base) n = (type ≡ 7) × (20 ≤ length rest) × (base.0 ≡ take 20 rest) × (n ≡ 20)
 
--- The text begins with the header of an entry, which has len bytes. A zlib stream of size bytes
--- follows it.
+-- The text begins with the header of an entry, which has len bytes. It says that what follows has
+-- size bytes once it is inflated.
 pub record IsHeader (text : List ℕ) (body : Body) (size : ℕ) (len : ℕ) : Type 0 where
   pub number : HasNumber text
   pub sized : size ≡ size_of text

@@ -21,8 +21,8 @@ part_of ids = record { count = length ids / 20; fanout = 0; ids = 0 }
 abbrev pub AreRising : List ℕ → Type 0
 AreRising ids = (i : ℕ) → i + 1 < (part_of ids).count → Rises ids (part_of ids) i
 
--- What some ids in a row tell of an id: its position among them; that it would be between two of
--- them, so that no longer list of rising ids has it; or nothing.
+-- What some ids in a row tell of an id: its position among them; or, if they rise, that it would be
+-- between two of them, so that no list of rising ids with these in a row has it; or nothing.
 abbrev pub IsTold : List ℕ → ObjectId → Told → Type 0
 IsTold ids id (At k) = IsAt ids (part_of ids) id k
 IsTold ids id Absent = AreRising ids → (k : ℕ) × (0 < k) × (k < (part_of ids).count) × IsGap ids (part_of ids) id k

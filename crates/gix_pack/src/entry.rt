@@ -24,7 +24,8 @@ pub enum Body {
 #[derive(Clone, Copy, Debug, PartialEq, Eq)]
 pub struct Entry {
     pub body: Body,
-    /// The number of bytes to which the stream inflates: the content, or the delta.
+    /// The number of bytes to which the stream inflates, as the header says: the content, or the
+    /// delta.
     pub size: u64,
     /// The number of bytes of the header.
     pub len: usize,

@@ -170,7 +170,7 @@ pub fn search(ids: &[u8], id: ObjectId) -> Result<usize, usize>
     narrow(ids, table, span, id)
 }
 
-/// Returns the position of `id` among `ids`, as [`search`] does, or `None` if they do not have it.
+/// Returns the position of `id` among `ids`, as [`search`] does, or `None` instead of its error.
 pub fn position(ids: &[u8], id: ObjectId) -> Option<usize>
     ensures { MatchOption result (AreRising ids.now → IsAbsent ids.now (part_of ids.now) id) (IsAt ids.now (part_of ids.now) id) }
 {
@@ -185,7 +185,8 @@ pub fn position(ids: &[u8], id: ObjectId) -> Option<usize>
 pub enum Told {
     /// It is at this position among them.
     At(usize),
-    /// It would be between two of them, so no longer list has it.
+    /// If they rise, it would be between two of them. No list of rising ids with these in a row has
+    /// it.
     Absent,
     /// It may be before or after them.
     Elsewhere,

@@ -4,14 +4,15 @@ use Rattle.gix_base.specs.declared.hash.ObjectId.{ObjectId}
 use Rattle.gix_revwalk.specs.History.{History, IsAncestor, entry_at, same_id}
 use Rattle.gix_merge_base.specs.Premises.{GenerationsNeverRiseFrom}
 
--- In the history h, `answer` says whether commit a is an ancestor of o (git-merge-base,
+-- In the history h, `answer` is true only if commit a is an ancestor of o, and exactly then with
+-- ordered generations from o. For equal ids it says whether h has the commit (git-merge-base,
 -- "--is-ancestor").
 pub record MeansAncestor (h : History) (a o : ObjectId) (answer : Bool) : Type 0 where
   pub exact : GenerationsNeverRiseFrom h (o ∷ []) → IsTrue answer ↔ IsAncestor h o a
   pub reached : IsTrue answer → IsAncestor h o a
   pub itself : IsTrue (same_id a o) → answer ≡ is_some (entry_at h o)
 
--- In the history h, the answers say in order of which tips commit c is an ancestor
+-- There is an answer for each tip, in order. Each means of c and its tip what `MeansAncestor` says
 -- (git-for-each-ref, "--contains").
 abbrev pub MeanContained : History → ObjectId → List ObjectId → List Bool → Type 0
 MeanContained h c [] [] = Unit {0}

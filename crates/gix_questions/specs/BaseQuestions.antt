@@ -10,28 +10,33 @@ use Rattle.gix_merge_base.specs.Octopus.{IsOctopusBase, AreOctopusBases, IsCommo
 use Rattle.gix_merge_base.specs.Premises.{IsAcyclicFrom, GenerationsNeverRiseFrom}
 use Rattle.gix_merge_base.specs.Reducing.{IsIndependent, SomeOf}
 
--- In the history h, `found` has the merge bases of f and os, each once and in order. Without
--- ordered generations it covers them.
+-- In the history h, `found` has ids, each once and in order. If h is acyclic from f and os, with
+-- ordered generations, these are their merge bases. If it is only acyclic, and the question is not
+-- trivial, they cover the merge bases.
 pub record MeansBases {A : Type 0} (h : History) (f : ObjectId) (os : List ObjectId) (found : Option (NonEmpty ObjectId A)) : Type 0 where
   pub bases : IsAcyclicFrom h (f ∷ os) → GenerationsNeverRiseFrom h (f ∷ os) → AreBases h f os (ids_of found)
   pub without_generations : IsAcyclicFrom h (f ∷ os) → is_trivial f os ≡ false → CoverBases h f os (ids_of found)
   pub once : IsDistinct same_id (ids_of found)
   pub order : IsInOrder h (ids_of found)
 
--- In the history h, `left` has those of ids that no other one of them reaches (git-merge-base,
+-- In the history h, `left` has some of ids. If h is acyclic from ids, all that no other one of ids
+-- reaches are among them. With ordered generations as well, there are no others (git-merge-base,
 -- "--independent").
 pub record MeansIndependent (h : History) (ids left : List ObjectId) : Type 0 where
   pub independent : IsAcyclicFrom h ids → GenerationsNeverRiseFrom h ids → (c : ObjectId) → IsTrue (is_one_of left c) ↔ IsIndependent h ids c
   pub kept : IsAcyclicFrom h ids → (c : ObjectId) → IsIndependent h ids c → IsTrue (is_one_of left c)
   pub some : SomeOf ids left
 
--- In the history h, `found` is the first octopus base of f and os (git-merge-base, "--octopus").
+-- In the history h, `found` is the first octopus base of f and os (`IsFirstOctopusBase`). If h is
+-- acyclic from f and os, with ordered generations, it is their octopus base. If h is acyclic, and
+-- not all of os are f, it is common to all (git-merge-base, "--octopus").
 pub record MeansOctopus (h : History) (f : ObjectId) (os : List ObjectId) (found : Option ObjectId) : Type 0 where
   pub base : IsAcyclicFrom h (f ∷ os) → GenerationsNeverRiseFrom h (f ∷ os) → IsOctopusBase h f os found
   pub common : IsAcyclicFrom h (f ∷ os) → list_all (same_id f) os ≡ false → IsCommonToAll h f os found
   pub first : IsFirstOctopusBase h f os found
 
--- In the history h, the octopus bases of f and os are `bases`, in order.
+-- In the history h, `bases` are in order. If h is acyclic from f and os, and not all of os are f,
+-- they are the octopus bases of f and os. If all of os are f, `bases` has f alone.
 pub record MeansOctopusBases (h : History) (f : ObjectId) (os bases : List ObjectId) : Type 0 where
   pub are : IsAcyclicFrom h (f ∷ os) → list_all (same_id f) os ≡ false → AreOctopusBases h f os bases
   pub order : IsInOrder h bases

@@ -9,23 +9,26 @@ use Rattle.gix_spec.specs.declared.spec.Spec.TheVariants.{Range}
 use Rattle.gix_resolve.specs.ListMeaning.{IsMeant}
 use Rattle.gix_resolve.specs.Reachable.{IsBeyond}
 
--- In the history h, the list has the commits that the included ones reach and the excluded ones do
--- not, newest first (git-rev-list, "Description").
+-- In the history h, the list has each commit that the included ones reach and the excluded ones do
+-- not, newest first. All others in it are reached by the included ones. With ordered generations
+-- there are no others, and each is listed once (git-rev-list, "Description").
 pub record MeansReachable (h : History) (included excluded ids : List ObjectId) : Type 0 where
   pub reached : GenerationsNeverRiseFrom h (included ++ excluded) → Lists ids (IsBeyond h excluded included)
   pub every : (c : ObjectId) → IsBeyond h excluded included c → IsTrue (is_one_of ids c)
   pub shown : (c : ObjectId) → IsTrue (is_one_of ids c) → IsAncestorOfOne h included c
   pub order : IsInOrder h ids
 
--- In the history h, the included ones reach n commits that the excluded ones do not (git-rev-list,
--- "--count").
+-- In the history h, n is at least the number of commits that the included ones reach and the
+-- excluded ones do not, and is that number with ordered generations. It is at most the number that
+-- the included ones reach (git-rev-list, "--count").
 pub record MeansCountReachable (h : History) (included excluded : List ObjectId) (n : ℕ) : Type 0 where
   pub size : GenerationsNeverRiseFrom h (included ++ excluded) → HasSize (IsBeyond h excluded included) n
   pub no_less : AtMost n (IsBeyond h excluded included)
   pub no_more : AtLeast n (IsAncestorOfOne h included)
 
--- In the history h, a commits are only reachable from `ours`, and b only from `theirs`
--- (git-rev-list, "--left-right").
+-- In the history h, a is at least the number of commits that only `ours` reaches, and is that
+-- number with ordered generations. It is at most the number that `ours` reaches. The same holds of
+-- b and `theirs` (git-rev-list, "--left-right").
 pub record MeansAheadBehind (h : History) (ours theirs : ObjectId) (a b : ℕ) : Type 0 where
   pub ahead : GenerationsNeverRiseFrom h (ours ∷ theirs ∷ []) → HasSize (IsMeant h (Range theirs ours)) a
   pub behind : GenerationsNeverRiseFrom h (ours ∷ theirs ∷ []) → HasSize (IsMeant h (Range ours theirs)) b

@@ -26,6 +26,9 @@ fn refusal<T: Drop>(error: Message) -> Result<Result<T, Message>, Refused>
 ///
 /// The answer is that of [`describe`]: the description, `None` if no name is found, or the refusal
 /// [`Message::MissingStart`] or [`Message::CounterFull`]. The options are cloned for each try.
+///
+/// Premises: older parents. Without them the depth may be greater than the number of commits ahead
+/// of the named one.
 #[derive(Drop)]
 pub struct Describe<'name, A: Allocator + Copy = Global> {
     /// The memory of the answer.

@@ -6,7 +6,7 @@
 //!
 //! # Premises
 //!
-//! *Acyclic* and *ordered generations*, as [`gix_revision`] defines them.
+//! *Acyclic*, *ordered generations* and *older parents*, as [`gix_revision`] defines them.
 #![tactic(auto)]
 
 mod ancestry;

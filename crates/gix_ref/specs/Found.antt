@@ -15,7 +15,7 @@ abbrev pub target_says : {A : Type 0} → Target A → Says
 target_says (target.Id id peeled) = HasId id.0 (option_map (λ p. p.0) peeled)
 target_says (target.Symbolic name) = LeadsTo name.items
 
--- What an answer says of a reference; nothing if files or memory failed.
+-- What an answer says of a reference; nothing if files or memory failed, or if it is `TooDeep`.
 abbrev pub answer_says : {A : Type 0} → Result (Option (Target A)) Error → Option (Option Says)
 answer_says (Ok found) = Some (option_map target_says found)
 answer_says (Err (Broken name)) = Some (Some IsGarbage)

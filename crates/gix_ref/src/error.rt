@@ -51,7 +51,8 @@ pub enum Error {
     Failed(ErrorName, ErrorKind),
     /// The path of the reference is not UTF-8, and `std` opens no such path.
     NotUtf8(ErrorName),
-    /// The file with this name, `packed-refs`, has a line that git does not write.
+    /// The file with this name is not as git writes it: `packed-refs` has a line of another form or
+    /// a name twice, or there is another `commondir`.
     Damaged(ErrorName),
     /// The file of this reference says neither an id nor the name of a reference.
     Broken(ErrorName),

@@ -11,7 +11,7 @@ full_names short = short ∷ (codes "refs/" ++ short) ∷ (codes "refs/tags/" ++
     ∷ (codes "refs/remotes/" ++ short) ∷ (codes "refs/remotes/" ++ short ++ codes "/HEAD") ∷ []
 
 -- What a short name means: the full name by the rule that wins, where that leads, and whether a
--- further rule has a reference, too.
+-- further rule leads to an id, too.
 pub record Meant : Type 0 where
   pub full : List ℕ
   pub at : Leads

@@ -11,7 +11,7 @@ use Rattle.gix_ref_text.specs.Lines.{first_part, lines}
 use Rattle.gix_ref_text.specs.Loose.{Says}
 use Rattle.gix_ref_text.specs.Packed.{told_by, peeled_first, first_of, packed_says}
 
--- What the first of some lines says that tells of a name, or else what others say.
+-- What the first of some lines says, if it tells of the name; otherwise what others say.
 abbrev pub first_says : List (List ℕ) → List ℕ → Option Says → Option Says
 first_says [] name others = others
 first_says (line ∷ rest) name others = first_of (told_by line name) (peeled_first rest) others
@@ -53,20 +53,21 @@ AreUpTo bytes places last = AllByRecursion (λ p. (name : List ℕ) → slice_cm
 abbrev pub IsEnd : List ℕ → List ℕ → Type 0
 IsEnd bytes rest = (n : ℕ) × (rest ≡ drop n bytes)
 
--- The bytes rest are the end of bytes, and no line before them tells of a name.
+-- The bytes rest are the end of bytes, and say of each name what bytes say.
 pub record IsTold (bytes rest : List ℕ) : Type 0 where
   pub end : IsEnd bytes rest
   pub same : (name : List ℕ) → packed_says bytes name ≡ packed_says rest name
 
--- The first line of bytes has a name, and rest is the end of bytes. No other line before rest
--- tells of a name.
+-- The name is that of the first line of bytes, and rest is the end of bytes. Of each name, bytes
+-- say what the first line says, or else what rest says.
 pub record IsRecord (bytes name rest : List ℕ) : Type 0 where
   pub named : name ≡ drop 41 (first_part (lines bytes))
   pub end : IsEnd bytes rest
   pub says : (n : List ℕ) → packed_says bytes n ≡ first_says (lines bytes) n (packed_says rest n)
 
--- The places of the lines before rest were read. The last one has the name last; if is_sorted is
--- set, the names rise.
+-- The bytes rest are the end of bytes. Of each name, bytes say what the lines at places say, or
+-- else what rest says. If is_sorted is set, the names in these lines rise, and none is greater than
+-- last.
 pub record IsRead (bytes rest places : List ℕ) (is_sorted : Bool) (last : List ℕ) : Type 0 where
   pub end : IsEnd bytes rest
   pub says : (name : List ℕ) → packed_says bytes name ≡ places_say bytes places name (packed_says rest name)

@@ -32,13 +32,13 @@ pub struct Reflog<A: Allocator = Global> {
 /// What a reflog says of a date.
 #[derive(Clone, Copy, Debug, PartialEq, Eq)]
 pub enum AtDate {
-    /// The date is after the newest entry, or before an entry that has no old id. git answers with
-    /// the id that the reference has now.
+    /// The date is after the newest entry, or between an entry and the next one, which has no old
+    /// id. git answers with the id that the reference has now.
     Now,
     /// The reference had this id.
     Id(ObjectId),
-    /// The date is before the oldest entry, which is of this second. It has this id. git warns
-    /// that the log only goes back to then.
+    /// The date is before the oldest entry, which is of this second. The id is its old one, or its
+    /// new one if the old one has zeros only. git warns that the log only goes back to then.
     Before(ObjectId, u64),
 }
 

@@ -15,7 +15,7 @@ pub struct Named<A: Allocator = Global> {
     pub name: Vec<u8, A>,
     /// The reference to which it leads.
     pub reference: Reference<A>,
-    /// Whether a further rule has a reference, too.
+    /// Whether a further rule leads to an id, too.
     pub is_ambiguous: bool,
 }
 

@@ -2,8 +2,8 @@
 use Rattle.std.specs.Prelude.{Option, Some, None, ◌++◌}
 use Rattle.gix_revwalk.specs.History.{History}
 
--- The history that an answer speaks of: the commits that were read, and whatever lies beyond them. In
--- authentic mode it is the commits that were loaded, which are all that the question's commits reach.
+-- The history that an answer speaks of: the commits that were read, and whatever lies beyond them.
+-- In authentic mode it is the commits that were loaded.
 abbrev pub answered_over : Option History → History → History → History
 answered_over None known beyond = known ++ beyond
 answered_over (Some loaded) known beyond = loaded

@@ -30,7 +30,8 @@ pub enum Mode {
     /// histories.
     Usual,
     /// Only objects are, and only if their SHA-1 is their id. All that a question's commits reach
-    /// is read, and an answer has no premise.
+    /// is read. Of the premises of an answer only *older parents* is left, for the depth of a
+    /// description.
     Authentic,
 }
 

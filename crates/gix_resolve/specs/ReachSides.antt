@@ -42,8 +42,8 @@ pub record Gives (h : History) (both : Bool) (w : MarkSet) (ps : List ObjectId) 
   pub spends : (ids : List ObjectId) → Covers ids m' → length q' + total ids m ≤ length q + total ids m'
 
 -- The state between two steps of a walk from the sides xs and ys. The marks are m, the open commits
--- are q, and bound is the least generation number of those that were taken while they were not
--- hidden.
+-- are q, and bound is at most the generation number of each commit that is wanted by its marks and
+-- not open.
 pub record Walked (h : History) (xs ys : List ObjectId) (both : Bool) (m : ObjectId → MarkSet) (q : List ObjectId) (bound : ℕ) : Type 0 where
   pub one : (c : ObjectId) → IsTrue (m c).one → IsAncestorOfOne h xs c
   pub two : (c : ObjectId) → IsTrue (m c).two → IsAncestorOfOne h ys c
@@ -60,7 +60,8 @@ pub record Walked (h : History) (xs ys : List ObjectId) (both : Bool) (m : Objec
 abbrev pub IsOver : History → Bool → (ObjectId → MarkSet) → List ObjectId → ℕ → Type 0
 IsOver h both m q least = (c : ObjectId) → IsTrue (is_one_of q c) → IsTrue (hides both (m c)) × (generation_of h c < least)
 
--- The commit id leaves the open commits q, of which r remain.
+-- One entry of the commit id leaves the open commits q, of which r remain. If id is not hidden,
+-- next is the lesser of bound and its generation number, otherwise it is bound.
 pub record Takes (h : History) (both : Bool) (id : ObjectId) (m : ObjectId → MarkSet) (q : List ObjectId) (bound : ℕ) (r : List ObjectId) (next : ℕ) : Type 0 where
   pub queue : IsPermutation q (id ∷ r)
   pub least : next ≡ cond (hides both (m id)) bound (min bound (generation_of h id))

@@ -28,7 +28,7 @@ IsPlain (pieces.name text whole attempt) = (attempt ≡ None) × (prefix_with te
 IsPlain (pieces.peel target after) = IsSameDemand target
 IsPlain _ = Unit {0}
 
--- A text with only plain pieces means the same in both orders.
+-- A text with only plain pieces ends in the same states and in the same ways in both orders.
 abbrev pub OrdersAgree : Known → History → Type 0
 OrdersAgree known h =
     (text : List ℕ) (now : Time) (u : State) (l : Leaf) → AllByRecursion IsPlain (pieces_of text)

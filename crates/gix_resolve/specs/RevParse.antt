@@ -33,8 +33,8 @@ abbrev pub behind_mark : (name : List ℕ) → Option ℕ → List ℕ
 behind_mark name (Some k) = drop (k + 2) name
 behind_mark name None = name
 
--- The part of a name that may be an abbreviated object name: the text after its last `-g`, or the
--- whole name.
+-- The part of a name that may be an abbreviated object name: the text after its last `-g` that has
+-- something before it, or else the whole name.
 unfoldable pub digits_in : (name : List ℕ) → List ℕ
 digits_in name = behind_mark name (greatest_below (is_id_mark name) (length name))
 

@@ -60,16 +60,16 @@ HoldsBoth before after n = (q : ObjectId) → (before ≡ Some q) ⊎ (after ≡
 abbrev pub IsAskedNear : History → (place : ℕ) → (id q : ObjectId) → Type 0
 IsAskedNear h place id q = (q ≡ id) ⊎ (slice_get (parents_in (entry_at h id)) place ≡ Some q)
 
--- Commit q is asked for on a step from id. It is id; for `~n` it may be a commit on the way before
--- the last one, or the first parent of such a commit; for `^n` it may be the parent of that number.
--- The history need not have the parent.
+-- Commit q may be asked for on a step from id. It is id; or for `~n` a commit on the way before the
+-- last one, or the first parent of such a commit; or for `^n` the parent of that number. The
+-- history need not have the parent.
 abbrev pub IsAskedOnStep : History → Traversal → (id q : ObjectId) → Type 0
 IsAskedOnStep h (NthAncestor n) id q =
     (q ≡ id) ⊎ ((k : ℕ) × (p : ObjectId) × (k < n) × (ancestor_at h k id ≡ Some p) × IsAskedNear h 0 p q)
 IsAskedOnStep h (NthParent n) id q = (q ≡ id) ⊎ ((0 < n) × IsAskedNear h (n - 1) id q)
 
--- Commit q is asked for at a call at the revision that was read: it is asked for on a step, or it
--- is the commit that `^{commit}` asks for.
+-- Commit q may be asked for at a call at the revision that was read: it may be asked for on a step,
+-- or it is the commit that `^{commit}` asks for.
 abbrev pub IsAskedAt : History → Option ObjectId → Call → ObjectId → Type 0
 IsAskedAt h (Some id) (traverse step) q = IsAskedOnStep h step id q
 IsAskedAt h (Some id) (peel (object Commit)) q = q ≡ id

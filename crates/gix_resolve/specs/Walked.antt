@@ -1,5 +1,5 @@
--- What a revision loads into a graph: the commits on its steps. And at which commit its source did
--- not answer.
+-- What a revision loads into a graph: the commits on its steps. And which commits are not all held
+-- if its source did not answer.
 use Rattle.std.specs.Prelude.{◌≡◌, ℕ, List, Some, Result, Ok, Err, IsTrue}
 use Rattle.gix_revision.specs.Answer.{Answer, accepted}
 use Rattle.gix_revision.specs.Call.{Call}
@@ -20,7 +20,7 @@ use Rattle.gix_resolve.specs.declared.state.State.{State}
 -- A step over a source that may fail, with the graph before and after it. Held commits stay held,
 -- and newly held ones are on the call. If a call that asks the source is accepted, the revisions
 -- from which and to which it goes are held. If the source did not answer, some commit that the call
--- asks for is not held.
+-- may ask for is not held.
 pub record WalksBy {S T : Type 0} (w : Way) (h : History) (s : State × Graphed S T) (c : Call) (a : Answer) (u : State × Graphed S T) : Type 0 where
   pub step : IsStepOrFaultBy w s.0 c a u.0
   pub held : KeepsHeld s.1 u.1

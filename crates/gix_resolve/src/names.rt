@@ -40,7 +40,8 @@ fn last_id_mark(name: &[u8]) -> Option<usize>
 
 /// Returns what may be an abbreviated object name in a name.
 ///
-/// It is the text after the last `-g`, as in what `git describe` prints, or the whole name.
+/// It is the text after the last `-g` that has something before it, as in what `git describe`
+/// prints, or else the whole name.
 #[tactic(auto, unfolding(crate::specs::RevParse::digits_in))]
 fn digits_in(name: &[u8]) -> &[u8]
     ensures { result.now ≡ digits_in name.now }

@@ -246,6 +246,8 @@ fn counted_two<S: Find, A: Allocator + Copy>(
 }
 
 /// Counts what only `first` reaches and what only `second` reaches, and follows `first` first.
+///
+/// If a generation number rises the counts may be greater.
 fn counted_turned<S: Find, A: Allocator + Copy>(
     alloc: A,
     first: ObjectId,

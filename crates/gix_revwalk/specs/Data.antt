@@ -42,7 +42,8 @@ mark_with (Some k) d = option_map (λ x. record { marks = x; queued = k }) d
 abbrev pub mark_at : {S D A : Type 0} → Graphed S (Commit D A) → ObjectId → Option (Mark D)
 mark_at g q = mark_with (unwrap_or (lookup (same_id q) g.marked) None) (data_at g q)
 
--- Graph n is graph m, except that the current walk has recorded w for the id with the number k.
+-- Graph n has the source, the ids, the marks and the data of graph m, except that the current walk
+-- has recorded w for the id with the number k.
 pub record Marks {S D A : Type 0} (m : Graphed S (Commit D A)) (k : ℕ) (w : Mark D) (n : Graphed S (Commit D A)) : Type 0 where
   pub source : n.source ≡ m.source
   pub ids : held_ids n ≡ held_ids m

@@ -23,7 +23,7 @@ AreRight Absent h = HasNoGenerations h
 AreRight NeverRise h = AreLevelled h
 
 -- What a source in memory with the history h notes about generation numbers is right. If no commit
--- has one, then this is noted.
+-- has one other than infinity, then this is noted.
 pub record AreNoted (known : Generations) (h : History) : Type 0 where
   pub right : AreRight known h
   pub absent : HasNoGenerations h → known ≡ Absent

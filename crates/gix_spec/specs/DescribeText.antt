@@ -51,13 +51,14 @@ hint_at before (Some k) = hint_by (take k before) (number_of (drop (k + 1) befor
 unfoldable pub hint_of_text : (before : List ℕ) → Hint
 hint_of_text before = hint_at before (last_dash before)
 
--- The short form: hex digits before the only dash.
+-- The short form: the text before the last dash, if it is 4 to 40 hex digits.
 abbrev pub short_form : (text : List ℕ) → Option ℕ → Option Attempt
 short_form text None = None
 short_form text (Some k) = prefix_with (take k text) None
 
 -- The long form has a dash, a `g` and hex digits, and before them a token that is not empty. Tokens
--- after the digits are ignored. A text that is not of the long form may be of the short form.
+-- after the digits are ignored. There is no call if the digits are not 4 to 40. A text that is not
+-- of the long form may be of the short form.
 abbrev pub describe_form : (text : List ℕ) → Option ℕ → Option Attempt
 describe_form text None = short_form text (last_dash text)
 describe_form text (Some k) =

@@ -9,8 +9,8 @@ use Rattle.gix_spec.specs.DescribeText.{Attempt, prefix_with, describe_attempt}
 use Rattle.gix_spec.specs.AtParts.{at_braces}
 use Rattle.gix_spec.specs.Part.{Part, nothing, piece, refusal, followed}
 
--- The prefix call that is tried first for a name, if the whole name is hex digits or it is a
--- describe text.
+-- The prefix call that is tried first for a name, if the whole name is 4 to 40 hex digits or it is
+-- a describe text.
 abbrev pub attempt_by : Option Attempt → (text : List ℕ) → Option Attempt
 attempt_by (Some whole) text = Some whole
 attempt_by None text = describe_attempt text

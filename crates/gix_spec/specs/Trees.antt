@@ -34,7 +34,8 @@ abbrev pub at_time : Option Time → (inner : List ℕ) → Tree → Tree
 at_time None inner onward = leaf (faulty Date (Some inner) None None)
 at_time (Some t) inner onward = demand (calls.reflog (AtDate t)) AtRefused (Some inner) onward
 
--- The calls for a name: first as a prefix, if it can be one; then, if that is refused, as a ref.
+-- The calls for a name: first as a prefix, if it can be one. If it cannot, or that is refused, as a
+-- ref. If both are refused, the fault NameRefused has both refusals.
 abbrev pub attempts : (text whole : List ℕ) → Option (List ℕ × Option calls.Hint) → Context → (Context → Tree) → Tree
 attempts text whole None m onward = demand (find_ref text) NameRefused (Some whole) (onward (after_reference m text))
 attempts text whole (Some p) m onward =

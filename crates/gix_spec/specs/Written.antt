@@ -38,7 +38,8 @@ abbrev pub IsRegex : (raw : List ℕ) → (negated : Bool) → (tail : List ℕ)
 IsRegex raw true tail = tail ≡ codes "!-" ++ raw
 IsRegex raw false tail = (tail ≡ raw) ⊎ (tail ≡ codes "!" ++ raw)
 
--- The text inner in braces has the regex raw after a slash and a mark of at most two bytes.
+-- The regex raw is the text inner in braces without its first byte and a mark: two bytes if it is
+-- negated, and otherwise at most one.
 abbrev pub IsRegexIn : (raw : List ℕ) → (negated : Bool) → (inner : List ℕ) → Type 0
 IsRegexIn raw true inner = raw ≡ drop 3 inner
 IsRegexIn raw false inner = (raw ≡ drop 1 inner) ⊎ (raw ≡ drop 2 inner)

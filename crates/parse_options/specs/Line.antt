@@ -78,7 +78,8 @@ next_of None = nothing
 next_of (Some (items.Argument text)) = argument text.now
 next_of (Some (items.Option given)) = option given.key (slice_of given.value) given.is_no
 
--- The text of a long option is a name, or a name without "=", "=" and the value that is joined to it.
+-- The text of a long option is a name without "=", or such a name, then "=" and the value that is
+-- joined to it.
 abbrev pub IsCut : (text name : List ℕ) → (joined : Option (List ℕ)) → Type 0
 IsCut text name None = (text ≡ name) × (Contains name 61 → ⊥)
 IsCut text name (Some value) = (text ≡ name ++ (61 ∷ value)) × (Contains name 61 → ⊥)

@@ -24,8 +24,8 @@ use std::convert::AsSlice;
 /// Why a file is not added to a chain.
 #[derive(Clone, Copy, Debug, PartialEq, Eq, Drop)]
 pub enum ChainFault {
-    /// The file is not the next one of the chain: it is malformed, its base graphs are not the files
-    /// below it, or it has a commit that they have.
+    /// The file is not the next one of the chain: it is malformed, its trailing hash is wrong, its
+    /// base graphs are not the files below it, or it has a commit that they have.
     NoChain,
     /// A commit has no level, or a parent's level is not less than its child's.
     NoLevels,
@@ -151,6 +151,8 @@ impl<A: Allocator + Copy> Chain<A> {
     }
 
     /// Adds the next file of the chain, whose commits are read into memory.
+    ///
+    /// The promises suppose that the chain has the commits, the ids and the hashes of its files.
     ///
     /// # Errors
     ///

@@ -17,7 +17,7 @@ pub fn epoch_day(date: Date) -> i64
     i64::from(date.to_unix_epoch_day())
 }
 
-// Returns the day number of a date, if the calendar has that date.
+// Returns the day number of a date, if the calendar has that date in the years 0 to 9999.
 #[tactic(auto, unfolding(crate::specs::Civil::day_number))]
 fn day_number(year: u64, month: u64, day: u64) -> Result<i64, DateError>
     ensures value { result ≡ day_number year month day }

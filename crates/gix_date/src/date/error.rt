@@ -9,9 +9,10 @@ use thiserror::Error;
 /// Says why a text is not a date.
 #[derive(Clone, Copy, Debug, PartialEq, Eq, Drop, Error)]
 pub enum DateError {
-    /// The text has none of the forms.
+    /// The text has none of the forms, or it is not UTF-8.
     NotADate,
-    /// The text has one of the forms, and a number in it or its time is out of range.
+    /// The text has one of the forms other than RFC 2822, and a number in it or its time is out of
+    /// range.
     OutOfRange,
     /// An allocation failed. [`parse`](super::parse) allocates nothing, and never returns this.
     OutOfMemory,

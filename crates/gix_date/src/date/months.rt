@@ -18,7 +18,9 @@ fn backward(months: u64) -> i32
     -(months as i32)
 }
 
-/// Returns the day a number of months before a day, or the last day of that month if it is shorter.
+/// Returns the day a number of months before a day, at the same place of its month.
+///
+/// A month that does not have this place gives its last day.
 ///
 /// More than 500,000 months lead out of the calendar from each of its days.
 pub fn months_before(day: i64, months: u64) -> Result<i64, DateError>

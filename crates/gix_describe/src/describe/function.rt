@@ -181,9 +181,10 @@ pub fn counted_by<'name, S: Find, A: Allocator + Copy>(
 /// # Errors
 ///
 /// - [`Message::ParentsOf`]: the source failed. Its [fault count](crate#fault-count) has grown by
-///   one. The message names the commit whose parents were needed. The graph holds `commit`, the
-///   parents of every commit visited before that one, and nothing else except parents of that one.
-///   If `commit` itself could not be loaded, the message names `commit` and the graph is empty.
+///   one, or is `u64::MAX`. The message names the commit whose parents were needed. The graph holds
+///   `commit` and, of the parents of every commit visited before that one, those that the source
+///   has. It holds nothing else except parents of that one. If `commit` itself could not be loaded,
+///   the message names `commit` and the graph is empty.
 /// - [`Message::MissingStart`]: the history has to be walked, and the source does not have
 ///   `commit`.
 /// - [`Message::CounterFull`]: 2^32 or more commits are reachable.
@@ -266,16 +267,18 @@ pub fn counted<'name, S: Find, A: Allocator + Copy>(
 ///
 /// # Graph
 ///
-/// After a walk that returns an outcome, the graph holds `commit` and the parents of every commit
-/// seen but the last, and nothing else. What the source returned stays in memory until the graph is
-/// dropped, and is not asked for again. An id that the source did not have is not remembered.
+/// After a walk that returns an outcome, the graph holds `commit` and, of the parents of every
+/// commit seen but the last, those that the source has. It holds nothing else. What the source
+/// returned stays in memory until the graph is dropped, and is not asked for again. An id that the
+/// source did not have is not remembered.
 ///
 /// # Errors
 ///
 /// - [`Message::ParentsOf`]: the source failed. Its [fault count](crate#fault-count) has grown by
-///   one. The message names the commit whose parents were needed. The graph holds `commit`, the
-///   parents of every commit visited before that one, and nothing else except parents of that one.
-///   If `commit` itself could not be loaded, the message names `commit` and the graph is empty.
+///   one, or is `u64::MAX`. The message names the commit whose parents were needed. The graph holds
+///   `commit` and, of the parents of every commit visited before that one, those that the source
+///   has. It holds nothing else except parents of that one. If `commit` itself could not be loaded,
+///   the message names `commit` and the graph is empty.
 /// - [`Message::MissingStart`]: the history has to be walked, and the source does not have
 ///   `commit`.
 /// - [`Message::CounterFull`]: 2^32 or more commits are reachable.

@@ -47,7 +47,8 @@ use std::alloc::Allocator;
 ///
 /// # Errors
 ///
-/// - [`Error::Source`]: the source failed. Its [fault count](crate#fault-count) has grown by one.
+/// - [`Error::Source`]: the source failed. Its [fault count](crate#fault-count) has grown by one,
+///   or is `u64::MAX`.
 /// - [`Error::OutOfMemory`]: an allocation failed.
 ///
 /// The graph can be used again after either.

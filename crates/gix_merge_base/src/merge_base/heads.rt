@@ -99,8 +99,8 @@ fn steps<S: Find, A: Allocator + Copy>(
     Ok(left)
 }
 
-/// Returns common ancestors of `first` and all of `others`, every maximal one among them. With
-/// ordered generations they are exactly the maximal ones.
+/// Returns common ancestors of `first` and all of `others`, every maximal one among them, if these
+/// ids are acyclic. With ordered generations as well they are exactly the maximal ones.
 ///
 /// Each head is looked up, and then followed at most once, the newest first. Along a chain each
 /// walk goes on where the one before it ended.
@@ -151,7 +151,8 @@ fn bases_of_heads<S: Find, A: Allocator + Copy>(
 ///
 /// # Errors
 ///
-/// - [`Error::Source`]: the source failed. Its [fault count](crate#fault-count) has grown by one.
+/// - [`Error::Source`]: the source failed. Its [fault count](crate#fault-count) has grown by one,
+///   or is `u64::MAX`.
 /// - [`Error::OutOfMemory`]: an allocation failed.
 ///
 /// The graph can be used again after either.
@@ -213,7 +214,8 @@ pub fn octopus_bases<S: Find, A: Allocator + Copy>(
 ///
 /// # Errors
 ///
-/// - [`Error::Source`]: the source failed. Its [fault count](crate#fault-count) has grown by one.
+/// - [`Error::Source`]: the source failed. Its [fault count](crate#fault-count) has grown by one,
+///   or is `u64::MAX`.
 /// - [`Error::OutOfMemory`]: an allocation failed.
 ///
 /// The graph can be used again after either.

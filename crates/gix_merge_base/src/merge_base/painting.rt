@@ -146,7 +146,8 @@ pub(crate) fn paint_with<S: Find, A: Allocator + Copy>(
 ///
 /// # Errors
 ///
-/// - [`Error::Source`]: the source failed. Its [fault count](crate#fault-count) has grown by one.
+/// - [`Error::Source`]: the source failed. Its [fault count](crate#fault-count) has grown by one,
+///   or is `u64::MAX`.
 /// - [`Error::OutOfMemory`]: an allocation failed.
 ///
 /// The graph can be used again after either.

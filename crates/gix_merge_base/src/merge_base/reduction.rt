@@ -281,7 +281,8 @@ fn is_met<S: Find, A: Allocator + Copy>(
     }
 }
 
-/// Returns those of the results of painting that no other one of them reaches.
+/// Returns those of the results of painting that no other one of them reaches, under the premises
+/// of [`reduce`].
 ///
 /// The call goes on with painting's walk. Stale commits count as met, and the queued ones are
 /// followed next.
@@ -334,7 +335,8 @@ pub(crate) fn reduce_painted<S: Find, A: Allocator + Copy>(
 ///
 /// # Errors
 ///
-/// - [`Error::Source`]: the source failed. Its [fault count](crate#fault-count) has grown by one.
+/// - [`Error::Source`]: the source failed. Its [fault count](crate#fault-count) has grown by one,
+///   or is `u64::MAX`.
 /// - [`Error::OutOfMemory`]: an allocation failed.
 ///
 /// The graph can be used again after either.

@@ -19,7 +19,7 @@ pub enum OpenFault {
     Version,
     /// The tables and the two hashes do not fill the file.
     Size,
-    /// The fanout table falls, or the ids are not in order.
+    /// The fanout table falls, or the ids are not in order, or not where the table says.
     Ids(TableFault),
     /// The offset of an object is one of 8 bytes that the index does not have.
     NoOffset,

@@ -95,7 +95,7 @@ impl<B: AsSlice<u8> + Drop> Index<B> {
         }
     }
 
-    /// Returns the offset in the pack of the object `id`, or `None` if the pack does not have it.
+    /// Returns the offset in the pack of the object `id`, or `None` if the index does not have it.
     ///
     /// The offset is the one that the index says. It may be past the end of the pack.
     pub fn find(&self, id: ObjectId) -> Option<usize>
@@ -110,7 +110,7 @@ impl<B: AsSlice<u8> + Drop> Index<B> {
 
     /// Returns the position of the first id that is not less than `id`.
     ///
-    /// The pack need not have `id`. If every id is less, the answer is the number of objects. With
+    /// The index need not have `id`. If every id is less, the answer is the number of objects. With
     /// it, abbreviated object names are looked up.
     pub fn position_from(&self, id: ObjectId) -> usize
         ensures first { IsFirstFrom (ids_in self.now) id result }

@@ -61,8 +61,7 @@ pub(crate) fn firsts<S: Find, A: Allocator + Copy>(
 
 /// Returns the numbers of the commits that exactly one of the two sides reaches, each once.
 ///
-/// They are in no particular order. If a generation number rises there may be more of what either
-/// side reaches.
+/// They are in no particular order. If a generation number rises there may be more.
 pub(crate) fn eithers<S: Find, A: Allocator + Copy>(
     alloc: A,
     first: &[ObjectId],

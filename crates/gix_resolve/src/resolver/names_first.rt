@@ -171,7 +171,7 @@ fn tell_names<'a, S: Find, A: Allocator + Copy, I: Ids>(
 /// 1. 40 hex digits are that id alone, whatever refs exist.
 /// 2. The ref with exactly these bytes.
 /// 3. The one id that begins with the hex digits in the name. There must be at least 4. They are
-///    what follows the last `-g` of the name, or the whole name if it has none.
+///    what follows the last `-g` of the name that has something before it, or else the whole name.
 ///
 /// A branch `1059-login` is therefore a branch here, while [`resolve`](super::resolve) reads it as
 /// an id that begins with `1059`. `^{}`, `^{object}` and `^{commit}` of a commit that the source

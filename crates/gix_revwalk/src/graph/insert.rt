@@ -42,8 +42,8 @@ pub trait Insert: Find {
     ///
     /// # Errors
     ///
-    /// Fails if the history has a commit `id`, or if an allocation failed. The source is then
-    /// unchanged.
+    /// Fails if the history has a commit `id`. The error says what `says_why` states, for example
+    /// that an allocation failed. The source is then unchanged.
     fn insert(&mut self, id: ObjectId, commit: Self::Commit) -> Result<(), Self::Refused>
         ensures new { OnOk result (entry_at (Self.history self.old) id ≡ None) }
         ensures put { OnOk result ((q : ObjectId)

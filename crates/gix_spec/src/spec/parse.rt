@@ -27,7 +27,7 @@ pub use delegate::Delegate;
 pub use fault::Fault;
 pub use function::parse;
 
-/// Why [`parse`] stopped before the end of a revision expression.
+/// Why [`parse`] or [`parens`] failed.
 #[derive(Debug, Drop, Error)]
 pub enum Error<'a> {
     /// An allocation failed: the delegate reported it, or the parser itself ran out of memory.

@@ -182,7 +182,8 @@ fn call_prefix<'a, D: Delegate>(
     Err(refused_twice(first, second, whole, context))
 }
 
-// Makes the calls for a name: as a prefix if it can be one, then as a ref.
+// Makes the calls for a name: as a prefix if it can be one, and, if it cannot or is refused, as a
+// ref.
 #[inline(always)]
 fn call_name<'a, D: Delegate>(
     text: &'a [u8],

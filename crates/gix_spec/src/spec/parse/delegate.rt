@@ -104,7 +104,8 @@ pub trait Revision: Listener {
     fn find_ref(&mut self, name: &[u8]) -> Result<(), Exn>
         ensures { Self.step self.old (find_ref name.now) (answer_of result) self.new };
 
-    /// Looks up an abbreviated object name. If it is refused, `find_ref` of the whole name follows.
+    /// Looks up an abbreviated object name. If it is refused, `find_ref` of the whole name follows,
+    /// unless `^-` repeats the call.
     fn disambiguate_prefix(
         &mut self,
         prefix: Prefix,

@@ -110,7 +110,7 @@ fn has_token(text: &[u8]) -> bool
     text.iter().any(|byte| *byte != b'-')
 }
 
-// Returns the prefix call for hex digits before the only dash.
+// Returns the prefix call for 4 to 40 hex digits before the last dash.
 fn short_form(text: &[u8]) -> Option<Attempt<'_>>
     ensures { option_map attempt_found result ≡ short_form text.now (last_dash text.now) }
 {
