@@ -23,11 +23,13 @@ abbrev pub bytes_of : List Bytes → List (List ℕ)
 bytes_of files = map (λ (b : Bytes). b.bytes.now) files
 
 -- The history v is complete and has exactly the commits of h. Its graph holds none of them yet, its
--- noted parents are right, and abbreviated object names stand for the ids of those commits alone.
+-- noted parents are right, it has no ref names, and abbreviated object names stand for the ids of
+-- those commits alone.
 pub record IsMadeOver (h : Commits) (v : History) : Type 0 where
   pub commits : (id : ObjectId) → entry_at (commits_in v) id ≡ entry_at h id
   pub held : (id : ObjectId) → held_at v.graph id ≡ None
   pub noted : Remembers (commits_in v) v.named.items
+  pub names : v.table.names.entries ≡ []
   pub ids : (id : ObjectId) → is_one_of v.table.ids.keys id ≡ is_some (entry_at h id)
   pub extent : v.extent ≡ Complete
 

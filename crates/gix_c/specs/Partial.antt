@@ -46,7 +46,8 @@ pub record Wants (old new : History) : Type 0 where
   pub noted : new.extent ≡ Partial (Some wanted)
   pub lacking : ¬ Has (commits_in old) wanted
 
--- The code says why a question has no answer: an allocation failed, or it wants a commit.
+-- The code says why a question has no answer: an allocation failed, and what is wanted is as before;
+-- or it wants a commit.
 abbrev pub IsTold : ℤ → (old new : History) → Type 0
 IsTold code old new = ((code ≡ OUT_OF_MEMORY) × (new.extent ≡ old.extent)) ⊎ ((code ≡ WANTS) × Wants old new)
 

@@ -10,7 +10,7 @@ ghost use Rattle.gix_describe.specs.FormatText.{format_bytes};
 ghost use Rattle.gix_describe.specs.Lent.{description_by};
 ghost use Rattle.gix_describe.specs.Outcomes.{names_of};
 ghost use Rattle.gix_c.specs.Answers.{ByCode, id_of};
-ghost use Rattle.gix_c.specs.Descriptions.{AreNames, HasDescription, IsDescribedSo, IsManner, IsPrinted, IsText, first_of, names_given, named_by, printed_text};
+ghost use Rattle.gix_c.specs.Descriptions.{AreNames, HasDescription, IsDescribedSo, IsManner, IsPrinted, IsText, NeedsWalkSo, first_of, names_given, named_by, printed_text};
 ghost use Rattle.gix_c.specs.Partial.{Wants, is_partial, whole_in, whole_of};
 ghost use Rattle.gix_c.specs.Stocks.{HasNames, IsTable};
 
@@ -183,6 +183,8 @@ fn describe_by<K: Beyond>(
     ensures no_commit { result ≡ NO_COMMIT → ¬ Has (whole_in history.old K.beyond) (id_of commit.now) }
     ensures too_many { result ≡ TOO_MANY → AtLeast (2 ^ 32)
         (IsAncestor (followed how.now.first_parent (whole_in history.old K.beyond)) (id_of commit.now)) }
+    ensures walk { (given : Given) → AreNames names.now.entries given
+        → (result ≡ NO_COMMIT) ⊎ (result ≡ TOO_MANY) → NeedsWalkSo (id_of commit.now) given how.now }
     ensures no_how { result ≡ NO_HOW → how.now.size ≢ 32 }
     ensures wants { result ≡ WANTS → IsTrue (is_partial history.old.extent)
         × Wants history.old history.new }
@@ -233,6 +235,8 @@ pub extern "C" fn gix_history_describe(
     ensures no_commit { result ≡ NO_COMMIT → ¬ Has (whole_of history.old beyond) (id_of commit.now) }
     ensures too_many { result ≡ TOO_MANY → AtLeast (2 ^ 32)
         (IsAncestor (followed how.now.first_parent (whole_of history.old beyond)) (id_of commit.now)) }
+    ensures walk { (result ≡ NO_COMMIT) ⊎ (result ≡ TOO_MANY)
+        → NeedsWalkSo (id_of commit.now) (names_given names.now) how.now }
     ensures no_how { result ≡ NO_HOW → how.now.size ≢ 32 }
     ensures wants { result ≡ WANTS → IsTrue (is_partial history.old.value.extent)
         × Wants history.old.value history.new.value }
@@ -307,6 +311,8 @@ pub extern "C" fn gix_history_describe_by(
     ensures no_commit { result ≡ NO_COMMIT → ¬ Has (whole_of history.old beyond) (id_of commit.now) }
     ensures too_many { result ≡ TOO_MANY → AtLeast (2 ^ 32)
         (IsAncestor (followed how.now.first_parent (whole_of history.old beyond)) (id_of commit.now)) }
+    ensures walk { (given : Given) → HasNames names.old given
+        → (result ≡ NO_COMMIT) ⊎ (result ≡ TOO_MANY) → NeedsWalkSo (id_of commit.now) given how.now }
     ensures no_how { result ≡ NO_HOW → how.now.size ≢ 32 }
     ensures wants { result ≡ WANTS → IsTrue (is_partial history.old.value.extent)
         × Wants history.old.value history.new.value }

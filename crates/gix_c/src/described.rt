@@ -4,7 +4,7 @@ ghost use Rattle.std.specs.Prelude.{◌≡◌, ◌⊎◌, ◌++◌, IfErr, IfOk,
 ghost use Rattle.gix_describe.specs.Lent.{options_by, outcomes_by};
 ghost use Rattle.gix_describe.specs.Outcomes.{Describes};
 ghost use Rattle.gix_c.specs.Behind.{commits_in};
-ghost use Rattle.gix_c.specs.Descriptions.{IsUndescribed};
+ghost use Rattle.gix_c.specs.Descriptions.{IsUndescribed, TellsWalk};
 ghost use Rattle.gix_c.specs.Partial.{Wants, is_partial, whole_in};
 
 use crate::extent::Extent;
@@ -21,6 +21,7 @@ use std::alloc::Global;
 impl History {
     /// Describes a commit over the commits that were put in, as if there were no others. Returns a
     /// code if it cannot.
+    #[tactic(auto, unfolding(crate::specs::Descriptions::TellsWalk))]
     fn describe_complete<'a>(
         &self,
         alloc: Global,
@@ -33,6 +34,7 @@ impl History {
         ensures kept { IfOk result (λ r. IfSome r (λ n. n.id ≡ commit)) }
         ensures refused { IfErr result
             (IsUndescribed (commits_in self.now) commit manner.first_parent) }
+        ensures walk { IfErr result (TellsWalk commit (options_by names.now manner)) }
     {
         let mut marks = Graph::with_seed(alloc, self.graph.source(), self.graph.seed());
         match counted_by(alloc, &commit, &mut marks, names, manner) {
@@ -46,6 +48,7 @@ impl History {
 
     /// Describes a commit over the commits that were put in, whatever lies beyond them. Returns a
     /// code if it cannot.
+    #[tactic(auto, unfolding(crate::specs::Descriptions::TellsWalk))]
     fn describe_partial<'a, K: Beyond>(
         &mut self,
         alloc: Global,
@@ -59,6 +62,7 @@ impl History {
         ensures refused { IfErr result (λ code. ((code ≡ WANTS) × Wants self.old self.new)
             ⊎ (IsUndescribed (commits_in self.old ++ K.beyond) commit manner.first_parent code
             × (self.new ≡ self.old))) }
+        ensures walk { IfErr result (TellsWalk commit (options_by names.now manner)) }
         ensures same { OnOk result (self.new ≡ self.old) }
         ensures graph { self.new.graph ≡ self.old.graph }
         ensures named { self.new.named ≡ self.old.named }
@@ -95,6 +99,7 @@ impl History {
             × IsTrue (is_partial self.old.extent) × Wants self.old self.new)
             ⊎ (IsUndescribed (whole_in self.old K.beyond) commit manner.first_parent code
             × (self.new ≡ self.old))) }
+        ensures walk { IfErr result (TellsWalk commit (options_by names.now manner)) }
         ensures same { OnOk result (self.new ≡ self.old) }
         ensures graph { self.new.graph ≡ self.old.graph }
         ensures named { self.new.named ≡ self.old.named }

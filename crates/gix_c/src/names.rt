@@ -2,7 +2,7 @@
 
 ghost use Rattle.std.specs.Prelude.{◌≡◌, ⊤, IsTrue, None, Some, is_some};
 ghost use Rattle.gix_c.specs.Answers.{ByCode, id_of};
-ghost use Rattle.gix_c.specs.Names.{id_named, without_name};
+ghost use Rattle.gix_c.specs.Names.{IsPut, id_named, without_name};
 
 use crate::handle::Handle;
 use crate::status::{NONE, OK, OUT_OF_MEMORY};
@@ -18,6 +18,8 @@ pub extern "C" fn gix_history_name(
     id: &[u8; 20],
 ) -> i32
     ensures put { ByCode result (id_named name.now history.new.value ≡ Some (id_of id.now)) ⊥ ⊤ }
+    ensures others { ByCode result (IsPut name.now (id_of id.now)
+        history.old.value.table.names.entries history.new.value.table.names.entries) ⊥ ⊤ }
     ensures refused { ByCode result ⊤ ⊥ ((result ≡ OUT_OF_MEMORY)
         × (history.new.value.table.names.entries ≡ history.old.value.table.names.entries)) }
     ensures ids { history.new.value.table.ids ≡ history.old.value.table.ids }

@@ -8,3 +8,8 @@ returns-clause-described g c =
     let fits : FitsSigned w32 c.describe_by.result = search rules in
     rw (to_z-of_z w32 c.describe_by.result fits)
     (rw c.get_mut-history.ensures.value at (c.describe_by.ensures.described (names_given c.args.names.now) c.in-Ok.ensures))
+
+pub returns-clause-walk : goal.returns-clause-walk
+returns-clause-walk g c = λ codes.
+    let fits : FitsSigned w32 c.describe_by.result = search rules in
+    c.describe_by.ensures.walk (names_given c.args.names.now) c.in-Ok.ensures (rw (to_z-of_z w32 c.describe_by.result fits) at codes)

@@ -7,3 +7,8 @@ returns-clause-described g c = λ given are.
     let fits : FitsSigned w32 c.describe_by.result = search rules in
     rw (to_z-of_z w32 c.describe_by.result fits)
     (rw c.get_mut-history.ensures.value at (c.describe_by.ensures.described given (rw c.get_mut-names.ensures.value are)))
+
+pub returns-clause-walk : goal.returns-clause-walk
+returns-clause-walk g c = λ given are codes.
+    let fits : FitsSigned w32 c.describe_by.result = search rules in
+    c.describe_by.ensures.walk given (rw c.get_mut-names.ensures.value are) (rw (to_z-of_z w32 c.describe_by.result fits) at codes)

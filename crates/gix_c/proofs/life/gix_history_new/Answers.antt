@@ -13,6 +13,7 @@ returns c =
       put.1,
       subst (λ (v : History). (id : ObjectId) → entry_at (commits_in v) id ≡ None) (sym put.2) c.new-history.ensures.empty,
       subst (λ (v : History). Remembers (commits_in v) v.named.items) (sym put.2) c.new-history.ensures.noted,
+      ap (λ (v : History). v.table.names.entries) put.2 ∙ c.new-history.ensures.names,
       ap (λ (v : History). v.table.ids.keys) put.2 ∙ c.new-history.ensures.ids,
       ap (λ (v : History). v.extent) put.2 ∙ c.new-history.ensures.extent,
     )

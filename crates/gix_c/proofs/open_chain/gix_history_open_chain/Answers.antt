@@ -24,6 +24,7 @@ returns-clause-opened c =
       commits = commits;
       held = is.held;
       noted = noted-closed _ v.named.items closed is.named;
+      names = is.names;
       ids = λ q. is.ids q ∙ ap (λ xs. is_one_of xs q) of.ids ∙ all-ids h q;
       extent = is.extent;
     } in

@@ -16,6 +16,7 @@ returns c =
       held = made.held;
       noted = subst (λ (h : History). Remembers h c.with.result.named.items) (sym (made.commits ∙ c.with_seed-commits.ensures.commits))
           (noted-closed (history_in c.args.file) c.with.result.named.items levelled.closed made.named);
+      names = made.names;
       ids = λ id. ap (λ (s : BTreeSet ObjectId). is_one_of s.keys id) made.ids ∙ c.in_ok-ids.ensures id;
       levelled = levelled;
       extent = made.extent;
