@@ -68,10 +68,7 @@ module _ (s : List ℕ) (l : Layout) where
 
   module _ (laid : l ≡ layout_of s) (sound : IsSound s l) (above : (i : ℕ) → i < l.table.count → is_above s l i ≡ true) where
     generation-at : (id : ObjectId) (k : ℕ) → k < l.table.count → entry_at (history_in s) id ≡ Some (entry_of_row s l k) → generation_of (history_in s) id ≡ level_at s l k
-    generation-at id k h found =
-        let own = (both (nat_lt 0 (level_at s l k)) (list_all (is_lower s l (level_at s l k)) (parents_at s l k)) (above k h)).0 in
-        let e : nat_eq (level_at s l k) 0 ≡ false = grind (arith, nat_tests) in
-        ap generation_in found ∙ rw e refl
+    generation-at id k h found = ap generation_in found
 
     -- a parent is the commit at a position of a lesser level
     record HasPlace (b : ObjectId) (k : ℕ) : Type 0 where

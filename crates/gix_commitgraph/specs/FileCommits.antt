@@ -1,5 +1,5 @@
 -- The commits of a commit-graph file (gitformat-commit-graph, "Commit Data" and "Extra Edge List").
-use Rattle.std.specs.Prelude.{ℕ, ℤ, zero, suc, ◌+◌, ◌-◌, ◌*◌, ◌/◌, ◌%◌, ◌^◌, pos, List, [], ◌∷◌, map, cond, nat_eq, nat_lt, Option, Some, None}
+use Rattle.std.specs.Prelude.{ℕ, ℤ, zero, suc, ◌+◌, ◌-◌, ◌*◌, ◌/◌, ◌%◌, ◌^◌, pos, List, [], ◌∷◌, map, cond, nat_eq, nat_lt, Some}
 use Rattle.gix_revwalk.specs.History.{History, Entry}
 use Rattle.gix_ids.specs.TableBytes.{word}
 use Rattle.gix_ids.specs.TableForm.{id_of}
@@ -7,12 +7,9 @@ use Rattle.gix_ids.specs.TableIds.{rows_in}
 use Rattle.gix_commitgraph.specs.FileChunks.{layout_of}
 use Rattle.gix_commitgraph.specs.declared.commit_graph.layout.Layout.{Layout}
 
--- The generation number for the level n. The level 0 means that git did not compute it: then there
--- is none.
-abbrev pub generation_for : ℕ → Option ℕ
-generation_for n = cond (nat_eq n 0) None (Some n)
-
--- The topological level: the upper 30 of the last 64 bits of a row, whose upper 32 are high.
+-- The topological level: the upper 30 of the last 64 bits of a row, whose upper 32 are high. The
+-- level 0 means that git did not compute it, and is less than each level that git computed (git's
+-- technical/commit-graph, "generation number": GENERATION_NUMBER_ZERO).
 abbrev pub level_of : ℕ → ℕ
 level_of high = high / 4
 
@@ -50,12 +47,13 @@ module _ (s : List ℕ) (l : Layout) where
   abbrev pub level_at : ℕ → ℕ
   level_at i = level_of (row_word i 28)
 
-  -- The commit at position i. Its time is the lower 34 of the last 64 bits of its row.
+  -- The commit at position i. Its time is the lower 34 of the last 64 bits of its row, and its
+  -- generation number is its topological level.
   abbrev pub entry_of_row : ℕ → Entry
   entry_of_row i = record {
     parents = map (id_of s l.table) (parents_at i);
     time = date_of (row_word i 28) (row_word i 32);
-    generation = generation_for (level_at i);
+    generation = Some (level_at i);
   }
 
 -- The history of the file s: its commits in the order of their positions.

@@ -4,22 +4,17 @@
 //! The upper 32 of these bits are a number `high`, and the lower 32 a number `low`.
 
 ghost use Rattle.std.specs.Prelude.{◌≡◌, ◌^◌, ◌<◌};
-ghost use Rattle.gix_commitgraph.specs.FileCommits.{date_of, generation_for, level_of};
+ghost use Rattle.gix_commitgraph.specs.FileCommits.{date_of, level_of};
 
-/// Returns the topological level; 0 if git did not compute it.
+/// Returns the topological level, the generation number of the commit.
+///
+/// It is 0 if git did not compute it. Git 2.18 wrote such files. Every level that git computed is
+/// greater (git's technical/commit-graph, "generation number").
 pub fn level(high: u32) -> u32
     ensures value { result ≡ level_of high }
     ensures bound { result < 2 ^ 30 }
 {
     high / 4
-}
-
-/// Returns the generation number: the topological level, unless it is 0.
-pub fn generation(high: u32) -> Option<u32>
-    ensures { result ≡ generation_for (level_of high) }
-{
-    let level = level(high);
-    if level == 0 { None } else { Some(level) }
 }
 
 /// Returns the commit date, in seconds since the Unix epoch. It has 34 bits.

@@ -1,12 +1,12 @@
 -- A row that is read alone says what the file says.
-use Rattle.std.proofs.Common.{◌≡◌, ℕ, zero, suc, ◌+◌, ◌-◌, ◌*◌, ◌^◌, ◌<◌, ◌≤◌, Bool, true, false, List, [], ◌∷◌, length, map, take, drop, cond, nat_eq, nat_lt, slice_index, refl, sym, ap, ◌∙◌, arith}
+use Rattle.std.proofs.Common.{◌≡◌, ℕ, zero, suc, ◌+◌, ◌-◌, ◌*◌, ◌^◌, ◌<◌, ◌≤◌, Bool, true, false, List, [], ◌∷◌, length, map, take, drop, Some, cond, nat_eq, nat_lt, slice_index, refl, sym, ap, ◌∙◌, arith}
 use Rattle.std.proofs.lemmas.Bool.{ltb-false}
 use Rattle.std.proofs.lemmas.List.{get_or-take, get_or-drop}
 use Rattle.std.specs.Int.{w32, from_be_bytes}
 use Rattle.gix_base.specs.declared.hash.ObjectId.{ObjectId}
 use Rattle.gix_ids.specs.TableBytes.{word}
 use Rattle.gix_ids.specs.TableForm.{id_of}
-use Rattle.gix_commitgraph.specs.FileCommits.{date_of, edge_word, edge_list, generation_for, level_of, row_word}
+use Rattle.gix_commitgraph.specs.FileCommits.{date_of, edge_word, edge_list, level_of, row_word}
 use Rattle.gix_commitgraph.specs.declared.commit_graph.layout.Layout.{Layout}
 use Rattle.gix_graph_rows.specs.RowLaws.{RowsSayTheSame}
 
@@ -57,6 +57,6 @@ row-says s l i sound here =
     listed s l start (l.edge_count - start) (nat_lt (edge_word s l start) (2 ^ 31)) refl (omega arith) in
     record {
       date = λ j. date_of (sym high j) (sym low j);
-      generation = ap (λ n. generation_for (level_of n)) (sym high);
+      generation = ap (λ n. Some (level_of n)) (sym high);
       parents = rw (first, second) (shape (id_of s l.table) a b es (nat_eq a 0x7000_0000) (nat_eq b 0x7000_0000) (nat_lt b (2 ^ 31)) some);
     }

@@ -1,17 +1,13 @@
 -- One row of a commit-graph file (gitformat-commit-graph, "Commit Data").
-use Rattle.std.specs.Prelude.{◌≡◌, ℕ, ℤ, ◌^◌, ◌≤◌, List, length, cond, nat_eq, nat_lt, Option}
+use Rattle.std.specs.Prelude.{◌≡◌, ℕ, ℤ, ◌^◌, ◌≤◌, List, length, cond, nat_eq, nat_lt, Some}
 use Rattle.gix_revwalk.specs.History.{Entry}
 use Rattle.gix_ids.specs.TableBytes.{word}
-use Rattle.gix_commitgraph.specs.FileCommits.{date_of, generation_for, level_of}
+use Rattle.gix_commitgraph.specs.FileCommits.{date_of, level_of}
 
 module _ (row : List ℕ) where
-  -- The topological level: the upper 30 of the last 64 bits of the row.
+  -- The topological level: the upper 30 of the last 64 bits of the row. It is the generation number.
   abbrev pub level_in : ℕ
   level_in = level_of (word row 28)
-
-  -- The generation number. The level 0 stands for none.
-  abbrev pub generation_in : Option ℕ
-  generation_in = generation_for level_in
 
   -- The date: the lower 34 of the last 64 bits of the row.
   abbrev pub date_in : ℤ
@@ -28,7 +24,7 @@ module _ (row : List ℕ) where
   -- The row says the date, the generation number and the number of parents of the commit e.
   pub record SaysOf (e : Entry) : Type 0 where
     pub date : e.time ≡ date_in
-    pub generation : e.generation ≡ generation_in
+    pub generation : e.generation ≡ Some level_in
     pub parents : HasCount (length e.parents)
 
 -- The commit e is what the 36 bytes of a row say.

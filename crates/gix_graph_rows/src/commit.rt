@@ -14,7 +14,8 @@ use gix_files::Opened;
 use gix_revwalk::graph::SourceCommit;
 use std::alloc::Allocator;
 
-/// Reads the id of the commit at a place, unless its level is not less than the child's.
+/// Reads the id of the commit at a place, unless its level is not less than the child's. In a file
+/// without levels all are 0.
 fn parent_id<O: Opened, A: Allocator + Copy>(
     alloc: A,
     layer: &mut Layer<O, A>,
@@ -22,7 +23,7 @@ fn parent_id<O: Opened, A: Allocator + Copy>(
     child: Child,
 ) -> Result<ObjectId, Error> {
     let level = layer.level(alloc, row)?;
-    if child.level != 0 && child.level <= level {
+    if child.level.max(1) <= level {
         return Err(child.damaged(Damage::Level));
     }
     layer.id(alloc, row)
@@ -125,6 +126,6 @@ pub(crate) fn commit_at<O: Opened, A: Allocator + Copy>(
     Ok(SourceCommit {
         parents,
         time: row.date(),
-        generation: row.generation(),
+        generation: Some(row.level()),
     })
 }

@@ -2,7 +2,7 @@
 
 ghost use Rattle.std.specs.Prelude.{◌≡◌, ◌+◌, ◌<◌, ◌^◌};
 ghost use Rattle.gix_ids.specs.TableBytes.{word};
-ghost use Rattle.gix_graph_rows.specs.RowForm.{level_in, generation_in, date_in};
+ghost use Rattle.gix_graph_rows.specs.RowForm.{level_in, date_in};
 
 use gix_commitgraph::row;
 use gix_ids::word_at;
@@ -45,19 +45,12 @@ impl Row {
         number(self, 24)
     }
 
-    /// Returns the topological level; 0 if git did not compute it.
+    /// Returns the topological level, the generation number; 0 if git did not compute it.
     pub(crate) fn level(&self) -> u32
         ensures value { result ≡ level_in self.now.bytes }
         ensures bound { result < 2 ^ 30 }
     {
         row::level(number(self, 28))
-    }
-
-    /// Returns the generation number: the topological level, unless it is 0.
-    pub(crate) fn generation(&self) -> Option<u32>
-        ensures { result ≡ generation_in self.now.bytes }
-    {
-        row::generation(number(self, 28))
     }
 
     /// Returns the commit date, in seconds since the Unix epoch. It has 34 bits.

@@ -129,13 +129,13 @@ impl<F: Folders + Drop, A: Allocator + Copy> GraphRows<F, A> {
     ///
     /// The row of the commit is read, and what it names: the ids and levels of its parents. The
     /// answer has the parents in order, the date, and as generation number the topological level,
-    /// if git has computed it. See gitformat-commit-graph, "Commit Data".
+    /// which is 0 if git did not compute it. See gitformat-commit-graph, "Commit Data".
     ///
     /// # Errors
     ///
     /// - `Damaged` if a file ends too early, if the row has a parent that is no commit of this file
     ///   or of one before it, if a list of parents does not end, or if the level of a parent is not
-    ///   less than the commit's.
+    ///   less than the commit's, unless both are 0.
     /// - `Failed` if a file cannot be read.
     /// - `OutOfMemory` if an allocation failed.
     ///

@@ -110,7 +110,7 @@ pub(crate) fn commit_in<A: Allocator>(
     Ok(SourceCommit {
         parents: parents(bytes, l, below, i, alloc)?,
         time: row::date(high, low),
-        generation: row::generation(high),
+        generation: Some(row::level(high)),
     })
 }
 
