@@ -1,6 +1,6 @@
 //! All that some tips reach, each commit the content of its id, with levels.
 
-ghost use Rattle.std.specs.Prelude.{◌≡◌, IfOk, IfSome, OnOk, List, None, Some, length};
+ghost use Rattle.std.specs.Prelude.{◌≡◌, ◌++◌, IfOk, IfSome, OnOk, List, None, Some, length};
 ghost use Rattle.std.specs.List.{All};
 ghost use Rattle.gix_base.specs.declared.hash.ObjectId.{ObjectId};
 ghost use Rattle.gix_revwalk.specs.History.{Entry, Has, History, entry_at};
@@ -9,14 +9,18 @@ ghost use Rattle.gix_object.specs.Authentic.{IsClosed};
 ghost use Rattle.gix_history.specs.Origins.{IsCommitOf};
 ghost use Rattle.gix_history.specs.Levels.{IsLevelOf, Keeps};
 ghost use Rattle.gix_history.specs.Waiting.{IsPending, IsSame};
+ghost use Rattle.gix_history.specs.Tries.{IsTried};
 
+use crate::beyond::Beyond;
 use crate::error::ReadError;
+use crate::known::Tried;
+use crate::partial::Partial;
 use crate::question::{Question, Refused};
 use crate::reader::{Origin, Read, Reader};
 use gix_base::hash::ObjectId;
 use gix_revwalk::Seed;
 use gix_revwalk::graph::{Insert, MemorySource, SourceCommit};
-use std::alloc::{Allocator, Global};
+use std::alloc::{AllocError, Allocator, Global};
 use std::collections::HashMap;
 use std::marker::Model;
 
@@ -279,15 +283,51 @@ impl<A: Allocator + Copy> Loaded<A> {
         Ok(())
     }
 
-    /// Answers a question about the loaded commits.
+    /// Tries to answer a question over the loaded commits.
+    ///
+    /// An answer is right for every history that has these commits, whatever `K` has beyond them. A
+    /// commit that is not loaded is wanted, and never counts as missing.
     ///
     /// # Errors
     ///
-    /// - [`Refused::OutOfMemory`]: an allocation failed.
-    pub fn ask<Q: Question>(&self, question: &Q) -> Result<Q::Answer, Refused>
-        ensures { IfOk result (Q.means question.now self.now) }
+    /// [`AllocError`]: an allocation failed.
+    pub fn try_ask<K: Beyond, Q: Question>(
+        &self,
+        question: &Q,
+    ) -> Result<Tried<Q::Answer>, AllocError>
+        ensures { IfOk result (IsTried (Q.means question.now (self.now ++ K.beyond))) }
     {
-        let mut source = &self.commits;
-        question.ask(self.seed, &mut source)
+        let mut source = Partial::<&MemorySource<A>, K>::new(&self.commits);
+        match question.ask(self.seed, &mut source) {
+            Ok(answer) => Ok(Tried::Answered(answer)),
+            Err(Refused::OutOfMemory) => Err(AllocError),
+            Err(Refused::Source) => match source.wanted {
+                Some(id) => Ok(Tried::Wants(id)),
+                None => Err(AllocError),
+            },
+        }
+    }
+
+    /// Answers a question, and loads what it names, and then each commit that it wants.
+    ///
+    /// # Errors
+    ///
+    /// Any [`ReadError`]. What was loaded stays, and the call can be repeated.
+    pub fn ask<K: Beyond, Q: Question, R: Reader>(
+        &mut self,
+        alloc: A,
+        question: &Q,
+        reader: &mut R,
+    ) -> Result<Q::Answer, ReadError>
+        ensures kept { Keeps self.old self.new }
+        ensures means { IfOk result (Q.means question.now (self.new ++ K.beyond)) }
+    {
+        for _ in 0..u64::MAX {
+            match self.try_ask::<K, Q>(question)? {
+                Tried::Answered(answer) => return Ok(answer),
+                Tried::Wants(id) => self.load(alloc, &[id], reader)?,
+            }
+        }
+        Err(ReadError::OutOfMemory)
     }
 }

@@ -7,7 +7,7 @@ use crate::commits::Commits;
 use crate::error::Refusal;
 use gix_discover::{Abbrev, Layout, Settings};
 use gix_files::Folders;
-use gix_history::{Beyond, History, Loaded, Origin, Question, Refused};
+use gix_history::{Beyond, History, Loaded, Origin, Question};
 use gix_ref::{Listing, References, Skipped, Why};
 use gix_revision::Seed;
 use gix_revision::date::Time;
@@ -227,11 +227,11 @@ impl<F: Folders + Drop, A: Allocator + Copy> Repository<F, A> {
         let Some(loaded) = self.loaded.as_mut() else {
             return Err(Refusal::NotSupported);
         };
+        // What a question does not name is loaded when it wants it.
         loaded.load(self.alloc, &tips, &mut self.history.reader)?;
-        match loaded.ask(question) {
+        match loaded.ask::<K, Q, _>(self.alloc, question, &mut self.history.reader) {
             Ok(answer) => Ok(answer),
-            Err(Refused::OutOfMemory) => Err(Refusal::OutOfMemory),
-            Err(Refused::Source) => Err(Refusal::NotSupported),
+            Err(error) => Err(Refusal::from(error)),
         }
     }
 
