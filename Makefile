@@ -2,11 +2,16 @@
 PREFIX = /usr/local
 
 all: ## prove and build the programs and the C library
-	bin/revtool </dev/null
-	bin/git-proved --version
+	tools/program revtool git-proved >/dev/null
 	tools/library >/dev/null
 
-try: ## answer an example at once, without any proof
+revtool: ## prove and build revtool alone
+	tools/program revtool >/dev/null
+
+git-proved: ## prove and build git proved alone
+	tools/program git-proved >/dev/null
+
+try: ## answer two examples at once, without any proof
 	tools/try
 
 check: ## run the full check: all proofs, mutants and tests
@@ -28,6 +33,6 @@ clean: ## remove what was proved and built, and the packages
 	rm -rf crates/*/out dist
 
 help: ## print the targets
-	@sed -nE 's/^([a-z]+): ## (.*)/make \1\t\2/p' Makefile | expand -t 16
+	@sed -nE 's/^([a-z-]+): ## (.*)/make \1\t\2/p' Makefile | expand -t 17
 
-.PHONY: all try check install package uninstall bench clean help
+.PHONY: all revtool git-proved try check install package uninstall bench clean help

@@ -51,3 +51,4 @@ _git_proved() {
         *) __git_complete_refs ;;
     esac
 }
+_git_proved_or_git() { _git_proved; }

@@ -69,9 +69,9 @@ def programs(prefix: str) -> Package:
         elif it.path.startswith(("bin/", "libexec/", "share/bash-completion/")):
             files.append(it.at(f"usr/{it.path}"))
     files += pages("usr/share/doc/gix-revision-proved", OF_PROGRAMS)
-    text = " The package has the programs: git-proved, which git runs as `git proved`,\n revtool and from-git.\n"
+    text = " The package has the programs: git-proved, which git runs as `git proved`,\n git-proved-or-git, revtool and from-git.\n"
     depends = depends_of(*(f"{prefix}/{PROGRAMS}/{it}" for it in ("git-proved", "revtool")))
-    # git runs git-proved as `git proved`, and from-git runs git.
+    # git runs git-proved as `git proved`; git-proved-or-git and from-git run git.
     return Package("gix-revision-proved", "vcs", depends, "merge bases, descriptions and revisions of git, proved", text, files, recommends="git")
 
 

@@ -3,10 +3,11 @@
 from __future__ import annotations
 
 import os
+import select
 import shutil
 import subprocess
-import tempfile
 import threading
+import time
 import weakref
 from collections.abc import Iterable, Iterator
 from types import TracebackType
@@ -17,6 +18,9 @@ from ._library import PATH, Text
 
 # In the class Repository, `list` could be taken for a method.
 TextList = list[str]
+
+# How many bytes are read at a time, and how many the first line of an answer has at most.
+_PART, _HEAD = 1 << 16, 64
 
 
 class Reference(NamedTuple):
@@ -80,15 +84,129 @@ def _lines(output: bytes) -> TextList:
     return [os.fsdecode(it) for it in output.split(b"\n")[:-1]]
 
 
-def _stop(process: subprocess.Popen[bytes]) -> None:
-    """Ends a batch, by the end of its input."""
-    for stream in (process.stdin, process.stdout):
+def _read(stream: int, into: bytearray) -> bool:
+    """Adds the bytes that can be read now. Returns False at the end of the stream."""
+    try:
+        while part := os.read(stream, _PART):
+            into += part
+    except BlockingIOError:
+        return True
+    return False
+
+
+def _write(stream: int, text: memoryview) -> memoryview:
+    """Writes the bytes that can be written now, and returns the others."""
+    try:
+        return text[os.write(stream, text) :]
+    except BlockingIOError:
+        return text
+    except BrokenPipeError:
+        # The program has ended. The end of its output says so, too.
+        return text[:0]
+
+
+def _answer_in(output: bytearray) -> tuple[int, bytes] | None:
+    """Returns the status and the output of an answer, or None if a part of it is missing."""
+    end = output.find(b"\n", 0, _HEAD)
+    words = bytes(output[: max(end, 0)]).split()
+    if end < 0 and len(output) < _HEAD:
+        return None
+    if len(words) != 2 or not all(it.isdigit() for it in words):
+        raise NotRead("git-proved printed what is no answer")
+    size = end + 1 + int(words[1]) + 1
+    if len(output) > size:
+        raise NotRead("git-proved printed more than an answer")
+    return (int(words[0]), bytes(output[end + 1 : -1])) if len(output) == size else None
+
+
+def _message(errors: bytearray) -> str:
+    return os.fsdecode(bytes(errors)).rstrip("\n")
+
+
+def _left(until: float | None) -> float | None:
+    """Returns the seconds that are left until a time."""
+    return None if until is None else max(0.0, until - time.monotonic())
+
+
+def _end(process: subprocess.Popen[bytes], owner: int) -> None:
+    """Ends a program that this process has started. A fork of the process only closes the pipes.
+
+    The program is killed, which does no harm, as it writes no file. It would wait for the end of
+    its input as long as a fork keeps the pipe open.
+    """
+    for stream in (process.stdin, process.stdout, process.stderr):
         if stream is not None:
-            try:
-                stream.close()
-            except OSError:
-                pass
-    process.wait()
+            stream.close()
+    if os.getpid() == owner:
+        process.kill()
+        process.wait()
+    else:
+        # So that Popen does not look for a child that the fork does not have.
+        process.returncode = 0
+
+
+class _Program:
+    """A running `git-proved batch`. It ends by `end`, or when nothing refers to it any more.
+
+    After an error it must not be asked again, since the answer to the last question may still come.
+    """
+
+    def __init__(self, words: list[str | bytes], folder: str | None, environment: dict[str, str]) -> None:
+        pipe = subprocess.PIPE
+        # Nothing is buffered here, so a fork has nothing to write a second time.
+        self._process = subprocess.Popen(words, bufsize=0, stdin=pipe, stdout=pipe, stderr=pipe, cwd=folder, env=environment)
+        self.end = weakref.finalize(self, _end, self._process, os.getpid())
+        streams = (self._process.stdin, self._process.stdout, self._process.stderr)
+        self._input, self._output, self._errors = (it.fileno() for it in streams if it is not None)
+        for stream in (self._input, self._output, self._errors):
+            os.set_blocking(stream, False)
+
+    def ask(self, line: bytes, seconds: float | None) -> _Answer:
+        """Writes a question, and returns its answer. Raises TimeoutError after so many seconds.
+
+        Standard error is read meanwhile, so that the program need not wait for that.
+        """
+        until = None if seconds is None else time.monotonic() + seconds
+        question, output, errors = memoryview(line), bytearray(), bytearray()
+        streams = select.poll()
+        streams.register(self._input, select.POLLOUT)
+        streams.register(self._output, select.POLLIN)
+        streams.register(self._errors, select.POLLIN)
+        while (answer := _answer_in(output)) is None:
+            left = _left(until)
+            ready = streams.poll(None if left is None else 1000 * left)
+            if not ready:
+                raise TimeoutError(f"git-proved gave no answer in {seconds} seconds")
+            for stream, _ in ready:
+                if stream == self._input:
+                    question = _write(stream, question)
+                    if not question:
+                        streams.unregister(stream)
+                elif not _read(stream, output if stream == self._output else errors):
+                    streams.unregister(stream)
+                    if stream == self._output and _answer_in(output) is None:
+                        raise self._ended(errors, _left(until))
+        # The program writes messages before the answer. So all of them are there.
+        _read(self._errors, errors)
+        return _Answer(*answer, _message(errors))
+
+    def _ended(self, errors: bytearray, seconds: float | None) -> Exception:
+        """Returns the error for a program whose output has ended before the answer."""
+        _read(self._errors, errors)
+        try:
+            status = self._process.wait(seconds)
+        except subprocess.TimeoutExpired:
+            return TimeoutError("git-proved closed its output, and did not end in time")
+        refusal = NotThere if status == 128 else NotRead
+        return refusal(_message(errors) or f"git-proved ended with status {status}")
+
+
+def _folder() -> str | None:
+    """Returns the current folder, or None if it is gone."""
+    try:
+        return os.getcwd()
+    except FileNotFoundError:
+        return None
 
 
 class Repository:
@@ -108,22 +226,43 @@ class Repository:
     Any thread may use a repository: its calls wait for each other. `close`, or the end of a `with`
     block, ends the program.
 
+    If a question ends without an answer, its program is ended as well. This is so after a signal
+    handler has raised an exception, as at Ctrl-C, and after a timeout. The next question starts
+    another program in the same folder and environment. So no answer belongs to an earlier question.
+
+    After a fork, only the process that has made the repository can use it. Elsewhere `close` leaves
+    the program alone.
+
+    `timeout` is the number of seconds that a question may take, from when the program is asked. It
+    is an attribute, too, which can be changed between questions.
+
     Every call can raise these errors:
 
     - NotThere: git would end with status 128, for example because a revision names nothing.
     - NotRead: the program does not read the question, or fails.
+    - TimeoutError: there was no answer within `timeout` seconds.
     - ValueError: an argument cannot be a revision, or the repository is closed.
+    - RuntimeError: a signal handler asks during a question of the same thread, or this process is a
+      fork.
+    - OSError: another program had to be started, and did not start.
 
     The constructor raises OSError if the program is not found, or does not start.
     """
 
-    def __init__(self, path: Text | os.PathLike[str] = ".", *, program: str | None = None, authentic: bool = False) -> None:
-        words = [program or _program(), "-C", os.fspath(path)] + ["--authentic"] * authentic + ["batch"]
-        self._lock = threading.Lock()
-        self._errors = tempfile.TemporaryFile()
-        pipe = subprocess.PIPE
-        self._process = subprocess.Popen(words, stdin=pipe, stdout=pipe, stderr=self._errors)
-        self._end = weakref.finalize(self, _stop, self._process)
+    def __init__(
+        self,
+        path: Text | os.PathLike[str] = ".",
+        *,
+        program: str | None = None,
+        authentic: bool = False,
+        timeout: float | None = None,
+    ) -> None:
+        self.timeout = timeout
+        self._words = [program or _program(), "-C", os.fspath(path)] + ["--authentic"] * authentic + ["batch"]
+        # What is relative keeps its meaning if another program is started later.
+        self._folder, self._environment = _folder(), dict(os.environ)
+        self._lock, self._is_busy, self._is_closed, self._owner = threading.RLock(), False, False, os.getpid()
+        self._program: _Program | None = self._start()
 
     def __enter__(self) -> Repository:
         return self
@@ -136,47 +275,54 @@ class Repository:
 
     def close(self) -> None:
         """Ends the program. Later calls raise ValueError."""
-        with self._lock:
+        if os.getpid() != self._owner:
+            # Another thread may have held the lock at the fork. Nobody would release it here.
             self._end()
-            self._errors.close()
+            return
+        with self._lock:
+            if self._is_busy:
+                raise RuntimeError("the repository is in use by this thread")
+            self._is_closed = True
+            self._end()
 
-    def _message(self) -> str:
-        """Returns what the program has said on standard error since the last answer."""
-        self._errors.seek(0)
-        said = self._errors.read()
-        self._errors.seek(0)
-        self._errors.truncate()
-        return os.fsdecode(said).rstrip("\n")
+    def _start(self) -> _Program:
+        return _Program(self._words, self._folder, self._environment)
 
-    def _read_answer(self) -> _Answer:
-        output = self._process.stdout
-        assert output is not None
-        head = output.readline().split()
-        if len(head) != 2:
-            status = self._process.wait()
-            raise (NotThere if status == 128 else NotRead)(self._message() or f"git-proved ended with status {status}")
-        status, size = int(head[0]), int(head[1])
-        answer = output.read(size + 1)[:size]
-        return _Answer(status, answer, self._message())
+    def _end(self) -> None:
+        program, self._program = self._program, None
+        if program is not None:
+            program.end()
 
     def _ask(self, *words: Text) -> _Answer:
         """Asks a question, and returns the answer if its status is 0 or 1."""
         line = b" ".join(map(_quoted, words)) + b"\n"
+        if os.getpid() != self._owner:
+            raise RuntimeError("a repository cannot be used after a fork: make another one")
         with self._lock:
-            if not self._end.alive:
-                raise ValueError("the repository is closed")
-            assert self._process.stdin is not None
+            if self._is_busy:
+                raise RuntimeError("the repository is in use by this thread")
             try:
-                self._process.stdin.write(line)
-                self._process.stdin.flush()
-            except BrokenPipeError:
-                # The program has ended. The answer says why.
-                pass
-            answer = self._read_answer()
+                self._is_busy = True
+                answer = self._exchange(line)
+            finally:
+                self._is_busy = False
         if answer.status in (0, 1):
             return answer
         refusal = NotThere if answer.status == 128 else NotRead
         raise refusal(answer.message or refusal.__doc__)
+
+    def _exchange(self, line: bytes) -> _Answer:
+        """Asks the program. It is put back only after an answer, however the question ends."""
+        if self._is_closed:
+            raise ValueError("the repository is closed")
+        program, self._program = self._program or self._start(), None
+        try:
+            answer = program.ask(line, self.timeout)
+        except BaseException:
+            program.end()
+            raise
+        self._program = program
+        return answer
 
     def rev_parse(self, revision: Text) -> str:
         """Returns the id of the object that a revision names, like `git rev-parse --verify`."""

@@ -9,10 +9,10 @@ import gix_revision_proved
 
 from .. import _history
 from .test_calls import Calls
-from .test_repository import Programs, Repositories
+from .test_repository import BadEnds, Programs, Repositories
 from .test_safety import Safety
 
-__all__ = ["Calls", "Programs", "Repositories", "Safety"]
+__all__ = ["BadEnds", "Calls", "Programs", "Repositories", "Safety"]
 
 
 def load_tests(loader: unittest.TestLoader, tests: unittest.TestSuite, pattern: str | None) -> unittest.TestSuite:

@@ -1,6 +1,7 @@
-"""Each question once about a repository that git makes.
+"""Each question once about a repository that git makes, and how a question ends badly.
 
-Skipped without git, and if no git-proved is found. One that is found has to run.
+The questions are skipped without git, and if no git-proved is found. One that is found has to run.
+The bad ends are those of a stand-in for git-proved, and are never skipped.
 """
 
 from __future__ import annotations
@@ -8,10 +9,15 @@ from __future__ import annotations
 import copy
 import os
 import shutil
+import signal
 import subprocess
+import sys
 import tempfile
 import threading
+import time
 import unittest
+from collections.abc import Iterator
+from contextlib import contextmanager
 from unittest import mock
 
 from gix_revision_proved import NotRead, NotThere, Reference, Repository, _repository
@@ -89,6 +95,203 @@ class Programs(unittest.TestCase):
         self.assertEqual(_program(library), in_bin)
         with mock.patch.dict(os.environ, {"GIT_PROVED": on_path}):
             self.assertEqual(_program(library), on_path)
+
+
+# A stand-in for git-proved. The answer to a revision is the revision, but for these words.
+STAND_IN = r"""
+import os, re, sys, time
+
+words = os.fdopen(0, "rb", 0)
+for line in iter(words.readline, b""):
+    word = re.findall(rb"'([^']*)'", line)[2].decode()
+    if word.startswith("late"):
+        time.sleep(0.3)
+    if word.startswith("never"):
+        time.sleep(60)
+    if word == "where":
+        word = " ".join([os.getcwd(), os.environ.get("STAND_IN", "")])
+    if word == "who":
+        word = str(os.getpid())
+    status = 0
+    if word == "loud":
+        os.write(2, b"x" * 1000000)
+        status = 128
+    if word == "dies":
+        os.write(2, b"fatal: died\n")
+        os._exit(3)
+    answer = b"%d %d\n%s\n\n" % (status, len(word) + 1, word.encode())
+    if word == "half":
+        os.write(1, answer[:6])
+        time.sleep(60)
+    os.write(1, answer)
+"""
+
+
+class Alarm(Exception):
+    """What a signal handler raises."""
+
+
+@contextmanager
+def alarms(handler: object, seconds: float, again: float = 0) -> Iterator[None]:
+    """Calls a signal handler after some seconds, and then again and again."""
+    before = signal.signal(signal.SIGALRM, handler)
+    signal.setitimer(signal.ITIMER_REAL, seconds, again)
+    try:
+        yield
+    finally:
+        signal.setitimer(signal.ITIMER_REAL, 0)
+        signal.signal(signal.SIGALRM, before)
+
+
+def raise_alarm(*_: object) -> None:
+    raise Alarm
+
+
+def in_fork(call: object) -> str:
+    """Returns what a call returns or raises in a fork, or that it has not ended within 5 seconds."""
+    read, write = os.pipe()
+    child = os.fork()
+    if child == 0:
+        try:
+            signal.alarm(5)
+            said = repr(call())
+        except BaseException as error:
+            said = f"{type(error).__name__}: {error}"
+        os.write(write, said.encode())
+        os._exit(0)
+    os.close(write)
+    os.waitpid(child, 0)
+    with os.fdopen(read) as stream:
+        return stream.read() or "it has not ended"
+
+
+def is_running(process: int) -> bool:
+    try:
+        os.kill(process, 0)
+    except ProcessLookupError:
+        return False
+    return True
+
+
+class BadEnds(unittest.TestCase):
+    """No answer belongs to an earlier question, however that ended."""
+
+    def setUp(self) -> None:
+        folder = tempfile.TemporaryDirectory()
+        self.addCleanup(folder.cleanup)
+        self.program = f"{os.path.realpath(folder.name)}/git-proved"
+        with open(self.program, "w") as file:
+            file.write(f"#!{sys.executable} -ES\n{STAND_IN}")
+            os.chmod(self.program, 0o755)
+        self.repository = self.opened()
+
+    def opened(self, **options: float) -> Repository:
+        repository = Repository(program=self.program, **options)
+        self.addCleanup(repository.close)
+        return repository
+
+    def test_signals(self) -> None:
+        for word in ("late 1", "half"):
+            with self.subTest(word), self.assertRaises(Alarm), alarms(raise_alarm, 0.1):
+                self.repository.rev_parse(word)
+            for next_word in ("late 2", "one", "two"):
+                self.assertEqual(self.repository.rev_parse(next_word), next_word)
+
+    def test_signals_at_any_time(self) -> None:
+        for step in range(100):
+            try:
+                with alarms(raise_alarm, 1e-5 + step * 4e-6):
+                    for word in map(str, range(20)):
+                        self.assertEqual(self.repository.rev_parse(word), word)
+            except Alarm:
+                pass
+            self.assertEqual(self.repository.rev_parse(f"after {step}"), f"after {step}")
+
+    def test_handlers_that_ask(self) -> None:
+        said: list[object] = []
+
+        def ask(*_: object) -> None:
+            if said:
+                # The handler before still waits.
+                raise Alarm
+            said.append("nothing")
+            for call in (lambda: self.repository.rev_parse("inner"), self.repository.close):
+                try:
+                    said[-1] = call()
+                except RuntimeError as error:
+                    said[-1] = str(error)
+                said.append("nothing")
+
+        with alarms(ask, 0.1, 1):
+            self.assertEqual(self.repository.rev_parse("late"), "late")
+        self.assertEqual(said[:-1], 2 * ["the repository is in use by this thread"])
+        self.assertEqual(self.repository.rev_parse("one"), "one")
+
+    def test_timeouts(self) -> None:
+        asked = self.opened(timeout=0.2)
+        for word in ("never", "half"):
+            process, before = int(asked.rev_parse("who")), time.monotonic()
+            with self.subTest(word), self.assertRaisesRegex(TimeoutError, "no answer in 0.2 seconds"):
+                asked.rev_parse(word)
+            self.assertLess(time.monotonic() - before, 5)
+            self.assertFalse(is_running(process))
+            self.assertEqual(asked.rev_parse("one"), "one")
+        asked.timeout = None
+        self.assertEqual(asked.rev_parse("late"), "late")
+
+    def test_forks(self) -> None:
+        process = int(self.repository.rev_parse("who"))
+        refused = "RuntimeError: a repository cannot be used after a fork: make another one"
+        self.assertEqual(in_fork(lambda: self.repository.rev_parse("child")), refused)
+        self.assertEqual(in_fork(self.repository.close), "None")
+        self.assertEqual(self.repository.rev_parse("who"), str(process))
+
+        # Another thread has the lock when the process forks.
+        said: list[str] = []
+        thread = threading.Thread(target=lambda: said.append(self.repository.rev_parse("late")))
+        thread.start()
+        time.sleep(0.1)
+        self.assertEqual(in_fork(self.repository.close), "None")
+        self.assertEqual(in_fork(lambda: self.repository.rev_parse("child")), refused)
+        thread.join()
+        self.assertEqual((said, self.repository.rev_parse("who")), (["late"], str(process)))
+
+    def test_closing_beside_a_fork(self) -> None:
+        # The fork has the pipes, too, so that the program does not see the end of its input.
+        process = int(self.repository.rev_parse("who"))
+        child = os.fork()
+        if child == 0:
+            time.sleep(60)
+            os._exit(0)
+        try:
+            with alarms(raise_alarm, 5):
+                self.repository.close()
+        finally:
+            os.kill(child, signal.SIGKILL)
+            os.waitpid(child, 0)
+        self.assertFalse(is_running(process))
+
+    def test_messages_need_no_folder(self) -> None:
+        # They are also longer than a pipe.
+        with mock.patch.object(tempfile, "tempdir", "/nosuch"), self.assertRaisesRegex(NotThere, "^x{1000000}$"):
+            self.opened().rev_parse("loud")
+
+    def test_ends_of_the_program(self) -> None:
+        process = self.repository.rev_parse("who")
+        with self.assertRaisesRegex(NotRead, "^fatal: died$"):
+            self.repository.rev_parse("dies")
+        self.assertNotIn(self.repository.rev_parse("who"), (process, "dies"))
+
+    def test_another_program_is_started_alike(self) -> None:
+        here = os.getcwd()
+        self.addCleanup(os.chdir, here)
+        with mock.patch.dict(os.environ, {"STAND_IN": "before"}):
+            asked = self.opened(timeout=0.2)
+        with self.assertRaises(TimeoutError):
+            asked.rev_parse("never")
+        os.chdir("/")
+        with mock.patch.dict(os.environ, {"STAND_IN": "after"}):
+            self.assertEqual(asked.rev_parse("where"), f"{here} before")
 
 
 @unittest.skipIf(what_is_missing(), what_is_missing())

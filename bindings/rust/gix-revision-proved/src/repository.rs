@@ -2,13 +2,24 @@
 
 use crate::Id;
 use std::env;
-use std::ffi::OsStr;
+use std::ffi::{OsStr, OsString};
 use std::fmt;
-use std::fs::{self, File, OpenOptions};
-use std::io::{self, BufRead, BufReader, Read, Seek, Write};
+use std::io::{self, ErrorKind, Read, Write};
+use std::os::fd::OwnedFd;
+use std::os::unix::net::UnixStream;
 use std::path::{Path, PathBuf};
-use std::process::{Child, ChildStdin, ChildStdout, Command, Stdio};
-use std::sync::atomic::{AtomicU64, Ordering};
+use std::process::{self, Child, Command, ExitStatus, Stdio};
+use std::thread;
+use std::time::{Duration, Instant};
+
+/// How long a read or a write waits before it lets others have a turn.
+const TURN: Duration = Duration::from_millis(20);
+
+/// How many bytes are read at a time.
+const PART: usize = 1 << 16;
+
+/// How many bytes the first line of an answer has at most.
+const HEAD: usize = 64;
 
 /// Why a question about a repository has no answer.
 #[derive(Debug)]
@@ -23,7 +34,11 @@ pub enum AskError {
     NoRevision,
     /// The program answered what this crate does not know.
     Unknown,
-    /// The program was not started, or has ended.
+    /// There was no answer in the time that [`Repository::set_timeout`] has set.
+    TimedOut,
+    /// This process is a fork of the one that has opened the repository, and cannot use it.
+    Forked,
+    /// The program was not started, or could not be read or written.
     Io(io::Error),
 }
 
@@ -33,6 +48,8 @@ impl fmt::Display for AskError {
             AskError::NotThere(message) | AskError::NotRead(message) => f.write_str(message),
             AskError::NoRevision => f.write_str("the text cannot be a revision"),
             AskError::Unknown => f.write_str("git-proved gave an unknown answer"),
+            AskError::TimedOut => f.write_str("git-proved gave no answer in time"),
+            AskError::Forked => f.write_str("a repository cannot be used after a fork"),
             AskError::Io(error) => write!(f, "git-proved: {error}"),
         }
     }
@@ -95,6 +112,12 @@ pub struct ListOptions {
 /// Each answer is that of a proved call over the commits that were read. Dropping it ends the
 /// program.
 ///
+/// If a question ends without an answer, its program is ended as well. The next question starts
+/// another program in the same folder and environment. So no answer belongs to an earlier question.
+///
+/// After a fork, only the process that has opened the repository can use it. Dropping it elsewhere
+/// leaves the program alone.
+///
 /// A revision is what git reads as one (gitrevisions). Names of references are bytes.
 ///
 /// # Errors
@@ -111,11 +134,52 @@ pub struct ListOptions {
 /// ```
 #[derive(Debug)]
 pub struct Repository {
+    start: Start,
+    /// None after a question that has no answer.
+    running: Option<Running>,
+    timeout: Option<Duration>,
+    owner: u32,
+}
+
+/// How the program is started, at first and after a question that has no answer.
+struct Start {
+    program: OsString,
+    words: Vec<OsString>,
+    /// What is relative keeps its meaning if the program is started later.
+    folder: Option<PathBuf>,
+    environment: Vec<(OsString, OsString)>,
+}
+
+impl fmt::Debug for Start {
+    /// Leaves out the environment, which may have secrets.
+    fn fmt(&self, f: &mut fmt::Formatter<'_>) -> fmt::Result {
+        f.debug_struct("Start")
+            .field("program", &self.program)
+            .field("words", &self.words)
+            .field("folder", &self.folder)
+            .finish_non_exhaustive()
+    }
+}
+
+/// A program that was started. Dropping it ends the program.
+///
+/// The three streams are sockets, since std has no time limits for pipes.
+#[derive(Debug)]
+struct Running {
     child: Child,
-    /// Closed before the program is waited for.
-    input: Option<ChildStdin>,
-    output: BufReader<ChildStdout>,
-    errors: File,
+    input: UnixStream,
+    output: UnixStream,
+    errors: UnixStream,
+    /// What was read from standard error since the last answer.
+    said: Vec<u8>,
+    owner: u32,
+}
+
+/// An answer, as the program gives it.
+struct Said {
+    status: u32,
+    output: Vec<u8>,
+    message: String,
 }
 
 /// An answer with status 0 or 1.
@@ -145,19 +209,188 @@ fn program() -> PathBuf {
     }
 }
 
-/// Makes a file without a name, for what the program says on standard error.
-fn unnamed_file() -> io::Result<File> {
-    static COUNT: AtomicU64 = AtomicU64::new(0);
-    let number = COUNT.fetch_add(1, Ordering::Relaxed);
-    let name = format!("gix-revision-proved-{}-{number}", std::process::id());
-    let path = env::temp_dir().join(name);
-    let file = OpenOptions::new()
-        .read(true)
-        .append(true)
-        .create_new(true)
-        .open(&path)?;
-    fs::remove_file(path)?;
-    Ok(file)
+/// Returns the two numbers of the first line of an answer, and the place behind it. None: a part of
+/// the line is missing.
+fn head(bytes: &[u8]) -> Result<Option<(u32, usize, usize)>, AskError> {
+    let start = &bytes[..bytes.len().min(HEAD)];
+    let Some(end) = start.iter().position(|it| *it == b'\n') else {
+        return if start.len() < HEAD {
+            Ok(None)
+        } else {
+            Err(AskError::Unknown)
+        };
+    };
+    let line = std::str::from_utf8(&start[..end]).map_err(|_| AskError::Unknown)?;
+    let (status, size) = line.split_once(' ').ok_or(AskError::Unknown)?;
+    match (status.parse(), size.parse()) {
+        (Ok(status), Ok(size)) => Ok(Some((status, size, end + 1))),
+        _ => Err(AskError::Unknown),
+    }
+}
+
+/// Whether a time has come.
+fn has_come(until: Option<Instant>) -> bool {
+    until.is_some_and(|it| it <= Instant::now())
+}
+
+impl Start {
+    /// Starts the program.
+    fn run(&self) -> Result<Running, AskError> {
+        let mut command = Command::new(&self.program);
+        command
+            .args(&self.words)
+            .env_clear()
+            .envs(self.environment.iter().map(|(name, value)| (name, value)));
+        if let Some(folder) = &self.folder {
+            command.current_dir(folder);
+        }
+        let ((input, its_input), (output, its_output), (errors, its_errors)) = (
+            UnixStream::pair()?,
+            UnixStream::pair()?,
+            UnixStream::pair()?,
+        );
+        input.set_write_timeout(Some(TURN))?;
+        output.set_read_timeout(Some(TURN))?;
+        errors.set_nonblocking(true)?;
+        let child = command
+            .stdin(Stdio::from(OwnedFd::from(its_input)))
+            .stdout(Stdio::from(OwnedFd::from(its_output)))
+            .stderr(Stdio::from(OwnedFd::from(its_errors)))
+            .spawn()
+            .map_err(|error| not_started(&self.program, &error))?;
+        // `command` has the program's ends of the sockets. They are closed here with it, so that
+        // the end of the program ends its output.
+        Ok(Running {
+            child,
+            input,
+            output,
+            errors,
+            said: Vec::new(),
+            owner: process::id(),
+        })
+    }
+}
+
+impl Running {
+    /// Reads what the program has said on standard error by now.
+    fn hear(&mut self) -> io::Result<()> {
+        let mut part = [0; PART];
+        loop {
+            match self.errors.read(&mut part) {
+                Ok(0) => return Ok(()),
+                Ok(count) => self.said.extend(&part[..count]),
+                Err(error) if error.kind() == ErrorKind::Interrupted => {}
+                Err(error) if error.kind() == ErrorKind::WouldBlock => return Ok(()),
+                Err(error) => return Err(error),
+            }
+        }
+    }
+
+    /// Repeats a read or a write until it is done. In between it reads standard error, which the
+    /// program may be waiting for.
+    fn wait<T>(
+        &mut self,
+        until: Option<Instant>,
+        mut step: impl FnMut(&mut Running) -> io::Result<T>,
+    ) -> Result<T, AskError> {
+        loop {
+            match step(self) {
+                Ok(done) => return Ok(done),
+                Err(error) if error.kind() == ErrorKind::Interrupted => {}
+                Err(error) if error.kind() == ErrorKind::WouldBlock => self.hear()?,
+                Err(error) => return Err(error.into()),
+            }
+            if has_come(until) {
+                return Err(AskError::TimedOut);
+            }
+        }
+    }
+
+    /// Writes a question. If the program has ended, the end of its output says so.
+    fn write(&mut self, mut line: &[u8], until: Option<Instant>) -> Result<(), AskError> {
+        while !line.is_empty() {
+            match self.wait(until, |it| it.input.write(line)) {
+                Ok(count) => line = &line[count..],
+                Err(AskError::Io(error)) if error.kind() == ErrorKind::BrokenPipe => break,
+                Err(error) => return Err(error),
+            }
+        }
+        Ok(())
+    }
+
+    /// Returns the status of a program whose output has ended.
+    fn ended(&mut self, until: Option<Instant>) -> Result<ExitStatus, AskError> {
+        loop {
+            if let Some(status) = self.child.try_wait()? {
+                return Ok(status);
+            }
+            if has_come(until) {
+                return Err(AskError::TimedOut);
+            }
+            thread::sleep(TURN / 20);
+        }
+    }
+
+    /// Returns what the program has said on standard error since the last answer.
+    fn message(&mut self) -> Result<String, AskError> {
+        self.hear()?;
+        let message = String::from_utf8_lossy(&self.said).trim_end().to_string();
+        self.said.clear();
+        Ok(message)
+    }
+
+    /// Asks a question. After an error the answer, or a part of it, may still come. So the program
+    /// must not be asked again.
+    fn ask(&mut self, line: &[u8], until: Option<Instant>) -> Result<Said, AskError> {
+        self.write(line, until)?;
+        let (mut bytes, mut part) = (Vec::new(), vec![0; PART]);
+        loop {
+            if let Some((status, size, from)) = head(&bytes)? {
+                let size = size.checked_add(1).ok_or(AskError::Unknown)?;
+                if bytes.len() - from > size {
+                    return Err(AskError::Unknown);
+                }
+                if bytes.len() - from == size {
+                    bytes.truncate(bytes.len() - 1);
+                    bytes.drain(..from);
+                    // The program writes messages before the answer. So all of them are there.
+                    let message = self.message()?;
+                    return Ok(Said {
+                        status,
+                        output: bytes,
+                        message,
+                    });
+                }
+            }
+            match self.wait(until, |it| it.output.read(&mut part))? {
+                0 => {
+                    let status = self.ended(until)?;
+                    let mut message = self.message()?;
+                    if message.is_empty() {
+                        message = format!("git-proved ended with {status}");
+                    }
+                    return Err(match status.code() {
+                        Some(128) => AskError::NotThere(message),
+                        _ => AskError::NotRead(message),
+                    });
+                }
+                count => bytes.extend(&part[..count]),
+            }
+        }
+    }
+}
+
+impl Drop for Running {
+    /// Ends the program if this process has started it. A fork only closes the sockets.
+    ///
+    /// The program is killed, which does no harm, as it writes no file. It would wait for the end of
+    /// its input as long as a fork keeps the socket open.
+    fn drop(&mut self) {
+        if process::id() == self.owner {
+            let _ = self.child.kill();
+            let _ = self.child.wait();
+        }
+    }
 }
 
 /// Adds a word in quotes, as it stands on a line of a batch.
@@ -232,74 +465,29 @@ impl Repository {
         path: impl AsRef<Path>,
         authentic: bool,
     ) -> Result<Repository, AskError> {
-        let program = program.as_ref();
-        let errors = unnamed_file()?;
-        let mut child = Command::new(program)
-            .arg("-C")
-            .arg(path.as_ref())
-            .args(authentic.then_some("--authentic"))
-            .arg("batch")
-            .stdin(Stdio::piped())
-            .stdout(Stdio::piped())
-            .stderr(errors.try_clone()?)
-            .spawn()
-            .map_err(|error| not_started(program, &error))?;
-        let (Some(input), Some(output)) = (child.stdin.take(), child.stdout.take()) else {
-            return Err(AskError::Unknown);
+        let mut words = vec!["-C".into(), path.as_ref().into()];
+        words.extend(authentic.then(|| "--authentic".into()));
+        words.push("batch".into());
+        let start = Start {
+            program: program.as_ref().into(),
+            words,
+            folder: env::current_dir().ok(),
+            environment: env::vars_os().collect(),
         };
         Ok(Repository {
-            child,
-            input: Some(input),
-            output: BufReader::new(output),
-            errors,
+            running: Some(start.run()?),
+            start,
+            timeout: None,
+            owner: process::id(),
         })
     }
 
-    /// Returns what the program has said on standard error since the last answer.
-    fn message(&mut self) -> Result<String, AskError> {
-        let mut said = Vec::new();
-        self.errors.rewind()?;
-        self.errors.read_to_end(&mut said)?;
-        self.errors.set_len(0)?;
-        Ok(String::from_utf8_lossy(&said).trim_end().to_string())
-    }
-
-    /// Returns the error for a status that is neither 0 nor 1.
-    fn refused(&mut self, status: i32) -> AskError {
-        match self.message() {
-            Ok(message) if status == 128 => AskError::NotThere(message),
-            Ok(message) => AskError::NotRead(message),
-            Err(error) => error,
-        }
-    }
-
-    /// Reads the answer to a question.
-    fn answer(&mut self) -> Result<Answer, AskError> {
-        let mut head = String::new();
-        self.output.read_line(&mut head)?;
-        let mut words = head.split_whitespace().map(str::parse::<usize>);
-        let (Some(Ok(status)), Some(Ok(size))) = (words.next(), words.next()) else {
-            let status = self.child.wait()?;
-            return Err(match self.refused(status.code().unwrap_or(0)) {
-                AskError::NotRead(message) if message.is_empty() => {
-                    AskError::NotRead(format!("git-proved ended with {status}"))
-                }
-                error => error,
-            });
-        };
-        let mut output = vec![0; size];
-        self.output.read_exact(&mut output)?;
-        self.output.read_exact(&mut [0])?;
-        match status {
-            0 | 1 => {
-                self.message()?;
-                Ok(Answer {
-                    is_yes: status == 0,
-                    output,
-                })
-            }
-            _ => Err(self.refused(status as i32)),
-        }
+    /// Sets how long a question may take, from when the program is asked. Without a limit, as at
+    /// first, it may take any time.
+    ///
+    /// A question that takes longer fails with [`AskError::TimedOut`], and its program is ended.
+    pub fn set_timeout(&mut self, timeout: Option<Duration>) {
+        self.timeout = timeout;
     }
 
     /// Asks a question: words, as they stand behind `git proved`.
@@ -309,11 +497,25 @@ impl Repository {
             add_word(&mut line, word)?;
         }
         line.push(b'\n');
-        if let Some(input) = &mut self.input {
-            // If the program has ended, its answer says why.
-            let _ = input.write_all(&line).and_then(|()| input.flush());
+        if process::id() != self.owner {
+            return Err(AskError::Forked);
         }
-        self.answer()
+        // The program is put back only after an answer. Otherwise it is dropped here.
+        let mut running = match self.running.take() {
+            Some(running) => running,
+            None => self.start.run()?,
+        };
+        let until = self.timeout.and_then(|it| Instant::now().checked_add(it));
+        let said = running.ask(&line, until)?;
+        self.running = Some(running);
+        match said.status {
+            0 | 1 => Ok(Answer {
+                is_yes: said.status == 0,
+                output: said.output,
+            }),
+            128 => Err(AskError::NotThere(said.message)),
+            _ => Err(AskError::NotRead(said.message)),
+        }
     }
 
     /// Asks a question that ends with revisions.
@@ -469,12 +671,5 @@ impl Repository {
     /// Returns the names of the references that a commit reaches, like `git for-each-ref --merged`.
     pub fn merged(&mut self, commit: impl AsRef<[u8]>) -> Result<Vec<Vec<u8>>, AskError> {
         self.names_by("--merged=", commit.as_ref())
-    }
-}
-
-impl Drop for Repository {
-    fn drop(&mut self) {
-        drop(self.input.take());
-        let _ = self.child.wait();
     }
 }
