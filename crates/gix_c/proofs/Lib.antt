@@ -1,11 +1,1 @@
-pub mod AsBox
-pub mod Copied
-pub mod Values
 pub mod Ended
-pub mod Fronts
-pub mod Lacking
-pub mod Named
-pub mod Parts
-pub mod Printed
-pub mod Undescribed
-pub mod Wholes

@@ -1,67 +1,12 @@
 //! C function that abbreviates an id.
 
-ghost use Rattle.std.specs.Prelude.{◌≡◌, ◌↔◌, ◌≤◌, IsTrue, max, min, take};
-ghost use Rattle.gix_base.specs.Hash.{id_text};
-ghost use Rattle.gix_base.specs.Prefix.{prefix_text};
-ghost use Rattle.gix_c.specs.Abbreviated.{IsAlone, IsShort, is_only};
-ghost use Rattle.gix_c.specs.Answers.{id_of};
+ghost use Rattle.std.specs.Prelude.{◌≡◌, max, min};
+ghost use Rattle.gix_c_core.specs.Abbreviated.{IsShort};
+ghost use Rattle.gix_c_core.specs.Answers.{id_of};
 
-use crate::handle::Handle;
-use gix_resolve::{Found, Ids};
-use gix_revision::hash::{ObjectId, Prefix};
-use gix_revision::laws::base::is_id;
-use std::collections::BTreeSet;
-
-/// Returns whether nothing but `id` was found.
-fn is_only(found: Found, id: ObjectId) -> bool
-    ensures { result ≡ is_only found id }
-{
-    match found {
-        Found::Nothing => true,
-        Found::One(other) => other == id,
-        Found::Many => false,
-    }
-}
-
-/// Makes the prefix of the first `len` digits of an id.
-fn prefix_of(id: ObjectId, len: usize) -> Prefix
-    requires least { 4 ≤ len }
-    requires most { len ≤ 40 }
-    ensures { prefix_text result ≡ take len (id_text id) }
-{
-    is_id(&id);
-    let mut digits = [0u8; 40];
-    let count = id.write_hex(len, &mut digits);
-    match Prefix::from_hex(&digits[..count]) {
-        Ok(prefix) => prefix,
-        // There are 4 to 40 digits.
-        Err(_) => unreachable!(),
-    }
-}
-
-/// Returns whether no other of the ids than `id` begins with its first `len` digits.
-fn is_alone(ids: &BTreeSet<ObjectId>, id: ObjectId, len: usize) -> bool
-    requires least { 4 ≤ len }
-    requires most { len ≤ 40 }
-    ensures { IsTrue result ↔ IsAlone ids.now.keys id len }
-{
-    is_only(ids.lookup_prefix(prefix_of(id, len)), id)
-}
-
-/// Returns the least number of digits from `least` on, with which no other of the ids than `id`
-/// begins, or 40.
-fn shortest(ids: &BTreeSet<ObjectId>, id: ObjectId, least: usize) -> usize
-    requires least { 4 ≤ least }
-    requires most { least ≤ 40 }
-    ensures { IsShort ids.now.keys id least result }
-{
-    for len in least..40 {
-        if is_alone(ids, id, len) {
-            return len;
-        }
-    }
-    40
-}
+use gix_c_core::abbreviate::shortest;
+use gix_c_core::handle::Handle;
+use gix_revision::hash::ObjectId;
 
 /// Returns how many digits of `id` are needed, so that no other id of the history begins with them.
 #[unsafe(no_mangle)]

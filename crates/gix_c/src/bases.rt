@@ -5,13 +5,13 @@ ghost use Rattle.gix_revwalk.specs.History.{Has, History as Commits, IsAncestor,
 ghost use Rattle.gix_merge_base.specs.Bases.{AreBases};
 ghost use Rattle.gix_merge_base.specs.Octopus.{IsOctopusBase};
 ghost use Rattle.gix_merge_base.specs.Premises.{IsAcyclicFrom, GenerationsNeverRiseFrom};
-ghost use Rattle.gix_c.specs.Answers.{ByCode, ByYes, HasBases, HasIndependent, HasOctopusBase, id_of};
-ghost use Rattle.gix_c.specs.Behind.{commits_of};
-ghost use Rattle.gix_c.specs.Partial.{IsUnanswered, whole_of};
+ghost use Rattle.gix_c_core.specs.Answers.{ByCode, ByYes, HasBases, HasIndependent, HasOctopusBase, id_of};
+ghost use Rattle.gix_c_core.specs.Behind.{commits_of};
+ghost use Rattle.gix_c_core.specs.Partial.{IsUnanswered, whole_of};
 
-use crate::handle::Handle;
-use crate::ids::{bytes_of, bytes_of_each, ids_of, write, write_found};
-use crate::status::{NONE, OK, OUT_OF_MEMORY};
+use gix_c_core::handle::Handle;
+use gix_c_core::ids::{bytes_of, bytes_of_each, ids_of, write, write_found};
+use gix_c_core::status::{NONE, OK, OUT_OF_MEMORY};
 use gix_questions::{Independent, MergeBases, Octopus};
 use gix_revision::hash::ObjectId;
 use std::alloc::Global;

@@ -1,44 +1,18 @@
 //! C functions that count the commits of a history, and look one up.
 
-ghost use Rattle.std.specs.Prelude.{◌≡◌, ⊤, Some, None, if◌then◌else◌, length};
+ghost use Rattle.std.specs.Prelude.{◌≡◌, ⊤, Some};
 ghost use Rattle.gix_revwalk.specs.History.{Has};
 ghost use Rattle.gix_revwalk.specs.Sizes.{HasSize};
-ghost use Rattle.gix_c.specs.Answers.{ByCode, id_of};
-ghost use Rattle.gix_c.specs.Behind.{commits_of};
-ghost use Rattle.gix_c.specs.Commits.{HasCommit, IsKnown};
+ghost use Rattle.gix_c_core.specs.Answers.{ByCode, id_of};
+ghost use Rattle.gix_c_core.specs.Behind.{commits_of};
+ghost use Rattle.gix_c_core.specs.Commits.{HasCommit, IsKnown};
 
-use crate::handle::Handle;
-use crate::ids::{bytes_of_each, write};
-use crate::status::{NONE, OK, OUT_OF_MEMORY};
-use gix_revision::graph::SourceCommit;
+use gix_c_core::commits::{CommitFields, fields_of};
+use gix_c_core::handle::Handle;
+use gix_c_core::ids::{bytes_of_each, write};
+use gix_c_core::status::{NONE, OK, OUT_OF_MEMORY};
 use gix_revision::hash::ObjectId;
 use std::alloc::Global;
-
-/// A commit without its parents: its date, its generation number if there is one, and the number of
-/// its parents.
-#[repr(C)]
-#[derive(Clone, Copy)]
-pub struct CommitFields {
-    time: i64,
-    generation: u32,
-    has_generation: bool,
-    parents_len: usize,
-}
-
-/// Returns the fields of a commit.
-fn fields_of(commit: &SourceCommit) -> CommitFields
-    ensures time { result.time ≡ commit.now.time }
-    ensures generation { (if result.has_generation then Some result.generation else None)
-        ≡ commit.now.generation }
-    ensures parents { result.parents_len ≡ length commit.now.parents.items }
-{
-    CommitFields {
-        time: commit.time,
-        generation: commit.generation.unwrap_or(0),
-        has_generation: commit.generation.is_some(),
-        parents_len: commit.parents.len(),
-    }
-}
 
 /// Returns the number of commits that the history has.
 #[unsafe(no_mangle)]

@@ -3,14 +3,14 @@
 ghost use Rattle.std.specs.Prelude.{◌≡◌, ◌∷◌, ◌⊎◌, [], ⊤, None};
 ghost use Rattle.gix_revwalk.specs.History.{History as Commits};
 ghost use Rattle.gix_merge_base.specs.Premises.{GenerationsNeverRiseFrom};
-ghost use Rattle.gix_c.specs.Answers.{ByCode, id_of};
-ghost use Rattle.gix_c.specs.Behind.{commits_of};
-ghost use Rattle.gix_c.specs.Partial.{IsUnanswered, whole_of};
-ghost use Rattle.gix_c.specs.Spans.{spec_at, HasCount, HasSides, HasSidesAtMost};
+ghost use Rattle.gix_c_core.specs.Answers.{ByCode, id_of};
+ghost use Rattle.gix_c_core.specs.Behind.{commits_of};
+ghost use Rattle.gix_c_core.specs.Partial.{IsUnanswered, whole_of};
+ghost use Rattle.gix_c_core.specs.Spans.{spec_at, HasCount, HasSides, HasSidesAtMost};
 
-use crate::handle::Handle;
-use crate::revisions::{Span, spec_of};
-use crate::status::{NO_KIND, OK};
+use gix_c_core::handle::Handle;
+use gix_c_core::revisions::{Span, spec_of};
+use gix_c_core::status::{NO_KIND, OK};
 use gix_questions::{AheadBehind, CountCommits};
 use gix_revision::hash::ObjectId;
 use std::alloc::Global;

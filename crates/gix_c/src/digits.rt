@@ -3,9 +3,9 @@
 ghost use Rattle.std.specs.Prelude.{◌≡◌, ◌↔◌, ◌++◌, ◌∷◌, [], IsTrue, if◌then◌else◌};
 ghost use Rattle.gix_base.specs.Digits.{bytes_of as bytes_in_digits};
 ghost use Rattle.gix_base.specs.Hash.{id_text, IsIdText};
-ghost use Rattle.gix_c.specs.Answers.{id_of};
+ghost use Rattle.gix_c_core.specs.Answers.{id_of};
 
-use crate::ids::bytes_of;
+use gix_c_core::ids::bytes_of;
 use gix_revision::hash::ObjectId;
 use gix_revision::laws::base::is_id;
 

@@ -2,24 +2,24 @@
 
 ghost use Rattle.std.specs.Borrow.{sem};
 ghost use Rattle.std.specs.Prelude.{◌≡◌, ◌⊎◌, ⊤, Some, None, if◌then◌else◌};
-ghost use Rattle.gix_revwalk.specs.Held.{entry_of};
 ghost use Rattle.gix_revwalk.specs.History.{Has, entry_at, same_id};
 ghost use Rattle.gix_base.specs.declared.hash.ObjectId.{ObjectId};
-ghost use Rattle.gix_c.specs.Answers.{ByCode, entry_given, id_of};
-ghost use Rattle.gix_c.specs.Behind.{commits_of};
-ghost use Rattle.gix_c.specs.Insertion.{HasOneMore};
-ghost use Rattle.gix_c.specs.Missing.{IsNoted};
-ghost use Rattle.gix_c.specs.declared.handle.Handle.{Handle};
-ghost use Rattle.gix_c.specs.Owned.{owns_unless_null, IsNew};
+ghost use Rattle.gix_c_core.specs.Answers.{ByCode, entry_given, id_of};
+ghost use Rattle.gix_c_core.specs.Behind.{commits_of};
+ghost use Rattle.gix_c_core.specs.Insertion.{HasOneMore};
+ghost use Rattle.gix_c_core.specs.Missing.{IsNoted};
+ghost use Rattle.gix_c_core.specs.declared.handle.Handle.{Handle};
+ghost use Rattle.gix_c_core.specs.Owned.{owns_unless_null, IsNew};
 
-use crate::handle::Handle;
-use crate::history::History;
-use crate::ids::ids_of;
-use crate::loose::Loose;
-use crate::place::Place;
-use crate::status::{ALREADY_THERE, OK, OUT_OF_MEMORY};
+use gix_c_core::handle::Handle;
+use gix_c_core::history::History;
+use gix_c_core::ids::ids_of;
+use gix_c_core::insert::insert_commit;
+use gix_c_core::loose::Loose;
+use gix_c_core::place::Place;
+use gix_c_core::status::{ALREADY_THERE, OK, OUT_OF_MEMORY};
 use gix_revision::Seed;
-use gix_revision::graph::{InsertError, SourceCommit};
+use gix_revision::graph::SourceCommit;
 use gix_revision::hash::ObjectId;
 use std::alloc::Global;
 
@@ -36,35 +36,6 @@ pub extern "C" fn gix_history_new(alloc: Global, seed: u64, out: &mut Place) -> 
     };
     *out = place;
     OK
-}
-
-/// Inserts a commit under `id`, if the history has none with that id yet. Returns the code.
-pub(crate) fn insert_commit(history: &mut Handle, id: ObjectId, commit: SourceCommit) -> i32
-    ensures new { ByCode result (entry_at (commits_of history.old) id ≡ None) ⊥ ⊤ }
-    ensures put { ByCode result ((q : ObjectId) → entry_at (commits_of history.new) q
-        ≡ (if same_id id q then Some (entry_of commit) else entry_at (commits_of history.old) q))
-        ⊥ (commits_of history.new ≡ commits_of history.old) }
-    ensures there { result ≡ ALREADY_THERE → Has (commits_of history.old) id }
-    ensures refused { ByCode result ⊤ ⊥ ((result ≡ ALREADY_THERE) ⊎ (result ≡ OUT_OF_MEMORY)) }
-    ensures names { history.new.value.table.names ≡ history.old.value.table.names }
-    ensures ids { ByCode result
-        (HasOneMore id history.old.value.table.ids.keys history.new.value.table.ids.keys)
-        ⊥
-        (HasOneMore id history.old.value.table.ids.keys history.new.value.table.ids.keys
-        ⊎ (history.new.value.table.ids.keys ≡ history.old.value.table.ids.keys)) }
-    ensures held { history.new.value.graph.held ≡ history.old.value.graph.held }
-    ensures noted { IsNoted history.old → IsNoted history.new }
-    ensures extent { history.new.value.extent ≡ history.old.value.extent }
-{
-    let history = history.get_mut();
-    if history.add_id(id).is_err() {
-        return OUT_OF_MEMORY;
-    }
-    match history.insert(id, commit) {
-        Ok(()) => OK,
-        Err(InsertError::AlreadyThere(_)) => ALREADY_THERE,
-        Err(InsertError::OutOfMemory(_)) => OUT_OF_MEMORY,
-    }
 }
 
 /// Inserts a commit under `id`, if the history has none with that id yet.

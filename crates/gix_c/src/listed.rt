@@ -1,60 +1,24 @@
 //! C functions for lists that are made once.
 
-ghost use Rattle.std.specs.Prelude.{◌≡◌, ◌⊎◌, ◌++◌, ⊤, IfOk, None, Some, drop, length, map, min, take};
+ghost use Rattle.std.specs.Prelude.{◌≡◌, ◌⊎◌, ⊤, None, Some, length};
 ghost use Rattle.gix_revwalk.specs.History.{History as Commits};
-ghost use Rattle.gix_c.specs.Answers.{ByCode, bytes_in};
-ghost use Rattle.gix_c.specs.Behind.{commits_of};
-ghost use Rattle.gix_c.specs.Missing.{IsNoted};
-ghost use Rattle.gix_c.specs.Partial.{IsUnanswered, whole_of};
-ghost use Rattle.gix_c.specs.Spans.{spec_at};
-ghost use Rattle.gix_c.specs.Stocks.{IsListOf, IsListOfMissing, IsRead};
-ghost use Rattle.gix_c.specs.declared.stock_handle.StockHandle.{StockHandle};
+ghost use Rattle.gix_c_core.specs.Answers.{ByCode};
+ghost use Rattle.gix_c_core.specs.Behind.{commits_of};
+ghost use Rattle.gix_c_core.specs.Missing.{IsNoted};
+ghost use Rattle.gix_c_core.specs.Partial.{IsUnanswered, whole_of};
+ghost use Rattle.gix_c_core.specs.Spans.{spec_at};
+ghost use Rattle.gix_c_core.specs.Stocks.{IsListOf, IsListOfMissing, IsRead};
 
-use crate::handle::Handle;
-use crate::ids::bytes_of_each;
-use crate::missing::sift;
-use crate::questions::All;
-use crate::revisions::{Span, spec_of};
-use crate::status::{NO_KIND, OK, OUT_OF_MEMORY};
-use crate::stock::Stock;
-use crate::stock_handle::IdsHandle;
-use crate::stock_place::{IdsPlace, StockPlace};
-use gix_revision::Seed;
-use gix_revision::hash::ObjectId;
-use std::alloc::{AllocError, Global};
-use std::collections::HashMap;
+use gix_c_core::handle::Handle;
+use gix_c_core::listed::{behind, copy_front, place_of};
+use gix_c_core::missing::sift;
+use gix_c_core::questions::All;
+use gix_c_core::revisions::{Span, spec_of};
+use gix_c_core::status::{NO_KIND, OK, OUT_OF_MEMORY};
+use gix_c_core::stock_handle::IdsHandle;
+use gix_c_core::stock_place::IdsPlace;
+use std::alloc::Global;
 use std::marker::Brand;
-
-/// Returns the items from the place `from` on.
-fn behind(bytes: &[[u8; 20]], from: usize) -> &[[u8; 20]]
-    ensures { result.now ≡ drop from bytes.now }
-{
-    &bytes[from.min(bytes.len())..]
-}
-
-/// Writes as many first items as fit into `out`. Returns how many it wrote.
-fn copy_front(bytes: &[[u8; 20]], out: &mut [[u8; 20]]) -> usize
-    ensures counted { result ≡ min (length bytes.now) (length out.old) }
-    ensures written { out.new ≡ take result bytes.now ++ drop result out.old }
-{
-    let len = bytes.len().min(out.len());
-    out[..len].copy_from_slice(&bytes[..len]);
-    len
-}
-
-/// Makes the place of a list of ids.
-fn place_of(alloc: Global, ids: &[ObjectId]) -> Result<StockPlace, AllocError>
-    ensures { IfOk result (λ place. (list : StockHandle) × (place.value ≡ Some list)
-        × (list.value.ids.items ≡ map bytes_in ids.now)) }
-{
-    let ids = bytes_of_each(alloc, ids)?;
-    let stock = Stock {
-        names: HashMap::with_hasher(alloc, Seed::default()),
-        ids,
-    };
-    let place = StockPlace::holding(alloc, stock)?;
-    Ok(place)
-}
 
 /// Lists the commits of a revision range or set by rising id, in a list that `*out` then owns.
 ///

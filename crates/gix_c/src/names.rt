@@ -1,11 +1,11 @@
 //! C functions for ref names.
 
 ghost use Rattle.std.specs.Prelude.{◌≡◌, ⊤, IsTrue, None, Some, is_some};
-ghost use Rattle.gix_c.specs.Answers.{ByCode, id_of};
-ghost use Rattle.gix_c.specs.Names.{IsPut, id_named, without_name};
+ghost use Rattle.gix_c_core.specs.Answers.{ByCode, id_of};
+ghost use Rattle.gix_c_core.specs.Names.{IsPut, id_named, without_name};
 
-use crate::handle::Handle;
-use crate::status::{NONE, OK, OUT_OF_MEMORY};
+use gix_c_core::handle::Handle;
+use gix_c_core::status::{NONE, OK, OUT_OF_MEMORY};
 use gix_revision::hash::ObjectId;
 use std::alloc::Global;
 

@@ -2,14 +2,14 @@
 
 ghost use Rattle.std.specs.Prelude.{◌≡◌, ⊤, map};
 ghost use Rattle.gix_revwalk.specs.History.{History as Commits};
-ghost use Rattle.gix_c.specs.Answers.{ByCode, HasNewestFirst, id_of};
-ghost use Rattle.gix_c.specs.Behind.{commits_of};
-ghost use Rattle.gix_c.specs.Partial.{IsUnanswered, whole_of};
+ghost use Rattle.gix_c_core.specs.Answers.{ByCode, HasNewestFirst, id_of};
+ghost use Rattle.gix_c_core.specs.Behind.{commits_of};
+ghost use Rattle.gix_c_core.specs.Partial.{IsUnanswered, whole_of};
 
-use crate::handle::Handle;
-use crate::ids::{bytes_of_each, ids_of, write};
-use crate::questions::NewestFirst;
-use crate::status::{OK, OUT_OF_MEMORY};
+use gix_c_core::handle::Handle;
+use gix_c_core::ids::{bytes_of_each, ids_of, write};
+use gix_c_core::questions::NewestFirst;
+use gix_c_core::status::{OK, OUT_OF_MEMORY};
 use std::alloc::Global;
 use std::marker::Brand;
 

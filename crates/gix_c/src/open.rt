@@ -6,13 +6,13 @@ ghost use Rattle.gix_commitgraph.specs.FileFormat.{IsCommitGraph};
 ghost use Rattle.gix_commitgraph.specs.FileLevels.{LevelsFall};
 ghost use Rattle.gix_revwalk.specs.Generations.{HasNoGenerations};
 ghost use Rattle.gix_revwalk.specs.History.{GenerationsNeverRise, History as Commits, IsAcyclic};
-ghost use Rattle.gix_c.specs.Answers.{ByCode};
-ghost use Rattle.gix_c.specs.Opened.{IsOpened};
+ghost use Rattle.gix_c_core.specs.Answers.{ByCode};
+ghost use Rattle.gix_c_core.specs.Opened.{IsOpened};
 
-use crate::file::{Unopened, read_file};
-use crate::history::History;
-use crate::place::Place;
-use crate::status::{NO_GRAPH, NO_LEVELS, OK, OUT_OF_MEMORY};
+use gix_c_core::file::{Unopened, read_file};
+use gix_c_core::history::History;
+use gix_c_core::place::Place;
+use gix_c_core::status::{NO_GRAPH, NO_LEVELS, OK, OUT_OF_MEMORY};
 use gix_revision::Seed;
 use std::alloc::Global;
 

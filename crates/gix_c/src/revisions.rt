@@ -5,86 +5,22 @@ ghost use Rattle.std.specs.Option.{option_map};
 ghost use Rattle.gix_revwalk.specs.History.{History as Commits};
 ghost use Rattle.gix_resolve.specs.Resolved.{Resolved};
 ghost use Rattle.gix_resolve.specs.RevParse.{RevParsed};
-ghost use Rattle.gix_c.specs.Answers.{ByCode, ByFault, id_of};
-ghost use Rattle.gix_c.specs.Behind.{commits_of, known_in};
-ghost use Rattle.gix_c.specs.Partial.{IsUnanswered, whole_of};
-ghost use Rattle.gix_c.specs.Spans.{spec_at, HasFault, HasSpec, HasPage};
+ghost use Rattle.gix_c_core.specs.Answers.{ByCode, ByFault, id_of};
+ghost use Rattle.gix_c_core.specs.Behind.{commits_of, known_in};
+ghost use Rattle.gix_c_core.specs.Partial.{IsUnanswered, whole_of};
+ghost use Rattle.gix_c_core.specs.Spans.{spec_at, HasFault, HasSpec, HasPage};
 
-use crate::faults::FaultPlace;
-use crate::handle::Handle;
-use crate::ids::{bytes_of, bytes_of_each, write};
-use crate::questions::Page;
-use crate::resolved::Reading;
-use crate::status::{FAULT, NO_KIND, OK, OUT_OF_MEMORY};
+use gix_c_core::faults::FaultPlace;
+use gix_c_core::handle::Handle;
+use gix_c_core::ids::{bytes_of_each, write};
+use gix_c_core::questions::Page;
+use gix_c_core::resolved::Reading;
+use gix_c_core::revisions::{Span, spec_of};
+use gix_c_core::status::{FAULT, NO_KIND, OK, OUT_OF_MEMORY};
 use gix_revision::date::Time;
 use gix_revision::hash::ObjectId;
-use gix_revision::spec::Spec;
 use std::alloc::Global;
 use std::marker::Brand;
-
-/// A revision range or set, by its kind and ids. The second id counts only for `RANGE` and `MERGE`.
-#[repr(C)]
-#[derive(Clone, Copy)]
-pub struct Span {
-    kind: u32,
-    first: [u8; 20],
-    second: [u8; 20],
-}
-
-const INCLUDE: u32 = 0;
-
-const EXCLUDE: u32 = 1;
-
-const RANGE: u32 = 2;
-
-const MERGE: u32 = 3;
-
-const ONLY_PARENTS: u32 = 4;
-
-const WITHOUT_PARENTS: u32 = 5;
-
-pub(crate) fn span_of(spec: Spec) -> Span
-    ensures { spec_at result ≡ Some spec }
-{
-    let (kind, first, second) = match spec {
-        Spec::Include(id) => (INCLUDE, id, id),
-        Spec::Exclude(id) => (EXCLUDE, id, id),
-        Spec::Range { from, to } => (RANGE, from, to),
-        Spec::Merge { theirs, ours } => (MERGE, theirs, ours),
-        Spec::IncludeOnlyParents(id) => (ONLY_PARENTS, id, id),
-        Spec::ExcludeParents(id) => (WITHOUT_PARENTS, id, id),
-    };
-    let first = bytes_of(&first);
-    let second = bytes_of(&second);
-    Span {
-        kind,
-        first,
-        second,
-    }
-}
-
-/// Converts a span into a spec. Returns `None` if its kind is none of the known ones.
-pub(crate) fn spec_of(span: &Span) -> Option<Spec>
-    ensures { result ≡ spec_at span.now }
-{
-    let first = ObjectId(span.first);
-    let second = ObjectId(span.second);
-    match span.kind {
-        INCLUDE => Some(Spec::Include(first)),
-        EXCLUDE => Some(Spec::Exclude(first)),
-        RANGE => Some(Spec::Range {
-            from: first,
-            to: second,
-        }),
-        MERGE => Some(Spec::Merge {
-            theirs: first,
-            ours: second,
-        }),
-        ONLY_PARENTS => Some(Spec::IncludeOnlyParents(first)),
-        WITHOUT_PARENTS => Some(Spec::ExcludeParents(first)),
-        _ => None,
-    }
-}
 
 /// Resolves a revision, such as `main~2..topic`.
 ///

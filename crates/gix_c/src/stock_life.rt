@@ -1,11 +1,11 @@
 //! C functions that free what a program keeps apart from a history.
 
 ghost use Rattle.std.specs.Borrow.{sem};
-ghost use Rattle.gix_c.specs.declared.stock_handle.StockHandle.{StockHandle};
-ghost use Rattle.gix_c.specs.StockOwned.{owns_stock_unless_null};
+ghost use Rattle.gix_c_core.specs.declared.stock_handle.StockHandle.{StockHandle};
+ghost use Rattle.gix_c_core.specs.StockOwned.{owns_stock_unless_null};
 
-use crate::loose::Loose;
-use crate::stock_handle::{IdsHandle, NamesHandle, StockHandle};
+use gix_c_core::loose::Loose;
+use gix_c_core::stock_handle::{IdsHandle, NamesHandle, StockHandle};
 use std::alloc::Global;
 
 fn dispose(handle: Loose<StockHandle, Global>) {

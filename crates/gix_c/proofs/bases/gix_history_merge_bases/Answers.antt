@@ -2,9 +2,9 @@ use Rattle.std.proofs.Common.{List, subst}
 use Rattle.gix_base.specs.declared.hash.ObjectId.{ObjectId}
 use Rattle.gix_questions.specs.BaseQuestions.{MeansBases}
 use Rattle.gix_merge_base.specs.Bases.{ids_of}
-use Rattle.gix_c.specs.Answers.{id_of}
-use Rattle.gix_c.specs.Partial.{whole_in}
-use Rattle.gix_c.specs.declared.history.History.{History}
+use Rattle.gix_c_core.specs.Answers.{id_of}
+use Rattle.gix_c_core.specs.Partial.{whole_in}
+use Rattle.gix_c_core.specs.declared.history.History.{History}
 use Rattle.gix_c.proofs.bases.gix_history_merge_bases.Goals as goal
 
 pub returns-in-Some-clause-bases : goal.returns-in-Some-clause-bases

@@ -3,9 +3,9 @@ use Rattle.std.proofs.lemmas.List.{length-map}
 use Rattle.std.specs.Option.{option_map}
 use Rattle.gix_revwalk.specs.Held.{entry_of}
 use Rattle.gix_revwalk.specs.History.{History as Commits, entry_at}
-use Rattle.gix_c.specs.Answers.{id_of, bytes_in, IsWritten}
-use Rattle.gix_c.specs.Behind.{commits_of, joined}
-use Rattle.gix_c.specs.declared.history.History.{History}
+use Rattle.gix_c_core.specs.Answers.{id_of, bytes_in, IsWritten}
+use Rattle.gix_c_core.specs.Behind.{commits_of, joined}
+use Rattle.gix_c_core.specs.declared.history.History.{History}
 use Rattle.gix_c.proofs.commits.gix_history_commit.Goals as goal
 
 pub returns-clause-commit : goal.returns-clause-commit

@@ -1,7 +1,7 @@
 use Rattle.std.proofs.Common.{ap, sym, ◌∙◌}
 use Rattle.gix_resolve.proofs.Beginnings.{rising_once}
 use Rattle.gix_revwalk.specs.History.{is_one_of}
-use Rattle.gix_c.specs.declared.history.History.{History}
+use Rattle.gix_c_core.specs.declared.history.History.{History}
 use Rattle.gix_c.proofs.commits.gix_history_len.Goals as goal
 
 pub returns-clause-size : goal.returns-clause-size

@@ -1,6 +1,6 @@
 use Rattle.std.proofs.Common.{w32, FitsSigned, rules}
 use Rattle.std.proofs.lemmas.Int.{to_z-of_z}
-use Rattle.gix_c.specs.Descriptions.{names_given}
+use Rattle.gix_c_core.specs.Descriptions.{names_given}
 use Rattle.gix_c.proofs.describe.gix_history_describe.Goals as goal
 
 pub returns-clause-described : goal.returns-clause-described

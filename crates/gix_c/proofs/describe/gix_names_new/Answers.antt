@@ -1,6 +1,6 @@
 use Rattle.std.proofs.Common.{sym, subst}
-use Rattle.gix_c.specs.Descriptions.{AreNames, names_given}
-use Rattle.gix_c.specs.declared.stock.Stock.{Stock}
+use Rattle.gix_c_core.specs.Descriptions.{AreNames, names_given}
+use Rattle.gix_c_core.specs.declared.stock.Stock.{Stock}
 use Rattle.gix_c.proofs.describe.gix_names_new.Goals as goal
 
 pub returns : goal.returns

@@ -3,7 +3,7 @@ use Rattle.std.proofs.lemmas.List.{length-drop}
 use Rattle.gix_base.specs.Hash.{id_text}
 use Rattle.gix_base.proofs.Again.{written_all}
 use Rattle.gix_base.proofs.ReadBack.{length-id_text}
-use Rattle.gix_c.specs.Answers.{id_of}
+use Rattle.gix_c_core.specs.Answers.{id_of}
 use Rattle.gix_c.proofs.Ended.{ended}
 use Rattle.gix_c.proofs.digits.gix_id_write.Goals as goal
 

@@ -36,9 +36,9 @@ use Rattle.std_heap.proofs.Handle.{heap_val, heap_Tells}
 use Rattle.core.specs.Ptr.{if_non_null}
 use Rattle.std_alloc.proofs.VecSteps.Shapes.{after}
 use Rattle.core.proofs.cell.Inside.{Good}
-use Rattle.gix_c.proofs.Values.{both, Loose, loose_good, loose_in}
-use Rattle.gix_c.specs.Owned.{owns_handle, owns_unless_null}
-use Rattle.gix_c.specs.contracts.handle.Handle.{the_row as R}
+use Rattle.gix_c_core.proofs.Values.{both, Loose, loose_good, loose_in}
+use Rattle.gix_c_core.specs.Owned.{owns_handle, owns_unless_null}
+use Rattle.gix_c_core.specs.contracts.handle.Handle.{the_row as R}
 use Rattle.gix_c.specs.contracts.life.gix_history_free as f
 use Rattle.gix_c.proofs.life.gix_history_free.Statement.{statement}
 use Rattle.gix_c.proofs.life.gix_history_free.Code as code

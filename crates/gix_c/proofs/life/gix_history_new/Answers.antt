@@ -1,9 +1,9 @@
 use Rattle.std.proofs.Common.{◌≡◌, ap, sym, subst, ◌∙◌, None}
 use Rattle.gix_base.specs.declared.hash.ObjectId.{ObjectId}
 use Rattle.gix_revwalk.specs.History.{entry_at}
-use Rattle.gix_c.specs.Behind.{commits_in}
-use Rattle.gix_c.specs.Noted.{Remembers}
-use Rattle.gix_c.specs.declared.history.History.{History}
+use Rattle.gix_c_core.specs.Behind.{commits_in}
+use Rattle.gix_c_core.specs.Noted.{Remembers}
+use Rattle.gix_c_core.specs.declared.history.History.{History}
 use Rattle.gix_c.proofs.life.gix_history_new.Goals as goal
 
 pub returns : goal.returns

@@ -1,8 +1,8 @@
 use Rattle.std.proofs.Common.{◌∙◌, ap, sym, subst, map}
 use Rattle.gix_resolve.specs.ListMeaning.{ListsMeant}
-use Rattle.gix_c.specs.Answers.{bytes_in}
-use Rattle.gix_c.specs.Partial.{whole_in}
-use Rattle.gix_c.specs.declared.history.History.{History}
+use Rattle.gix_c_core.specs.Answers.{bytes_in}
+use Rattle.gix_c_core.specs.Partial.{whole_in}
+use Rattle.gix_c_core.specs.declared.history.History.{History}
 use Rattle.gix_c.proofs.listed.gix_history_list_all.Goals as goal
 
 pub returns-clause-list : goal.returns-clause-list

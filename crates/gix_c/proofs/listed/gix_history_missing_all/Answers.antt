@@ -1,8 +1,8 @@
 use Rattle.std.proofs.Common.{◌∙◌, ap, map}
-use Rattle.gix_c.specs.Answers.{bytes_in}
-use Rattle.gix_c.specs.Behind.{commits_in}
-use Rattle.gix_c.specs.Noted.{Remembers}
-use Rattle.gix_c.proofs.Lacking.{all-missing}
+use Rattle.gix_c_core.specs.Answers.{bytes_in}
+use Rattle.gix_c_core.specs.Behind.{commits_in}
+use Rattle.gix_c_core.specs.Noted.{Remembers}
+use Rattle.gix_c_core.proofs.Lacking.{all-missing}
 use Rattle.gix_c.proofs.listed.gix_history_missing_all.Goals as goal
 
 pub returns-clause-list : goal.returns-clause-list

@@ -1,6 +1,6 @@
 use Rattle.std.proofs.Common.{◌≡◌, ◌∙◌, ap, ℕ, List, ◌++◌, take, drop, length, length-drop}
 use Rattle.std.specs.Prelude.{min}
-use Rattle.gix_c.specs.declared.stock.Stock.{Stock}
+use Rattle.gix_c_core.specs.declared.stock.Stock.{Stock}
 use Rattle.gix_c.proofs.listed.gix_ids_read.Goals as goal
 
 pub returns-clause-read : goal.returns-clause-read

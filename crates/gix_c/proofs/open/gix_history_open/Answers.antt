@@ -3,8 +3,8 @@ use Rattle.gix_commitgraph.proofs.Falling.{fall-acyclic}
 use Rattle.gix_commitgraph.proofs.Joins.{joined-acyclic, joined-never_rise}
 use Rattle.gix_commitgraph.specs.FileCommits.{history_in}
 use Rattle.gix_commitgraph.specs.FileLevels.{IsLevelled}
-use Rattle.gix_c.specs.Opened.{IsMadeOf}
-use Rattle.gix_c.specs.declared.history.History.{History}
+use Rattle.gix_c_core.specs.Opened.{IsMadeOf}
+use Rattle.gix_c_core.specs.declared.history.History.{History}
 use Rattle.gix_c.proofs.open.gix_history_open.Goals as goal
 
 pub returns-clause-opened : goal.returns-clause-opened

@@ -4,11 +4,11 @@ use Rattle.gix_commitgraph.proofs.Falling.{fall-acyclic, fall-never_rise}
 use Rattle.gix_commitgraph.proofs.Joins.{joined-acyclic, joined-never_rise}
 use Rattle.gix_commitgraph.specs.ChainCommits.{chain_in}
 use Rattle.gix_revwalk.specs.History.{History as Commits, Has, entry_at, is_one_of, parents_in}
-use Rattle.gix_c.specs.Behind.{commits_in}
-use Rattle.gix_c.specs.ChainOpened.{IsMadeOver, bytes_of}
-use Rattle.gix_c.specs.declared.history.History.{History}
-use Rattle.gix_c.proofs.Copied.{all-ids}
-use Rattle.gix_c.proofs.Lacking.{noted-closed}
+use Rattle.gix_c_core.specs.Behind.{commits_in}
+use Rattle.gix_c_core.specs.ChainOpened.{IsMadeOver, bytes_of}
+use Rattle.gix_c_core.specs.declared.history.History.{History}
+use Rattle.gix_c_core.proofs.Copied.{all-ids}
+use Rattle.gix_c_core.proofs.Lacking.{noted-closed}
 use Rattle.gix_c.proofs.open_chain.gix_history_open_chain.Goals as goal
 
 pub returns-clause-opened : goal.returns-clause-opened

@@ -1,4 +1,0 @@
-use Rattle.gix_c.proofs.history.History.describe.Goals as goal
-
-pub returns-in-Partial-clause-described : goal.returns-in-Partial-clause-described
-returns-in-Partial-clause-described g c = rw c.in-Partial.is c.describe_partial.ensures.described

@@ -1,8 +1,0 @@
-use Rattle.std.proofs.Common.{ap, ◌∙◌}
-use Rattle.gix_c.specs.declared.stock.Stock.{Stock}
-use Rattle.gix_c.proofs.listed.place_of.Goals as goal
-
-pub returns : goal.returns
-returns c =
-    let put = c.in_ok-place.ensures in
-    (put.0, put.1, ap (λ (s : Stock). s.ids.items) put.2 ∙ c.in_ok-ids.ensures)

@@ -1,9 +1,0 @@
-//! States a law of partial histories, as the contract of a function.
-
-ghost use Rattle.gix_c.specs.Partial.{EachIsWhole};
-
-/// States that each history that has the commits that were put in is one that a partial history
-/// may be.
-pub fn each_is_whole()
-    ensures { EachIsWhole }
-{}

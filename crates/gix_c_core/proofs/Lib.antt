@@ -1,0 +1,10 @@
+pub mod AsBox
+pub mod Copied
+pub mod Values
+pub mod Fronts
+pub mod Lacking
+pub mod Named
+pub mod Parts
+pub mod Printed
+pub mod Undescribed
+pub mod Wholes
