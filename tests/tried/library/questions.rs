@@ -1,0 +1,141 @@
+//! Questions for the calls of `merge_base`, in tables.
+
+use crate::shared::faults::{Answered, Asks};
+use crate::shared::histories::{Row, are, id, ids, source_of};
+use fixtures::sources::{Failing, Turn};
+use gix_revision::error::NonEmpty;
+use gix_revision::graph::{Commit, Find, FindFault, Graph};
+use gix_revision::hash::ObjectId;
+use gix_revision::merge_base::{
+    Error, Flags, Simple, counted, is_ancestor, merge_base, octopus, octopus_bases, paint, reduce,
+};
+use std::alloc::{AllocError, Allocator, Global};
+
+/// Which function is called.
+#[derive(Clone, Copy, PartialEq)]
+pub enum Call {
+    Bases,
+    Counted,
+    Octopus,
+    OctopusBases,
+    Paint,
+    /// Takes the others alone.
+    Reduce,
+    /// Takes the first and one other. The answer is the first if the other reaches it.
+    Ancestor,
+}
+
+/// A call: the function, the history, the first id, the others, and the ids of the answer in order;
+/// those of painting in any order.
+#[derive(Clone, Copy)]
+pub struct Question(
+    pub Call,
+    pub &'static [Row<'static>],
+    pub u8,
+    pub &'static [u8],
+    pub &'static [u8],
+);
+
+/// Tests whether these are the ids of the digits, in order.
+pub fn are_bases<A: Allocator>(found: &Option<NonEmpty<ObjectId, A>>, digits: &[u8]) -> bool {
+    let Some(list) = found else {
+        return digits.is_empty();
+    };
+    for (base, digit) in list.iter().zip(digits) {
+        if *base != id(*digit) {
+            return false;
+        }
+    }
+    list.len() == digits.len()
+}
+
+/// Tests whether these are the ids of the digits, in any order, each once.
+pub fn are_set(list: &[ObjectId], digits: &[u8]) -> bool {
+    for digit in digits {
+        if !list.contains(&id(*digit)) {
+            return false;
+        }
+    }
+    list.len() == digits.len()
+}
+
+/// Tests whether this is the id of the digit, or `None` without a digit.
+pub fn is_one(found: Option<ObjectId>, digits: &[u8]) -> bool {
+    match digits.first() {
+        Some(digit) => found == Some(id(*digit)),
+        None => found.is_none(),
+    }
+}
+
+/// Tests whether the call answers that the only other id reaches the first.
+fn is_reached<S: Find, A: Allocator + Copy>(
+    alloc: A,
+    graph: &mut Graph<S, Commit<Flags, A>, A>,
+    first: ObjectId,
+    others: &[ObjectId],
+) -> Result<bool, Error> {
+    match others {
+        [of] => is_ancestor(alloc, first, *of, graph),
+        _ => Ok(false),
+    }
+}
+
+/// Tests whether the answer is that of the question with these others.
+fn is_right<S: Find, A: Allocator + Copy>(
+    alloc: A,
+    graph: &mut Graph<S, Commit<Flags, A>, A>,
+    question: &Question,
+    others: &[ObjectId],
+) -> Result<bool, Error> {
+    let (first, answer) = (id(question.2), question.4);
+    Ok(match question.0 {
+        Call::Bases => are_bases(&merge_base(alloc, first, others, graph)?, answer),
+        Call::Counted => are_bases(&counted(alloc, first, others, graph)?.0, answer),
+        Call::Octopus => is_one(octopus(alloc, first, others, graph)?, answer),
+        Call::OctopusBases => are(&octopus_bases(alloc, first, others, graph)?, answer),
+        Call::Ancestor => is_reached(alloc, graph, first, others)? != answer.is_empty(),
+        Call::Paint => are_set(&paint(alloc, first, others, graph)?.0, answer),
+        Call::Reduce => are(&reduce(alloc, others, graph)?, answer),
+    })
+}
+
+impl Asks for Question {
+    fn history(&self) -> &'static [Row<'static>] {
+        self.1
+    }
+
+    fn ask<S: Find, A: Allocator + Copy>(
+        &self,
+        _to: Global,
+        alloc: A,
+        graph: &mut Graph<S, Commit<Flags, A>, A>,
+    ) -> Result<Answered, AllocError> {
+        let others = ids(alloc, self.3)?;
+        Ok(match is_right(alloc, graph, self, &others) {
+            Ok(true) => Answered::AsWanted,
+            Ok(false) => Answered::Otherwise,
+            Err(Error::Source(_)) => Answered::SourceFailed,
+            Err(Error::OutOfMemory) => Answered::OutOfMemory,
+        })
+    }
+}
+
+/// Tests whether the call of a question fails with this text, or succeeds without one, over a
+/// source that fails at each such turn.
+pub fn is_refused_with(
+    alloc: Global,
+    question: &Question,
+    turn: Turn,
+    text: Option<&'static str>,
+) -> Result<bool, AllocError> {
+    let others = ids(alloc, question.3)?;
+    let inner = source_of(alloc, question.1)?;
+    let mut graph = Graph::new(alloc, Failing::new(inner, turn, FindFault::Failed, 0));
+    Ok(
+        match (is_right(alloc, &mut graph, question, &others), text) {
+            (Err(Error::Source(refusal)), Some(text)) => refusal == Simple(text),
+            (Ok(_), None) => true,
+            _ => false,
+        },
+    )
+}
