@@ -9,7 +9,7 @@
 //!   after these digits and a colon: `DIGITS: ID..`.
 //! - `object_lines --rows OBJECTS` prints what `--commits` prints, but reads the commit-graph.
 //! - `object_lines --levels OBJECTS` prints `LEVEL ID` for each commit of the commit-graph, with its
-//!   generation number, or `none` if git has not computed it.
+//!   generation number, which is 0 if git has not computed it.
 //! - `object_lines --inflate` inflates streams. A line `content LIMIT HEX` is answered by the length of
 //!   the stream and its content, `LENGTH HEX`, and `front N HEX` by the first N bytes of the content.
 //!   Bytes are in hexadecimal digits. If a call fails, the answer is the text of its error.
