@@ -5,7 +5,7 @@ use gix_config::{before_zero, is_blank};
 use std::alloc::{AllocError, AllocFailed, Allocator, Global};
 
 /// Says why a small file is not read.
-#[derive(Clone, Copy, Debug, PartialEq, Eq)]
+#[derive(Clone, Copy)]
 pub enum SmallFileError {
     /// The line with this number, counted from 1, does not begin with an id.
     BadLine(u64),
@@ -26,7 +26,7 @@ impl<T: Drop> From<AllocFailed<T>> for SmallFileError {
 }
 
 /// Is a line of `info/grafts`: a commit, and the parents that it is given.
-#[derive(Debug, Drop)]
+#[derive(Drop)]
 pub struct Graft<A: Allocator = Global> {
     pub id: ObjectId,
     pub parents: Vec<ObjectId, A>,

@@ -12,7 +12,7 @@ use crate::source::{is_folder, is_known, place, reason_of};
 use std::alloc::Allocator;
 
 /// Says how a git folder was found.
-#[derive(Clone, Copy, Debug, PartialEq, Eq)]
+#[derive(Clone, Copy, PartialEq, Eq)]
 enum Way {
     /// By `GIT_DIR`.
     Explicit,

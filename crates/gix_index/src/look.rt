@@ -16,7 +16,7 @@ use std::alloc::{AllocError, Allocator, Global};
 const ATTRIBUTES: &[u8] = b".gitattributes";
 
 /// Says how a file and its entry compare.
-#[derive(Clone, Copy, Debug, PartialEq, Eq)]
+#[derive(Clone, Copy, PartialEq, Eq)]
 pub enum Look {
     /// The file is that of the entry.
     Kept,

@@ -289,7 +289,7 @@ impl<F: Folders + Drop, A: Allocator + Copy> Repository<F, A> {
         let Err(error) = self.settings.check_remotes(self.alloc) else {
             return Ok(());
         };
-        if error.reason == Reason::OutOfMemory {
+        if matches!(error.reason, Reason::OutOfMemory) {
             Err(Refusal::OutOfMemory)
         } else {
             Err(Refusal::NotSupported)
