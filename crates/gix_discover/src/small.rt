@@ -2,6 +2,7 @@
 
 use gix_base::hash::ObjectId;
 use gix_config::{before_zero, is_blank};
+use memchr::memchr;
 use std::alloc::{AllocError, AllocFailed, Allocator, Global};
 
 /// Says why a small file is not read.
@@ -34,7 +35,7 @@ pub struct Graft<A: Allocator = Global> {
 
 /// Splits a text after its first line. The line feed is in neither part.
 fn split_line(text: &[u8]) -> (&[u8], &[u8]) {
-    match text.iter().position(|b| *b == b'\n') {
+    match memchr(b'\n', text) {
         Some(len) => {
             let (line, rest) = text.split_at(len.min(text.len()));
             (line, rest.get(1..).unwrap_or(&[]))
