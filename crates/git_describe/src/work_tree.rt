@@ -52,7 +52,7 @@ fn index_path(session: &Session<'_>, top: &[u8]) -> Result<Vec<u8>, Stop> {
 
 /// Returns the end for an index that is not read.
 fn unparsed(session: &Session<'_>, error: gix_index::Error) -> Stop {
-    if error == gix_index::Error::OutOfMemory {
+    if matches!(error, gix_index::Error::OutOfMemory) {
         return Stop::OutOfMemory;
     }
     let mut text = Vec::new(session.alloc);

@@ -8,6 +8,7 @@ use crate::unpeeled::{say_lost, say_no_commit, say_unpeeled};
 use gix_repository::Refusal;
 use gix_revision::hash::ObjectId;
 use gix_revision::object::Kind;
+use memchr::memmem;
 use std::alloc::Global;
 
 /// The name of an end that is left out.
@@ -70,7 +71,7 @@ pub struct Shorthand<'w> {
 
 /// Returns a text before the first of two bytes, and what is behind them.
 fn cut<'w>(word: &'w [u8], mark: &[u8]) -> Option<(&'w [u8], &'w [u8])> {
-    let at = word.windows(2).position(|two| two == mark)?;
+    let at = memmem::find(word, mark)?;
     Some((word.get(..at)?, word.get(at.saturating_add(2)..)?))
 }
 

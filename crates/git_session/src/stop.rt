@@ -12,7 +12,7 @@ pub const FATAL: u8 = 128;
 pub const NOT_READ: u8 = 129;
 
 /// Says why a word ends without its answer.
-#[derive(Debug, Drop)]
+#[derive(Drop)]
 pub enum Stop {
     /// git ends with these lines and the status 128.
     Fatal(Vec<u8>),
@@ -67,7 +67,7 @@ pub fn not_read(alloc: Global, parts: &[&[u8]]) -> Stop {
 pub fn refused(alloc: Global, error: &DiscoverError) -> Stop {
     let mut text = Vec::new(alloc);
     match write!(text, "{error}") {
-        Ok(()) if error.reason != Reason::OutOfMemory => Stop::NotRead(text),
+        Ok(()) if !matches!(error.reason, Reason::OutOfMemory) => Stop::NotRead(text),
         _ => Stop::OutOfMemory,
     }
 }

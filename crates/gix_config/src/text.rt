@@ -6,14 +6,14 @@ use crate::value::read_value;
 use std::alloc::{AllocError, AllocFailed, Allocator, Global};
 
 /// Is a setting with its name, such as `core.abbrev`. It has no value if there is no `=`.
-#[derive(Debug, Drop)]
+#[derive(Drop)]
 pub struct Entry<A: Allocator = Global> {
     pub name: Vec<u8, A>,
     pub value: Option<Vec<u8, A>>,
 }
 
 /// Says why the text of a config file is not read.
-#[derive(Clone, Copy, Debug, PartialEq, Eq)]
+#[derive(Clone, Copy)]
 pub enum ParseError {
     /// The line with this number is malformed.
     BadLine(u64),

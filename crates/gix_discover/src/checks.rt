@@ -12,8 +12,10 @@
 use crate::color::is_color_value;
 use crate::error::{DiscoverError, Reason, about, about_value};
 use crate::filters::filter_fault;
+use crate::head::after_blanks;
 use crate::remotes::sibling_fault;
-use gix_config::{Entry, boolean, is_blank, is_word, number, size, value_of};
+use gix_config::{Entry, boolean, is_word, number, size, value_of};
+use memchr::memrchr;
 use std::alloc::Allocator;
 
 /// Says what the value of a setting has to be.
@@ -216,7 +218,7 @@ static INDEX: [(&'static str, Kind); 6] = [
 /// Returns `None` if the name does not begin with `section`, or has no subsection.
 pub(crate) fn parts<'a>(name: &'a [u8], section: &[u8]) -> Option<(&'a [u8], &'a [u8])> {
     let rest = name.strip_prefix(section)?;
-    let dot = rest.iter().rposition(|b| *b == b'.')?;
+    let dot = memrchr(b'.', rest)?;
     Some((rest.get(..dot)?, rest.get(dot.checked_add(1)?..)?))
 }
 
@@ -253,14 +255,6 @@ fn abbrev_fault(text: &[u8]) -> Option<Reason> {
         return None;
     }
     range_fault(text, 4, 40, Reason::BadAbbrev)
-}
-
-/// Returns a text without the blanks at its front.
-fn after_blanks(text: &[u8]) -> &[u8] {
-    match text.iter().position(|b| !is_blank(*b)) {
-        Some(start) => text.get(start..).unwrap_or(&[]),
-        None => &[],
-    }
 }
 
 /// Tells whether the rules of `core.whitespace` contradict one another.

@@ -2,7 +2,9 @@
 
 use crate::environment::{Environment, Pair, Variable};
 use crate::error::{DiscoverError, Reason, about};
+use crate::head::after_blanks;
 use gix_config::{Entry, is_blank, key_name};
+use memchr::memchr;
 use std::alloc::{AllocError, Allocator};
 
 /// Returns the setting with a key and a value.
@@ -79,7 +81,7 @@ fn add_older<A: Allocator + Copy>(
     text: &[u8],
     list: &mut Vec<Entry<A>, A>,
 ) -> Result<(), DiscoverError<A>> {
-    let (key, value) = match text.iter().position(|b| *b == b'=') {
+    let (key, value) = match memchr(b'=', text) {
         Some(at) => {
             let (key, rest) = text.split_at(at.min(text.len()));
             (key, rest.strip_prefix(b"="))
@@ -125,14 +127,6 @@ fn add_parameter<'a, A: Allocator + Copy>(
             Ok(Some(rest))
         }
         _ => Ok(None),
-    }
-}
-
-/// Returns what follows blanks.
-fn after_blanks(text: &[u8]) -> &[u8] {
-    match text.iter().position(|b| !is_blank(*b)) {
-        Some(len) => text.get(len..).unwrap_or(&[]),
-        None => &[],
     }
 }
 

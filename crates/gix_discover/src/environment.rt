@@ -6,7 +6,7 @@ use std::alloc::{AllocError, Allocator, Global};
 use std::env::{Env, FillError};
 
 /// Names an environment variable.
-#[derive(Clone, Copy, Debug, PartialEq, Eq)]
+#[derive(Clone, Copy, PartialEq, Eq)]
 pub enum Variable {
     GitDir,
     CommonDir,

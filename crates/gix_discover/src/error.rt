@@ -5,7 +5,7 @@ use std::fmt;
 use std::io::ErrorKind;
 
 /// Says why a repository is not found, or why it or its settings are refused.
-#[derive(Clone, Copy, Debug, PartialEq, Eq)]
+#[derive(Clone, Copy)]
 pub enum Reason {
     /// There is no repository in the current folder or above it.
     NoRepository,
@@ -93,7 +93,7 @@ pub enum Reason {
 }
 
 /// Is a reason, with the path or the setting that it is about.
-#[derive(Debug, Drop)]
+#[derive(Drop)]
 pub struct DiscoverError<A: Allocator = Global> {
     pub reason: Reason,
     /// Has the path, or the name of the setting, if the reason is about one.

@@ -16,7 +16,7 @@ const MOST_STEPS: u32 = 5;
 const MOST_BYTES: usize = 4096;
 
 /// Returns what follows blanks at the front of a text.
-fn after_blanks(text: &[u8]) -> &[u8] {
+pub(crate) fn after_blanks(text: &[u8]) -> &[u8] {
     match text.iter().position(|b| !is_blank(*b)) {
         Some(len) => text.get(len..).unwrap_or(&[]),
         None => &[],

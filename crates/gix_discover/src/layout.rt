@@ -5,7 +5,7 @@ use std::alloc::{Allocator, Global};
 /// Is where the parts of a repository are (gitrepository-layout).
 ///
 /// A path that is not absolute begins at the current folder of the process.
-#[derive(Debug, Drop)]
+#[derive(Drop)]
 pub struct Layout<A: Allocator = Global> {
     /// The git folder: `HEAD` and what belongs to one worktree.
     pub git_dir: Vec<u8, A>,

@@ -1,5 +1,6 @@
 //! Joins and takes apart paths.
 
+use memchr::memrchr;
 use std::alloc::{AllocError, Allocator};
 
 /// Tells whether a path is absolute.
@@ -48,7 +49,7 @@ pub(crate) fn resolved<A: Allocator>(
 
 /// Returns the bytes before the last slash of a path, and the slash; empty if there is none.
 pub(crate) fn folder_of(path: &[u8]) -> &[u8] {
-    match path.iter().rposition(|b| *b == b'/') {
+    match memrchr(b'/', path) {
         Some(at) => path.get(..at.saturating_add(1)).unwrap_or(path),
         None => b"",
     }

@@ -6,7 +6,7 @@ use std::io::{self, ErrorKind};
 use std::os::unix::fs::MetadataExt;
 
 /// Says what is at a path.
-#[derive(Clone, Copy, Debug, PartialEq, Eq)]
+#[derive(Clone, Copy, PartialEq, Eq)]
 pub enum PathKind {
     File,
     Folder,
@@ -14,7 +14,7 @@ pub enum PathKind {
 }
 
 /// Is what the system knows of a path.
-#[derive(Clone, Copy, Debug, PartialEq, Eq)]
+#[derive(Clone, Copy)]
 pub struct Place {
     pub kind: PathKind,
     /// The number of the user to whom it belongs.

@@ -1,5 +1,7 @@
 //! Decides what is a refspec (git-fetch, "<refspec>"; git-push, "<refspec>...").
 
+use memchr::memrchr;
+
 /// Tells whether two bytes are beside each other somewhere.
 fn has_pair(name: &[u8], first: u8, second: u8) -> bool {
     let mut last = 0u8;
@@ -54,7 +56,7 @@ fn is_source(name: &[u8]) -> bool {
 
 /// Splits a refspec at its last colon, if it has one.
 fn sides(text: &[u8]) -> (&[u8], Option<&[u8]>) {
-    match text.iter().rposition(|b| *b == b':') {
+    match memrchr(b':', text) {
         Some(colon) => (
             text.get(..colon).unwrap_or(&[]),
             Some(text.get(colon.saturating_add(1)..).unwrap_or(&[])),

@@ -18,7 +18,7 @@ use gix_config::{Entry, all_values, is_word, number};
 use std::alloc::{AllocError, Allocator, Global};
 
 /// Says how many digits abbreviated object names have (git-config, "core.abbrev").
-#[derive(Clone, Copy, Debug, PartialEq, Eq)]
+#[derive(Clone, Copy)]
 pub enum Abbrev {
     /// As many as the number of objects asks for.
     Auto,

@@ -2,10 +2,11 @@
 
 use gix_base::hash::ObjectId;
 use gix_config::{before_zero, is_blank};
+use memchr::memchr;
 use std::alloc::{AllocError, AllocFailed, Allocator, Global};
 
 /// Says why a small file is not read.
-#[derive(Clone, Copy, Debug, PartialEq, Eq)]
+#[derive(Clone, Copy)]
 pub enum SmallFileError {
     /// The line with this number, counted from 1, does not begin with an id.
     BadLine(u64),
@@ -26,7 +27,7 @@ impl<T: Drop> From<AllocFailed<T>> for SmallFileError {
 }
 
 /// Is a line of `info/grafts`: a commit, and the parents that it is given.
-#[derive(Debug, Drop)]
+#[derive(Drop)]
 pub struct Graft<A: Allocator = Global> {
     pub id: ObjectId,
     pub parents: Vec<ObjectId, A>,
@@ -34,7 +35,7 @@ pub struct Graft<A: Allocator = Global> {
 
 /// Splits a text after its first line. The line feed is in neither part.
 fn split_line(text: &[u8]) -> (&[u8], &[u8]) {
-    match text.iter().position(|b| *b == b'\n') {
+    match memchr(b'\n', text) {
         Some(len) => {
             let (line, rest) = text.split_at(len.min(text.len()));
             (line, rest.get(1..).unwrap_or(&[]))

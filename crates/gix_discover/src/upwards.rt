@@ -9,10 +9,11 @@ use crate::owner::{check_bare, check_named, is_own};
 use crate::paths::{absolute, folder_of, is_absolute, resolved, within};
 use crate::places::{PathKind, Places};
 use crate::source::{is_folder, is_known, place, reason_of};
+use memchr::memrchr;
 use std::alloc::Allocator;
 
 /// Says how a git folder was found.
-#[derive(Clone, Copy, Debug, PartialEq, Eq)]
+#[derive(Clone, Copy, PartialEq, Eq)]
 enum Way {
     /// By `GIT_DIR`.
     Explicit,
@@ -194,7 +195,7 @@ impl<'a, F: Places, A: Allocator + Copy> Search<'a, F, A> {
             return None;
         }
         let folder = self.environment.folder().get(..len)?;
-        let slash = folder.iter().rposition(|b| *b == b'/')?;
+        let slash = memrchr(b'/', folder)?;
         match ceiling {
             Some(ceiling) if slash <= ceiling => None,
             _ => Some(slash.max(1)),

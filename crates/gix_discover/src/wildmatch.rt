@@ -3,6 +3,7 @@
 //! The pattern becomes a list of parts. The parts that may come next are a set, which each byte of
 //! the text moves on, so that no pattern makes the comparison slow.
 
+use memchr::memmem;
 use std::alloc::{AllocError, Allocator};
 use std::mem::swap;
 
@@ -46,10 +47,7 @@ fn class_end(pattern: &[u8], from: usize) -> Option<usize> {
             [] => return None,
             [b']', ..] if !is_first => return Some(at),
             [b'\\', _, ..] => 2,
-            [b'[', b':', rest @ ..] => match rest
-                .windows(2)
-                .position(|two| two == b":]".as_slice())
-            {
+            [b'[', b':', rest @ ..] => match memmem::find(rest, b":]") {
                 Some(len) => len.saturating_add(4),
                 None => 1,
             },
@@ -107,7 +105,7 @@ fn is_in_range(from: u8, to: u8, byte: u8) -> bool {
 fn first_member(class: &[u8], byte: u8) -> (bool, &[u8]) {
     match class {
         [] => (false, class),
-        [b'[', b':', rest @ ..] => match rest.windows(2).position(|two| two == b":]".as_slice()) {
+        [b'[', b':', rest @ ..] => match memmem::find(rest, b":]") {
             Some(len) => {
                 let (name, after) = rest.split_at(len.min(rest.len()));
                 (is_in_named(name, byte), after.get(2..).unwrap_or(&[]))

@@ -14,7 +14,7 @@ use std::io::ErrorKind;
 pub use system::System;
 
 /// Says why a file was not opened, listed or read.
-#[derive(Clone, Copy, Debug, PartialEq, Eq)]
+#[derive(Clone, Copy)]
 pub enum FileError {
     /// The system failed.
     Failed(ErrorKind),

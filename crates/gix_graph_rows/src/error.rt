@@ -11,7 +11,7 @@ use std::io::ErrorKind;
 use thiserror::Error as StdError;
 
 /// Names a file of an `objects` folder.
-#[derive(Clone, Copy, Debug, PartialEq, Eq)]
+#[derive(Clone, Copy, Debug)]
 pub enum GraphFile {
     /// `info/commit-graph`.
     Single,
@@ -22,7 +22,7 @@ pub enum GraphFile {
 }
 
 /// Says how a file is damaged.
-#[derive(Clone, Copy, Debug, PartialEq, Eq)]
+#[derive(Clone, Copy, Debug)]
 pub enum Damage {
     /// The file ends before the bytes that are needed.
     CutOff,
@@ -51,7 +51,7 @@ pub enum Damage {
 }
 
 /// Says what a file has that is not supported.
-#[derive(Clone, Copy, Debug, PartialEq, Eq)]
+#[derive(Clone, Copy, Debug)]
 pub enum Feature {
     /// A version other than 1.
     Version,
@@ -62,7 +62,7 @@ pub enum Feature {
 }
 
 /// Says why a commit-graph is not read.
-#[derive(Clone, Copy, Debug, PartialEq, Eq, Drop, StdError)]
+#[derive(Clone, Copy, Debug, Drop, StdError)]
 pub enum Error {
     /// A file that the chain names is missing.
     Missing(GraphFile),

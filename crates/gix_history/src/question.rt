@@ -9,7 +9,7 @@ use gix_revwalk::Seed;
 use gix_revwalk::graph::Find;
 
 /// Says why a question has no answer.
-#[derive(Clone, Copy, Debug, PartialEq, Eq)]
+#[derive(Clone, Copy)]
 pub enum Refused {
     /// The source failed.
     Source,

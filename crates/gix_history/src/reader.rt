@@ -10,7 +10,7 @@ use gix_revwalk::graph::SourceCommit;
 use std::alloc::Allocator;
 
 /// Says where a commit is from.
-#[derive(Clone, Copy, Debug, PartialEq, Eq)]
+#[derive(Clone, Copy, PartialEq, Eq)]
 pub enum Origin {
     /// The commit is what a content says whose hash is the commit's id.
     Authentic,

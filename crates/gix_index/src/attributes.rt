@@ -6,7 +6,7 @@ use gix_files::{FileError, Opened};
 use std::alloc::Allocator;
 
 /// Says what git may do to the content of a file before it is hashed.
-#[derive(Clone, Copy, Debug, PartialEq, Eq, PartialOrd, Ord)]
+#[derive(Clone, Copy, PartialEq, Eq, PartialOrd, Ord)]
 pub enum Conversion {
     /// Nothing.
     Nothing,

@@ -18,7 +18,7 @@ pub struct Looked<'i, A: Allocator = Global> {
 }
 
 /// The first path at which a working tree and a commit differ.
-#[derive(Clone, Copy, Debug, PartialEq, Eq)]
+#[derive(Clone, Copy)]
 pub struct Difference<'d> {
     pub path: &'d [u8],
     /// The mode that the index has there, or the commit if the index has none.

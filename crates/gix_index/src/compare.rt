@@ -16,7 +16,7 @@ const EMPTY: ObjectId = ObjectId([
 ]);
 
 /// Says what is compared.
-#[derive(Clone, Copy, Debug, PartialEq, Eq)]
+#[derive(Clone, Copy)]
 pub struct Checks {
     /// Whether a file that may be executed differs from one that may not (`core.fileMode`).
     pub mode: bool,
@@ -29,7 +29,7 @@ pub struct Checks {
 }
 
 /// Says how a file and its entry compare.
-#[derive(Clone, Copy, Debug, PartialEq, Eq)]
+#[derive(Clone, Copy)]
 pub enum Change {
     /// The size and the times in whole seconds are as noted, and so are owner, group and inode, as
     /// far as they are compared.

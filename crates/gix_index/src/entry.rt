@@ -15,7 +15,7 @@ use std::alloc::{AllocError, Allocator, Global};
 const LEAST: usize = 64;
 
 /// What the system said of a file when its entry was written, each number modulo 2^32.
-#[derive(Clone, Copy, Debug, PartialEq, Eq)]
+#[derive(Clone, Copy)]
 pub struct Stat {
     pub ctime: u32,
     pub ctime_nanos: u32,
@@ -30,7 +30,7 @@ pub struct Stat {
 }
 
 /// An entry of the index.
-#[derive(Debug, Drop)]
+#[derive(Drop)]
 pub struct Entry<A: Allocator = Global> {
     pub stat: Stat,
     /// The kind of the file, and whether it may be executed: `0o100644`, `0o100755`, `0o120000` or

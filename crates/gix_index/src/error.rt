@@ -5,7 +5,7 @@ use std::fmt;
 use thiserror::Error as StdError;
 
 /// Why the bytes of an index file are not read.
-#[derive(Clone, Copy, Debug, PartialEq, Eq, Drop, StdError)]
+#[derive(Clone, Copy, Debug, Drop, StdError)]
 pub enum Error {
     /// The file is shorter than a header and a checksum.
     TooShort,

@@ -21,7 +21,7 @@ const HEADER: usize = 12;
 const CHECKSUM: usize = 20;
 
 /// What an index file says.
-#[derive(Debug, Drop)]
+#[derive(Drop)]
 pub struct Index<A: Allocator = Global> {
     /// The entries, in the order of the file. git sorts them by their paths, and those of one path
     /// by their stages.

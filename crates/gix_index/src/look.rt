@@ -10,13 +10,14 @@ use gix_base::hash::ObjectId;
 use gix_base::object::Kind;
 use gix_files::FileError;
 use gix_object::object_id;
+use memchr::memrchr;
 use std::alloc::{AllocError, Allocator, Global};
 
 /// The name of a file of attributes.
 const ATTRIBUTES: &[u8] = b".gitattributes";
 
 /// Says how a file and its entry compare.
-#[derive(Clone, Copy, Debug, PartialEq, Eq)]
+#[derive(Clone, Copy, PartialEq, Eq)]
 pub enum Look {
     /// The file is that of the entry.
     Kept,
@@ -50,13 +51,13 @@ pub struct WorkTree<F: Statuses + Copy + Drop, A: Allocator + Copy = Global> {
 
 /// Returns the path before the last slash; `None` if there is none.
 fn folder_of(path: &[u8]) -> Option<&[u8]> {
-    let at = path.iter().rposition(|b| *b == b'/')?;
+    let at = memrchr(b'/', path)?;
     path.get(..at)
 }
 
 /// Returns the path behind the last slash.
 fn name_of(path: &[u8]) -> &[u8] {
-    match path.iter().rposition(|b| *b == b'/') {
+    match memrchr(b'/', path) {
         Some(at) => path.get(at.saturating_add(1)..).unwrap_or(&[]),
         None => path,
     }

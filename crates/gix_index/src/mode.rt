@@ -1,7 +1,7 @@
 //! Has the kinds of files that modes say (gitformat-index, "Index entry"; stat(2)).
 
 /// The kind of a file.
-#[derive(Clone, Copy, Debug, PartialEq, Eq)]
+#[derive(Clone, Copy, PartialEq, Eq)]
 pub enum FileKind {
     /// A folder, or a tree in a tree.
     Folder,

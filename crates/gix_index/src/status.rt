@@ -1,7 +1,7 @@
 //! What the system says of a file.
 
 /// What the system says of a file (stat(2)), each number modulo 2^32 as the index has it.
-#[derive(Clone, Copy, Debug, PartialEq, Eq)]
+#[derive(Clone, Copy)]
 pub struct Status {
     pub mode: u32,
     pub size: u32,

@@ -9,7 +9,7 @@ use std::alloc::{Allocator, Global};
 pub const TREE: u32 = 0o040000;
 
 /// An entry of a tree.
-#[derive(Clone, Copy, Debug, PartialEq, Eq)]
+#[derive(Clone, Copy)]
 pub struct TreeEntry<'t> {
     /// The mode as an index has it: `0o100644`, `0o100755`, `0o120000` or `0o160000`; `0o040000` of
     /// a tree.
@@ -27,7 +27,7 @@ impl<'t> TreeEntry<'t> {
 }
 
 /// A file of a commit, with its path from the top.
-#[derive(Debug, Drop)]
+#[derive(Drop)]
 pub struct Listed<A: Allocator = Global> {
     /// The path. That of a tree has a slash at its end.
     pub path: Vec<u8, A>,

@@ -16,7 +16,7 @@ use std::fmt;
 use thiserror::Error as StdError;
 
 /// Says why a content is not read as the commit of an id.
-#[derive(Clone, Copy, Debug, PartialEq, Eq, Drop, StdError)]
+#[derive(Clone, Copy, Debug, Drop, StdError)]
 pub enum ReadError {
     /// The content, as that of a commit, has another id.
     WrongId,

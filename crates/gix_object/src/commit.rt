@@ -40,7 +40,7 @@ impl<A: Allocator> Commit<A> {
 }
 
 /// Says why the content of a commit is not read.
-#[derive(Clone, Copy, Debug, PartialEq, Eq, Drop, StdError)]
+#[derive(Clone, Copy, Debug, Drop, StdError)]
 pub enum ParseError {
     /// The content does not begin with a line `tree ID`, or nothing follows this line.
     BadTree,

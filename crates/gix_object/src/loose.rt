@@ -14,7 +14,7 @@ use itoa::Buffer;
 pub const MOST_HEADER: usize = 28;
 
 /// The header of a loose object.
-#[derive(Clone, Copy, Debug, PartialEq, Eq)]
+#[derive(Clone, Copy)]
 pub struct Header {
     pub kind: Kind,
     /// Counts the bytes of the content, as the header says.

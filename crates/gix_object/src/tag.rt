@@ -14,7 +14,7 @@ use std::fmt;
 use thiserror::Error as StdError;
 
 /// What a tag says of its target, and its own name and date.
-#[derive(Clone, Copy, Debug, PartialEq, Eq)]
+#[derive(Clone, Copy)]
 pub struct Tag<'a> {
     /// The id of the object that is tagged.
     pub target: ObjectId,
@@ -29,7 +29,7 @@ pub struct Tag<'a> {
 }
 
 /// Says why the content of a tag is not read.
-#[derive(Clone, Copy, Debug, PartialEq, Eq, Drop, StdError)]
+#[derive(Clone, Copy, Debug, Drop, StdError)]
 pub enum ParseError {
     /// The content does not begin with a line `object ID`, or it has fewer than 64 bytes.
     BadObject,

@@ -14,7 +14,7 @@ use std::io::ErrorKind;
 use thiserror::Error as StdError;
 
 /// The name of a pack, without the extension: its first bytes, if it is longer than 48.
-#[derive(Clone, Copy, Debug, PartialEq, Eq)]
+#[derive(Clone, Copy, Debug)]
 pub struct PackName {
     bytes: [u8; 48],
     len: usize,
@@ -46,7 +46,7 @@ impl fmt::Display for PackName {
 }
 
 /// Says which file of an `objects` folder a [`FileName`] names.
-#[derive(Clone, Copy, Debug, PartialEq, Eq)]
+#[derive(Clone, Copy, Debug)]
 pub enum FileKind {
     /// The folder itself.
     Objects,
@@ -63,7 +63,7 @@ pub enum FileKind {
 }
 
 /// Names a file of a store.
-#[derive(Clone, Copy, Debug, PartialEq, Eq)]
+#[derive(Clone, Copy, Debug)]
 pub struct FileName {
     /// 0 is the folder on which the store was opened, and `n` the alternate with this number.
     /// [`Store::folder`](crate::Store::folder) returns its path.
@@ -72,7 +72,7 @@ pub struct FileName {
 }
 
 /// Says how a file is damaged.
-#[derive(Clone, Copy, Debug, PartialEq, Eq)]
+#[derive(Clone, Copy, Debug)]
 pub enum Damage {
     /// The file is too short for its tables.
     CutOff,
@@ -91,7 +91,7 @@ pub enum Damage {
 }
 
 /// Says what a file has that is not supported.
-#[derive(Clone, Copy, Debug, PartialEq, Eq)]
+#[derive(Clone, Copy, Debug)]
 pub enum Feature {
     /// An index of another version than 2.
     IndexVersion,
@@ -108,7 +108,7 @@ pub enum Feature {
 /// `Damaged`, `Unsupported` and `Failed` say what a call on a file returned, or what its bytes were.
 /// No contract says so, because files have no model: they may change between two reads. For the same
 /// reason, `Missing` says only that no file was found that should have the object.
-#[derive(Clone, Copy, Debug, PartialEq, Eq, Drop, StdError)]
+#[derive(Clone, Copy, Debug, Drop, StdError)]
 pub enum Error {
     /// No copy of the object was found.
     Missing(ObjectId),

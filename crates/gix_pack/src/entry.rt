@@ -10,7 +10,7 @@ use gix_base::hash::ObjectId;
 use gix_base::object::Kind;
 
 /// How an entry has its object.
-#[derive(Clone, Copy, Debug, PartialEq, Eq)]
+#[derive(Clone, Copy)]
 pub enum Body {
     /// The entry has the content of an object of this kind.
     Whole(Kind),
@@ -21,7 +21,7 @@ pub enum Body {
 }
 
 /// The header of an entry. A zlib stream follows it in the pack.
-#[derive(Clone, Copy, Debug, PartialEq, Eq)]
+#[derive(Clone, Copy)]
 pub struct Entry {
     pub body: Body,
     /// The number of bytes to which the stream inflates, as the header says: the content, or the

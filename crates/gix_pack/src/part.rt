@@ -181,7 +181,7 @@ pub fn position(ids: &[u8], id: ObjectId) -> Option<usize>
 }
 
 /// What some ids in a row tell of an id.
-#[derive(Clone, Copy, Debug, PartialEq, Eq)]
+#[derive(Clone, Copy)]
 pub enum Told {
     /// It is at this position among them.
     At(usize),
@@ -240,7 +240,7 @@ pub fn id_in(ids: &[u8], position: usize) -> Option<ObjectId>
 }
 
 /// What the 4 bytes for the offset of an object say.
-#[derive(Clone, Copy, Debug, PartialEq, Eq)]
+#[derive(Clone, Copy)]
 pub enum Offset {
     /// The offset in the pack.
     Small(u32),

@@ -11,6 +11,7 @@ use gix_ref_text::lines::cut;
 use gix_ref_text::loose::{self, Said};
 use gix_ref_text::name::is_full_name;
 use gix_ref_text::packed::{peeled_after, peeled_in, record};
+use memchr::memrchr;
 use std::alloc::{Allocator, Global};
 use std::io::ErrorKind;
 
@@ -165,7 +166,7 @@ impl<A: Allocator + Copy> Listing<A> {
 
 /// Returns the folder in which the loose references with a prefix lie, with its last slash.
 fn folder_of(prefix: &[u8]) -> &[u8] {
-    match prefix.iter().rposition(|b| *b == b'/') {
+    match memrchr(b'/', prefix) {
         Some(last) if prefix.starts_with(b"refs/") => {
             prefix.get(..last.saturating_add(1)).unwrap_or(b"refs/")
         }

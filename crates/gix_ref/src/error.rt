@@ -11,7 +11,7 @@ use thiserror::Error as StdError;
 const KEPT: usize = 200;
 
 /// Names a reference, a file or a folder in an error: its first 200 bytes, if it is longer.
-#[derive(Clone, Copy, Debug, PartialEq, Eq)]
+#[derive(Clone, Copy, Debug)]
 pub struct ErrorName {
     bytes: [u8; KEPT],
     len: usize,
@@ -45,7 +45,7 @@ impl ErrorName {
 }
 
 /// Why a reference or a reflog is not read.
-#[derive(Clone, Copy, Debug, PartialEq, Eq, Drop, StdError)]
+#[derive(Clone, Copy, Debug, Drop, StdError)]
 pub enum Error {
     /// The system failed to open, list or read the file or folder with this name.
     Failed(ErrorName, ErrorKind),

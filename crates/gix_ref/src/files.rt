@@ -3,6 +3,7 @@
 use crate::error::{ErrorName, Fault};
 use gix_files::{FileError, Folders, Opened};
 use gix_ref_text::lines::cut;
+use memchr::memrchr;
 use std::alloc::Allocator;
 use std::io::ErrorKind;
 
@@ -44,7 +45,7 @@ fn read_whole<O: Opened, A: Allocator>(file: &O, bytes: &mut Vec<u8, A>) -> Resu
 /// Returns the folder and the name of the first part of a path that is not UTF-8.
 fn first_odd(path: &[u8], valid: usize) -> (&[u8], &[u8]) {
     let front = path.get(..valid).unwrap_or(&[]);
-    let begin = match front.iter().rposition(|b| *b == b'/') {
+    let begin = match memrchr(b'/', front) {
         Some(slash) => slash.saturating_add(1),
         None => 0,
     };

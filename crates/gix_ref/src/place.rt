@@ -1,6 +1,8 @@
 //! Finds the files of a reference (gitrepository-layout, "refs", "worktrees"; git-worktree,
 //! "Refs").
 
+use memchr::memchr;
+
 /// Where a reference is: `folder` and `below` are one name, cut after `worktrees/ID/`.
 #[derive(Clone, Copy)]
 pub(crate) struct Place<'a> {
@@ -31,7 +33,7 @@ pub(crate) fn is_per_worktree(name: &[u8]) -> bool {
 /// Cuts a name `worktrees/ID/NAME` before the name of a reference that each worktree has.
 fn cut_worktree(name: &[u8]) -> Option<(&[u8], &[u8])> {
     let rest = name.strip_prefix(b"worktrees/")?;
-    let len = rest.iter().position(|b| *b == b'/')?;
+    let len = memchr(b'/', rest)?;
     let (folder, below) = name.split_at_checked(len.saturating_add(11))?;
     is_per_worktree(below).then_some((folder, below))
 }

@@ -30,7 +30,7 @@ pub struct Reflog<A: Allocator = Global> {
 }
 
 /// What a reflog says of a date.
-#[derive(Clone, Copy, Debug, PartialEq, Eq)]
+#[derive(Clone, Copy)]
 pub enum AtDate {
     /// The date is after the newest entry, or between an entry and the next one, which has no old
     /// id. git answers with the id that the reference has now.

@@ -8,6 +8,7 @@ use gix_files::Folders;
 use gix_odb::Object;
 use gix_revision::hash::{ObjectId, Prefix};
 use gix_revision::object::Kind;
+use memchr::memmem;
 use std::alloc::Allocator;
 
 /// How many objects are listed at most.
@@ -54,8 +55,7 @@ fn moment(line: &[u8]) -> Option<(i64, i64)> {
 
 /// Adds the subject of a commit: the first paragraph of its message, on one line.
 fn push_subject<A: Allocator>(to: &mut Vec<u8, A>, content: &[u8]) -> Result<(), Refusal> {
-    let begin = content.windows(2).position(|two| two == b"\n\n".as_slice());
-    let Some(begin) = begin else {
+    let Some(begin) = memmem::find(content, b"\n\n") else {
         return Ok(());
     };
     let message = content.get(begin.saturating_add(2)..).unwrap_or(&[]);

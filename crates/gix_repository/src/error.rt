@@ -6,7 +6,7 @@ use std::fmt;
 use thiserror::Error as StdError;
 
 /// Why a repository is not read further, or why a text names nothing.
-#[derive(Clone, Copy, Debug, PartialEq, Eq, Drop, StdError)]
+#[derive(Clone, Copy, Debug, Drop, StdError)]
 pub enum Refusal {
     /// The text names nothing.
     Unknown,

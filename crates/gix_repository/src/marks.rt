@@ -4,6 +4,7 @@
 //! git reads dates by the local clock and time zone, which are not known here.
 
 use gix_revision::spec::parse::delegate::ReflogLookup;
+use memchr::{memchr, memchr2, memmem};
 
 /// The units of a fixed length that are counted back.
 static UNITS: [&str; 5] = ["second", "minute", "hour", "day", "week"];
@@ -17,11 +18,11 @@ const MOST_SECONDS: u64 = 4_000_000_000;
 
 /// Returns what stands in the first braces behind `@` of a revision: `2` of `main@{2}`.
 pub(crate) fn first_mark(text: &[u8]) -> &[u8] {
-    let Some(at) = text.windows(2).position(|two| two == b"@{".as_slice()) else {
+    let Some(at) = memmem::find(text, b"@{") else {
         return b"";
     };
     let rest = text.get(at.saturating_add(2)..).unwrap_or(&[]);
-    match rest.iter().position(|b| *b == b'}') {
+    match memchr(b'}', rest) {
         Some(len) => rest.get(..len).unwrap_or(rest),
         None => rest,
     }
@@ -42,7 +43,7 @@ fn number(text: &[u8]) -> Option<u64> {
 
 /// Returns the word before the first space or dot of a text, and what is behind that.
 fn cut_word(text: &[u8]) -> Option<(&[u8], &[u8])> {
-    let at = text.iter().position(|b| matches!(*b, b' ' | b'.'))?;
+    let at = memchr2(b' ', b'.', text)?;
     Some((text.get(..at)?, text.get(at.saturating_add(1)..)?))
 }
 

@@ -24,7 +24,7 @@ const ZEROS: ObjectId = ObjectId([0u8; 20]);
 const REPLACEMENTS: &[u8] = b"refs/replace/";
 
 /// Which files are believed.
-#[derive(Clone, Copy, Debug, PartialEq, Eq)]
+#[derive(Clone, Copy, PartialEq, Eq)]
 pub enum Mode {
     /// The commit-graph is, and so are changes of commits: grafts, replace references, shallow
     /// histories.
@@ -36,7 +36,7 @@ pub enum Mode {
 }
 
 /// Why a repository is not opened.
-#[derive(Debug, Drop)]
+#[derive(Drop)]
 pub enum OpenError<A: Allocator = Global> {
     /// It is not found, or it or its settings are refused.
     Discover(DiscoverError<A>),

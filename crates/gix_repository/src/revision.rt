@@ -13,6 +13,7 @@ use gix_revision::spec::parse::delegate::{
 };
 use gix_revision::spec::parse::{Delegate, parse};
 use gix_revision::{object, spec};
+use memchr::{memchr, memchr3, memmem, memrchr};
 use std::alloc::Allocator;
 
 /// Looks up what a revision names, call by call.
@@ -36,11 +37,11 @@ struct Lookup<'r, 't, F: Folders + Drop, A: Allocator + Copy> {
 
 /// Returns the name and the mark with which a text begins, such as `main@{u}`.
 fn marked(text: &[u8]) -> &[u8] {
-    let Some(at) = text.windows(2).position(|two| two == b"@{".as_slice()) else {
+    let Some(at) = memmem::find(text, b"@{") else {
         return text;
     };
     let mark = text.get(at..).unwrap_or(&[]);
-    match mark.iter().position(|b| *b == b'}') {
+    match memchr(b'}', mark) {
         Some(len) => text.get(..=at.saturating_add(len)).unwrap_or(text),
         None => text,
     }
@@ -49,7 +50,7 @@ fn marked(text: &[u8]) -> &[u8] {
 /// Tests whether a text ends with a mark such as `@{4294967297}`, of a number that does not fit 31
 /// bits. git then counts modulo 2^32.
 fn is_too_great(marked: &[u8]) -> bool {
-    let Some(at) = marked.iter().rposition(|b| *b == b'{') else {
+    let Some(at) = memrchr(b'{', marked) else {
         return false;
     };
     let mark = marked.get(at.saturating_add(1)..).unwrap_or(&[]);
@@ -336,7 +337,7 @@ struct Outcome<A: Allocator> {
 
 /// Returns what the digits with which a text begins mean, by what stands behind them.
 fn wanted_by(text: &[u8]) -> Wanted {
-    let Some(at) = text.iter().position(|b| matches!(*b, b'~' | b'^' | b':')) else {
+    let Some(at) = memchr3(b'~', b'^', b':', text) else {
         return Wanted::Any;
     };
     let rest = text.get(at..).unwrap_or(&[]);

@@ -6,6 +6,7 @@ use crate::error::Refusal;
 use crate::repository::Repository;
 use gix_files::Folders;
 use gix_revision::hash::ObjectId;
+use memchr::memmem;
 use std::alloc::Allocator;
 use std::collections::{BinaryHeap, HashMap};
 
@@ -29,13 +30,13 @@ fn is_plain(text: &[u8]) -> bool {
 /// the content ends at its first zero byte.
 fn message_of(content: &[u8]) -> Option<&[u8]> {
     let text = content.split(|b| *b == 0).next().unwrap_or(&[]);
-    let at = text.windows(2).position(|two| two == b"\n\n".as_slice())?;
+    let at = memmem::find(text, b"\n\n")?;
     text.get(at.saturating_add(2)..)
 }
 
 /// Returns whether a text contains another one.
 fn contains(text: &[u8], part: &[u8]) -> bool {
-    part.is_empty() || text.windows(part.len().max(1)).any(|window| window == part)
+    memmem::find(text, part).is_some()
 }
 
 impl<F: Folders + Drop, A: Allocator + Copy> Repository<F, A> {

@@ -8,6 +8,7 @@ use gix_discover::Reason;
 use gix_files::Folders;
 use gix_ref::Reference;
 use gix_revision::spec::parse::delegate::SiblingBranch;
+use memchr::{memchr, memrchr};
 use std::alloc::{AllocError, Allocator};
 
 /// Returns the name to which a refspec such as `+refs/heads/*:refs/remotes/origin/*` maps another;
@@ -18,7 +19,7 @@ fn mapped<A: Allocator>(
     name: &[u8],
 ) -> Result<Option<Vec<u8, A>>, AllocError> {
     let refspec = refspec.strip_prefix(b"+".as_slice()).unwrap_or(refspec);
-    let Some(colon) = refspec.iter().position(|b| *b == b':') else {
+    let Some(colon) = memchr(b':', refspec) else {
         return Ok(None);
     };
     let from = unabbreviated(refspec.get(..colon).unwrap_or(&[]));
@@ -43,7 +44,7 @@ fn is_there<A: Allocator>(
 
 /// Splits one side of a refspec at its star.
 fn split_star(side: &[u8]) -> Option<(&[u8], &[u8])> {
-    let star = side.iter().position(|b| *b == b'*')?;
+    let star = memchr(b'*', side)?;
     Some((side.get(..star)?, side.get(star.checked_add(1)?..)?))
 }
 
@@ -68,7 +69,7 @@ fn map_star<A: Allocator>(
 
 /// Tests whether git reads no name here, since a part before a slash is empty or has dots alone.
 fn is_odd_path(name: &[u8]) -> bool {
-    let Some(slash) = name.iter().rposition(|b| *b == b'/') else {
+    let Some(slash) = memrchr(b'/', name) else {
         return false;
     };
     let folders = name.get(..slash).unwrap_or(&[]);
@@ -289,7 +290,7 @@ impl<F: Folders + Drop, A: Allocator + Copy> Repository<F, A> {
         let Err(error) = self.settings.check_remotes(self.alloc) else {
             return Ok(());
         };
-        if error.reason == Reason::OutOfMemory {
+        if matches!(error.reason, Reason::OutOfMemory) {
             Err(Refusal::OutOfMemory)
         } else {
             Err(Refusal::NotSupported)

@@ -1,7 +1,7 @@
 //! Describes options, and what is read from a command line.
 
 /// Says whether an option has a value.
-#[derive(Clone, Copy, PartialEq, Eq)]
+#[derive(Clone, Copy)]
 pub enum Value {
     /// It has none.
     Never,

@@ -6,7 +6,7 @@ ghost use Rattle.parse_options.specs.Exact.{Held, held_of, IsHeld, Reads, ReadsA
 use crate::text::after_front;
 
 /// Says where an option has its value.
-#[derive(Clone, Copy, PartialEq, Eq)]
+#[derive(Clone, Copy)]
 pub enum Takes {
     /// It has none: `NAME`.
     Nothing,

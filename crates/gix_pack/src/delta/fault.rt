@@ -9,7 +9,7 @@ use std::fmt;
 use thiserror::Error as StdError;
 
 /// Says what is wrong with a delta.
-#[derive(Clone, Copy, Debug, PartialEq, Eq, Drop, StdError)]
+#[derive(Clone, Copy, Debug, Drop, StdError)]
 pub enum DeltaFault {
     /// The delta has fewer than 4 bytes, or does not begin with the size of the base.
     SourceSize,
@@ -38,7 +38,7 @@ impl fmt::Display for DeltaFault {
 }
 
 /// Says why a delta is not applied.
-#[derive(Clone, Copy, Debug, PartialEq, Eq, Drop, StdError)]
+#[derive(Clone, Copy, Debug, Drop, StdError)]
 pub enum ApplyError {
     /// The delta has a fault.
     Malformed(DeltaFault),

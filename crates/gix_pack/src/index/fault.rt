@@ -9,7 +9,7 @@ use std::fmt;
 use thiserror::Error as StdError;
 
 /// Says what is wrong with bytes that were not opened.
-#[derive(Clone, Copy, Debug, PartialEq, Eq, Drop, StdError)]
+#[derive(Clone, Copy, Debug, Drop, StdError)]
 pub enum OpenFault {
     /// The bytes are too few for a header and a fanout table.
     TooShort,
