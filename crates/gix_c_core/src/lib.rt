@@ -1,7 +1,7 @@
 //! What the functions of the C library do, without these functions themselves.
 //!
-//! `gix_c` exports the functions. It is a static library, which other crates cannot use, and which
-//! `rt` keeps nothing of. So its contracts, proofs and definitions are here as far as possible.
+//! `gix_c` exports the functions. It is a static library, of which `rt` keeps nothing, so it is
+//! proved twice. All types, definitions and longer work are therefore here.
 #![tactic(auto)]
 
 pub mod abbreviate;
