@@ -26,13 +26,16 @@ package: ## build, then put packages that need no toolchain into dist/
 uninstall: ## remove what install has put below PREFIX
 	DESTDIR='$(DESTDIR)' tools/install --uninstall '$(PREFIX)'
 
+doc: ## make the reference of all crates from their sources, in dist/doc
+	tools/doc
+
 bench: ## measure the speed, beside git's
 	tools/bench
 
-clean: ## remove what was proved and built, and the packages
+clean: ## remove what was proved and built, the packages and the reference
 	rm -rf crates/*/out dist
 
 help: ## print the targets
 	@sed -nE 's/^([a-z-]+): ## (.*)/make \1\t\2/p' Makefile | expand -t 17
 
-.PHONY: all revtool git-proved try check install package uninstall bench clean help
+.PHONY: all revtool git-proved try check install package uninstall doc bench clean help
