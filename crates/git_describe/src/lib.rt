@@ -30,9 +30,6 @@ use gix_revision::hash::ObjectId;
 use gix_revision::object::Kind;
 use std::alloc::Global;
 
-/// How many commits with names are compared with their objects.
-const MOST_COMPARED: usize = 16;
-
 /// Describes commits, one after another.
 #[derive(Drop)]
 struct Describer<'w> {
@@ -249,23 +246,16 @@ impl<'w> Describer<'w> {
         Ok(())
     }
 
-    /// Returns the name of an ancestor. git passes over one of which only the commit-graph has the
-    /// commit.
-    fn kept_name(&self, session: &mut Session<'_>, commit: ObjectId) -> Result<Name, Stop> {
-        match self.table.name_of(commit) {
-            Some(name) if !session.repository.is_lost(commit)? => Ok(name),
-            _ => Err(not_read(session.alloc, &[b"a commit that has a name is missing"])),
-        }
-    }
-
-    /// Prints the name of an ancestor.
+    /// Prints the name of an ancestor, and how many commits are ahead of it.
     fn print_near(
         &mut self,
         session: &mut Session<'_>,
         commit: ObjectId,
         near: Candidate,
     ) -> Result<(), Stop> {
-        let name = self.kept_name(session, near.id)?;
+        let Some(name) = self.table.name_of(near.id) else {
+            return Err(not_read(session.alloc, &[b"a commit that has a name is missing"]));
+        };
         let printed = self.print_name(session, &name)?;
         if printed.is_misnamed || self.asked.abbrev != Abbrev::Nothing {
             print_suffix(session, self.asked.abbrev, near.depth, commit)?;
@@ -282,14 +272,6 @@ impl<'w> Describer<'w> {
         }
     }
 
-    /// Has the first commits with names compared with their objects, as git reads these commits.
-    fn compare_named(&self, session: &mut Session<'_>) -> Result<(), Stop> {
-        for name in self.table.names().iter().take(MOST_COMPARED) {
-            session.repository.is_in_graph(name.object)?;
-        }
-        Ok(())
-    }
-
     /// Returns the nearest name of an ancestor; `None` if there is none.
     fn nearest(
         &mut self,
@@ -299,7 +281,6 @@ impl<'w> Describer<'w> {
         if !self.table.has_taken() {
             return Ok(None);
         }
-        self.compare_named(session)?;
         let search = self.search();
         let found = walk_from(session, commit, &self.table, search)?;
         if self.question.is_none() {

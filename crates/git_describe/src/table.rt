@@ -119,10 +119,6 @@ fn end_of(session: &mut Session<'_>, tag: Annotation) -> Result<Option<ObjectId>
 
 /// Returns where an object leads that may be a tag.
 fn followed(session: &mut Session<'_>, id: ObjectId) -> Result<Peeled, Stop> {
-    // A commit that was read is no tag.
-    if session.repository.origin(id).is_some() {
-        return Ok(Peeled::itself(id));
-    }
     let Some(tag) = said(session, id)? else {
         return Ok(Peeled::itself(id));
     };

@@ -157,7 +157,12 @@ impl Walk {
     }
 
     /// Makes the commit at a place a candidate if it has a name. Returns whether there was room.
-    fn admit(&mut self, place: usize, table: &Table) -> Result<bool, AllocError> {
+    fn admit(
+        &mut self,
+        session: &mut Session<'_>,
+        place: usize,
+        table: &Table,
+    ) -> Result<bool, Stop> {
         let Some(met) = self.met.get_mut(place) else {
             return Ok(true);
         };
@@ -167,6 +172,7 @@ impl Walk {
         if self.candidates.len() >= self.search.most {
             return Ok(false);
         }
+        session.repository.check(met.id)?;
         met.marks |= bit_of(self.candidates.len());
         self.candidates.push(Candidate {
             id: met.id,
@@ -238,7 +244,7 @@ impl Walk {
             let Some((time, place)) = self.next()? else {
                 break;
             };
-            if !self.admit(place, table)? {
+            if !self.admit(session, place, table)? {
                 self.wait(place, time)?;
                 break;
             }

@@ -2,7 +2,6 @@
 //! `--contains`, `--merged`).
 
 use crate::list::Candidate;
-use git_session::names::commit_of;
 use git_session::session::Session;
 use git_session::stop::Stop;
 use gix_questions::{Contains, ReachableNewestFirst};
@@ -47,11 +46,7 @@ impl Filter {
 /// Looks up the commits of references, and keeps those that lead to one.
 fn keep_commits(session: &mut Session<'_>, candidates: &mut Vec<Candidate>) -> Result<(), Stop> {
     for candidate in candidates.iter_mut() {
-        candidate.commit = if session.repository.is_in_graph(candidate.id)? {
-            Some(candidate.id)
-        } else {
-            commit_of(session, candidate.id)?
-        };
+        candidate.commit = session.repository.commit_of_reference(candidate.id)?;
     }
     candidates.retain(|candidate| candidate.commit.is_some());
     Ok(())

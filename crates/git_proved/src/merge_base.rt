@@ -207,10 +207,7 @@ fn logged_ids(session: &mut Session<'_>, reference: &[u8]) -> Result<Vec<ObjectI
 fn commits_among(session: &mut Session<'_>, ids: &[ObjectId]) -> Result<Vec<ObjectId>, Stop> {
     let mut commits = Vec::new(session.alloc);
     for id in ids {
-        if session.repository.is_lost(*id)? {
-            return Err(Stop::from(Refusal::NotSupported));
-        }
-        if commit_of(session, *id)? == Some(*id) {
+        if session.repository.commit_of_reference(*id)? == Some(*id) {
             commits.push(*id)?;
         }
     }

@@ -154,7 +154,10 @@ fn peeled(session: &mut Session<'_>, start: Start) -> Result<Option<ObjectId>, S
     let mut id = start.id;
     for _ in 0..u32::MAX {
         match session.repository.kind(id)? {
-            Kind::Commit => return Ok(Some(id)),
+            Kind::Commit => {
+                session.repository.check(id)?;
+                return Ok(Some(id));
+            }
             Kind::Tag => match target(session, id, start.is_excluded)? {
                 Some(target) => id = target,
                 None => return Ok(None),

@@ -6,6 +6,7 @@ ghost use Rattle.gix_revwalk.specs.Held.{entry_of};
 ghost use Rattle.gix_history.specs.Origins.{IsReadOf};
 ghost use Rattle.gix_odb.specs.Stores.{IsCommitOf};
 
+use crate::error::Refusal;
 use gix_files::Folders;
 use gix_graph_rows::GraphRows;
 use gix_history::{Origin, Read, ReadError, Reader};
@@ -18,10 +19,6 @@ use std::collections::{BTreeMap, BTreeSet};
 
 /// How many changed objects are looked at when a repository is opened.
 const MOST_LOOKED_AT: usize = 1024;
-
-/// How many commits of the commit-graph are compared with their objects, before a batch goes on to
-/// the next question.
-const MOST_COMPARED: usize = 16;
 
 /// The bits of a commit date that a commit-graph file has (gitformat-commit-graph, "Commit Data").
 const DATE_BITS: i64 = 0x3_ffff_ffff;
@@ -153,13 +150,15 @@ pub(crate) struct Commits<F: Folders + Drop, A: Allocator + Copy> {
     pub(crate) store: Store<F, A>,
     /// The commit-graph, if it is used. In authentic mode it is not, nor if anything is changed.
     pub(crate) rows: Option<GraphRows<F, A>>,
+    /// Whether the question goes on without the commit-graph, since a row is damaged.
+    pub(crate) is_without_rows: bool,
     pub(crate) changes: Changes<A>,
     /// Why the last commit was not read from objects.
     pub(crate) error: Option<gix_odb::Error>,
     /// Why the commit-graph cannot be used further.
     pub(crate) damage: Option<gix_graph_rows::Error>,
-    /// The commits of the commit-graph that were compared with their objects.
-    pub(crate) compared: BTreeSet<ObjectId, A>,
+    /// The commits whose objects were read for the question, and agree with their rows.
+    pub(crate) checked: BTreeSet<ObjectId, A>,
 }
 
 /// Returns the error of a history for one of the object database.
@@ -190,42 +189,50 @@ fn authentic<A: Allocator, B: Allocator>(
 }
 
 impl<F: Folders + Drop, A: Allocator + Copy> Commits<F, A> {
+    /// Returns the commit-graph, if the question uses it.
+    fn used_rows(&mut self) -> Option<&mut GraphRows<F, A>> {
+        if self.is_without_rows {
+            None
+        } else {
+            self.rows.as_mut()
+        }
+    }
+
     /// Returns whether the commit-graph has a commit. One that is damaged has none.
     pub(crate) fn has_row(&mut self, id: ObjectId) -> Result<bool, AllocError> {
-        let Some(rows) = self.rows.as_mut() else {
+        let alloc = self.alloc;
+        let Some(rows) = self.used_rows() else {
             return Ok(false);
         };
-        match rows.has(self.alloc, id) {
+        match rows.has(alloc, id) {
             Ok(is_there) => Ok(is_there),
             Err(gix_graph_rows::Error::OutOfMemory) => Err(AllocError),
             Err(_) => Ok(false),
         }
     }
 
-    /// Compares a commit of the commit-graph with its object. Returns `false` if the file says
-    /// something else.
+    /// Reads the object of a commit that a question or a reference names, once for each question.
     ///
-    /// A commit is compared once, and at most 16 are. One that the file lacks, or whose object is
-    /// not read, counts as right.
-    pub(crate) fn is_row_right(&mut self, id: ObjectId) -> Result<bool, AllocError> {
-        let Some(rows) = self.rows.as_mut() else {
-            return Ok(true);
-        };
-        if self.compared.len() >= MOST_COMPARED || self.compared.contains(&id) {
-            return Ok(true);
+    /// # Errors
+    ///
+    /// - `Object` if it was not read, or is no well-formed commit.
+    /// - `Differs` if the commit-graph says something else of the commit.
+    /// - `Graph` if the row of the commit is damaged.
+    /// - `OutOfMemory` if an allocation failed.
+    pub(crate) fn check(&mut self, id: ObjectId) -> Result<(), Refusal> {
+        if self.checked.contains(&id) {
+            return Ok(());
         }
-        let row = match rows.commit(self.alloc, id) {
-            Ok(Some(row)) => row,
-            Ok(None) => return Ok(true),
-            Err(gix_graph_rows::Error::OutOfMemory) => return Err(AllocError),
-            Err(_) => return Ok(false),
-        };
-        self.compared.insert(id)?;
-        match self.store.commit(self.alloc, id) {
-            Ok(object) => Ok(is_same(&row, &object)),
-            Err(gix_odb::Error::OutOfMemory) => Err(AllocError),
-            Err(_) => Ok(true),
+        let alloc = self.alloc;
+        let object = self.store.commit(alloc, id)?;
+        if let Some(rows) = self.used_rows() {
+            match rows.commit(alloc, id)? {
+                Some(row) if !is_same(&row, &object) => return Err(Refusal::Differs(id)),
+                _ => {}
+            }
         }
+        self.checked.insert(id)?;
+        Ok(())
     }
 
     /// Looks a commit up in the commit-graph.
@@ -236,10 +243,11 @@ impl<F: Folders + Drop, A: Allocator + Copy> Commits<F, A> {
     ) -> Result<Option<Read<B>>, ReadError>
         ensures { IfOk result (IsReadOf id) }
     {
-        let Some(rows) = self.rows.as_mut() else {
+        let own = self.alloc;
+        let Some(rows) = self.used_rows() else {
             return Ok(None);
         };
-        match rows.commit(self.alloc, id) {
+        match rows.commit(own, id) {
             Ok(Some(commit)) => Ok(Some(Read {
                 commit: commit.copied(alloc)?,
                 origin: Origin::File,

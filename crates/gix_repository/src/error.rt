@@ -1,6 +1,7 @@
 //! The reasons why a question has no answer.
 
 use gix_history::ReadError;
+use gix_revision::hash::ObjectId;
 use std::alloc::{AllocError, AllocFailed};
 use std::fmt;
 use thiserror::Error as StdError;
@@ -26,6 +27,8 @@ pub enum Refusal {
     Reference(gix_ref::Error),
     /// The commit-graph is damaged where it was read.
     Graph(gix_graph_rows::Error),
+    /// The commit-graph says something else of this commit than its object.
+    Differs(ObjectId),
     /// An allocation failed.
     OutOfMemory,
 }
@@ -42,6 +45,9 @@ impl fmt::Display for Refusal {
             Refusal::Object(error) => write!(f, "{error}"),
             Refusal::Reference(error) => write!(f, "{error}"),
             Refusal::Graph(error) => write!(f, "{error}"),
+            Refusal::Differs(id) => {
+                write!(f, "the commit-graph says something else of commit {id} than its object")
+            }
             Refusal::OutOfMemory => f.write_str("out of memory"),
         }
     }
@@ -82,6 +88,15 @@ impl From<gix_ref::Error> for Refusal {
         match error {
             gix_ref::Error::OutOfMemory => Refusal::OutOfMemory,
             error => Refusal::Reference(error),
+        }
+    }
+}
+
+impl From<gix_graph_rows::Error> for Refusal {
+    fn from(error: gix_graph_rows::Error) -> Refusal {
+        match error {
+            gix_graph_rows::Error::OutOfMemory => Refusal::OutOfMemory,
+            error => Refusal::Graph(error),
         }
     }
 }

@@ -301,7 +301,8 @@ fn commits_of<F: Folders + Copy + Drop, A: Allocator + Copy>(
         changes,
         error: None,
         damage: None,
-        compared: BTreeSet::new(alloc),
+        is_without_rows: false,
+        checked: BTreeSet::new(alloc),
     })
 }
 

@@ -3,6 +3,7 @@
 use crate::error::Refusal;
 use crate::repository::Repository;
 use gix_files::Folders;
+use gix_history::ReadError;
 use gix_odb::{Object, Tag};
 use gix_revision::hash::ObjectId;
 use gix_revision::object::Kind;
@@ -43,60 +44,44 @@ impl<F: Folders + Drop, A: Allocator + Copy> Repository<F, A> {
 
     /// Returns the kind of an object, of the one that stands for it if it is replaced.
     ///
-    /// A commit of the commit-graph is compared with its object, as git reads the commits from which
-    /// a question starts. If they differ, the commit-graph is used no more.
-    ///
     /// # Errors
     ///
     /// - `Object` if the object was not read.
     /// - `NotSupported` if it is replaced by an object that is missing, or too many times in turn.
     /// - `OutOfMemory` if an allocation failed.
     pub fn kind(&mut self, id: ObjectId) -> Result<Kind, Refusal> {
-        // A commit that was read is one.
-        if self.origin(id).is_some() {
-            self.compare_start(id)?;
-            return Ok(Kind::Commit);
-        }
         let alloc = self.alloc;
         let by = self.stand_in(id)?;
+        if self.history.reader.checked.contains(&by) {
+            return Ok(Kind::Commit);
+        }
         match self.history.reader.store.kind(alloc, by) {
-            Ok(Kind::Commit) => {
-                self.compare_start(id)?;
-                Ok(Kind::Commit)
-            }
             Ok(kind) => Ok(kind),
             Err(error) => Err(not_read(id, by, error)),
         }
     }
 
-    /// Returns whether the commit-graph has the commit `id`, and the object database has an object
-    /// with this id. The commit is compared as [`Repository::kind`] does it.
+    /// Reads the object of a commit that a question or a reference names, as git does, whatever was
+    /// read of the commit before.
+    ///
+    /// If the row of the commit is damaged, the question goes on without the commit-graph.
     ///
     /// # Errors
     ///
-    /// - `Object` if an index or a folder was not read.
+    /// - `Object` if the object was not read, or is no well-formed commit.
+    /// - `Differs` if the commit-graph says something else of the commit.
+    /// - `NotSupported` as for [`Repository::kind`].
     /// - `OutOfMemory` if an allocation failed.
-    pub fn is_in_graph(&mut self, id: ObjectId) -> Result<bool, Refusal> {
-        let alloc = self.alloc;
-        self.compare_start(id)?;
-        if !self.history.reader.has_row(id)? {
-            return Ok(false);
+    pub fn check(&mut self, id: ObjectId) -> Result<(), Refusal> {
+        let by = self.stand_in(id)?;
+        match self.history.reader.check(by) {
+            Err(Refusal::Graph(_)) => {
+                self.leave_graph();
+                Ok(())
+            }
+            Err(Refusal::Object(error)) => Err(not_read(id, by, error)),
+            checked => checked,
         }
-        Ok(self.history.reader.store.has(alloc, id)?)
-    }
-
-    /// Returns whether the commit-graph has the commit `id`, but the object database has no object
-    /// with this id. git then takes the commit in some questions, and in others not.
-    ///
-    /// # Errors
-    ///
-    /// Those of [`Repository::is_in_graph`].
-    pub fn is_lost(&mut self, id: ObjectId) -> Result<bool, Refusal> {
-        let alloc = self.alloc;
-        if !self.history.reader.has_row(id)? {
-            return Ok(false);
-        }
-        Ok(!self.history.reader.store.has(alloc, id)?)
     }
 
     /// Returns what an annotated tag says.
@@ -162,11 +147,12 @@ impl<F: Folders + Drop, A: Allocator + Copy> Repository<F, A> {
     }
 
     /// Returns the object to which `id` leads through all tags, and its kind (gitrevisions,
-    /// `<rev>^{}`).
+    /// `<rev>^{}`). A commit is read as by [`Repository::check`].
     ///
     /// # Errors
     ///
-    /// - `Object` if an object on the way was not read.
+    /// - `Object` if an object on the way was not read, or a commit is malformed.
+    /// - `Differs` if the commit-graph says something else of the commit.
     /// - `NotSupported` if a tag says another kind than that of its object, or if there are more than
     ///   1,024 tags on the way.
     /// - `OutOfMemory` if an allocation failed.
@@ -175,6 +161,10 @@ impl<F: Folders + Drop, A: Allocator + Copy> Repository<F, A> {
         for _ in 0..MOST_TAGS {
             match at {
                 (tag, Kind::Tag) => at = self.tagged(tag)?,
+                (commit, Kind::Commit) => {
+                    self.check(commit)?;
+                    return Ok(at);
+                }
                 _ => return Ok(at),
             }
         }
@@ -186,12 +176,31 @@ impl<F: Folders + Drop, A: Allocator + Copy> Repository<F, A> {
     ///
     /// # Errors
     ///
-    /// - `Object` if an object on the way was not read.
-    /// - `OutOfMemory` if an allocation failed.
+    /// Those of [`Repository::peeled`].
     pub fn commit(&mut self, id: ObjectId) -> Result<Option<ObjectId>, Refusal> {
         match self.peeled(id)? {
             (id, Kind::Commit) => Ok(Some(id)),
             _ => Ok(None),
+        }
+    }
+
+    /// Returns the commit to which what a reference names leads through tags. As git does, it passes
+    /// over another kind of object, and one that is missing.
+    ///
+    /// # Errors
+    ///
+    /// - `Commit` if only the commit-graph has the commit. git takes it in some questions, and in
+    ///   others not.
+    /// - Those of [`Repository::peeled`], but for a missing object that no remote has promised.
+    pub fn commit_of_reference(&mut self, id: ObjectId) -> Result<Option<ObjectId>, Refusal> {
+        match self.commit(id) {
+            Err(Refusal::Object(gix_odb::Error::Missing(lost))) if !self.is_partial() => {
+                if self.history.reader.has_row(lost)? {
+                    return Err(Refusal::Commit(ReadError::Missing(lost)));
+                }
+                Ok(None)
+            }
+            found => found,
         }
     }
 }

@@ -7,13 +7,13 @@ use crate::commits::Commits;
 use crate::error::Refusal;
 use gix_discover::{Abbrev, Layout, Settings};
 use gix_files::Folders;
-use gix_history::{Beyond, History, Loaded, Origin, Question};
+use gix_history::{Beyond, History, Loaded, Question};
 use gix_ref::{Listing, References, Skipped, Why};
 use gix_revision::Seed;
 use gix_revision::date::Time;
 use gix_revision::graph::SourceCommit;
 use gix_revision::hash::ObjectId;
-use std::alloc::{AllocError, Allocator, Global};
+use std::alloc::{Allocator, Global};
 
 /// Reads a repository, and answers questions about it.
 ///
@@ -151,36 +151,28 @@ impl<F: Folders + Drop, A: Allocator + Copy> Repository<F, A> {
         &self.messages
     }
 
-    /// Forgets the messages, whether some are left out, and what was read of `packed-refs`. A batch
-    /// does so before each question.
+    /// Forgets the messages, whether some are left out, which commits were checked, and what was read
+    /// of `packed-refs`. A batch does so before each question.
     pub fn refresh(&mut self) {
         self.messages.clear();
         self.is_quiet = false;
         self.is_silent = false;
-        self.history.reader.compared.clear();
+        self.history.reader.checked.clear();
         self.references.refresh();
+        // What was read without the commit-graph is not for the next question, which uses it.
+        if self.history.reader.is_without_rows {
+            self.history.reader.is_without_rows = false;
+            self.history.forget(self.alloc);
+        }
     }
 
-    /// Forgets the commits that were read, and the commit-graph, since it is damaged.
-    fn leave_graph(&mut self)
+    /// Forgets the commits that were read, and goes on without the commit-graph, since it is damaged.
+    pub(crate) fn leave_graph(&mut self)
         ensures { self.new.loaded ≡ self.old.loaded }
     {
-        self.history.reader.rows = None;
+        self.history.reader.is_without_rows = true;
         self.history.reader.damage = None;
         self.history.forget(self.alloc);
-    }
-
-    /// Compares a commit from which a question starts with its object, as git reads it. If the
-    /// commit-graph says something else of it, the file is used no more.
-    ///
-    /// # Errors
-    ///
-    /// Fails if an allocation failed.
-    pub(crate) fn compare_start(&mut self, id: ObjectId) -> Result<(), AllocError> {
-        if !self.history.reader.is_row_right(id)? {
-            self.leave_graph();
-        }
-        Ok(())
     }
 
     /// Answers a question about the history.
@@ -233,11 +225,6 @@ impl<F: Folders + Drop, A: Allocator + Copy> Repository<F, A> {
             Ok(answer) => Ok(answer),
             Err(error) => Err(Refusal::from(error)),
         }
-    }
-
-    /// Returns where a commit is from that was read already; `None` if it was not.
-    pub fn origin(&self, id: ObjectId) -> Option<Origin> {
-        self.history.known.origin(id)
     }
 
     /// Returns whether objects may be missing that a remote has promised (gitglossary, "promisor").

@@ -46,11 +46,8 @@ impl<F: Folders + Drop, A: Allocator + Copy> Repository<F, A> {
         let listing = self.list_references(b"refs/")?;
         let mut tips = Vec::new(self.alloc);
         for listed in listing.references.iter() {
-            // git passes over what leads to no commit.
-            match self.commit(listed.id) {
-                Ok(Some(commit)) => tips.push(commit)?,
-                Err(Refusal::OutOfMemory) => return Err(Refusal::OutOfMemory),
-                _ => {}
+            if let Some(commit) = self.commit_of_reference(listed.id)? {
+                tips.push(commit)?;
             }
         }
         if let Some(reference) = self.references.follow(b"HEAD")? {
