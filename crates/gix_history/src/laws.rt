@@ -4,7 +4,7 @@ ghost use Rattle.gix_history.specs.HistoryLaws.{PlainIsAuthentic, TipsDetermine}
 
 /// States that loaded commits, without their levels, are an authentic history.
 ///
-/// So the laws of `gix_object` and `gix_odb` on authentic histories hold of them.
+/// So the laws of `gix_object` and `gix_authentic` on authentic histories hold of them.
 pub fn plain_is_authentic()
     ensures { PlainIsAuthentic }
 {}

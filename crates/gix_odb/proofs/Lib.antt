@@ -1,7 +1,2 @@
 pub mod Refused
 pub mod Rising
-pub mod Same
-pub mod SameRanges
-pub mod SameBases
-pub mod SameDescriptions
-pub mod Holds

@@ -1,10 +1,10 @@
 -- The texts of errors, and of what they name.
-use Rattle.std.specs.Prelude.{ℕ, ◌==◌, List, ◌++◌, codes, take, cond, Option, Some, None}
+use Rattle.std.specs.Prelude.{ℕ, ◌==◌, List, ◌++◌, codes, take, cond, encode_utf8_all, Option, Some, None}
 use Rattle.std.specs.Fmt.{decimal}
+use Rattle.bstr.specs.Utf8.{lossy_chars}
 use Rattle.gix_base.specs.Hash.{id_text}
 use Rattle.gix_object.specs.ObjectForm.{kind_name}
 use Rattle.gix_object.specs.ErrorTexts.{commit_error_text, tag_error_text}
-use Rattle.gix_describe.specs.FormatText.{name_text}
 use Rattle.gix_odb.specs.declared.error.PackName.{PackName}
 use Rattle.gix_odb.specs.declared.error.FileKind.{FileKind}
 use Rattle.gix_odb.specs.declared.error.FileKind.TheVariants.{Objects, Alternates, Packs, Index, Pack, Loose}
@@ -34,7 +34,7 @@ feature_text NotUtf8 = codes "path is not UTF-8"
 
 -- The name of a pack as text: its bytes if they are UTF-8, otherwise with U+FFFD.
 abbrev pub pack_text : PackName → List ℕ
-pack_text name = name_text (take name.len name.bytes)
+pack_text name = encode_utf8_all (lossy_chars (take name.len name.bytes))
 
 -- The text that names a file in an `objects` folder.
 abbrev pub file_kind_text : FileKind → List ℕ

@@ -1,4 +1,3 @@
 pub mod Stores
 pub mod Refusals
 pub mod ErrorTexts
-pub mod Determined

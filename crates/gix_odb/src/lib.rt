@@ -10,7 +10,6 @@
 //! - [`Store::has`] and [`Store::completions`] look ids up, and read no object.
 //! - A store reaches files by the traits of `gix_files`.
 //! - Each call that fails can be repeated.
-//! - [`laws`] states what the ids of commits determine, up to a collision of SHA-1 that is at hand.
 #![tactic(auto)]
 
 mod alternates;
@@ -20,7 +19,6 @@ mod completions;
 pub mod error;
 mod failure;
 mod index;
-pub mod laws;
 mod loose;
 mod object;
 mod pack;

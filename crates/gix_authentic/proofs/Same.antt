@@ -9,7 +9,7 @@ use Rattle.gix_revwalk.proofs.Ids.{same_id-itself}
 use Rattle.gix_merge_base.specs.Bases.{IsMaximal}
 use Rattle.gix_object.specs.Authentic.{IsClosed, Agree}
 use Rattle.gix_object.proofs.Determined.{reaches-same}
-use Rattle.gix_odb.specs.Determined.{BothHave}
+use Rattle.gix_authentic.specs.Determined.{BothHave}
 
 pub ends : (h : History) (a c : ObjectId) → IsAncestor h a c → Has h c
 ends h a c (itself here) = here

@@ -1,5 +1,5 @@
-use Rattle.gix_odb.proofs.Holds.{octopus-bases, octopus-base}
-use Rattle.gix_odb.proofs.laws.octopus_bases_are_determined.Goals as goal
+use Rattle.gix_authentic.proofs.Holds.{octopus-bases, octopus-base}
+use Rattle.gix_authentic.proofs.octopus_bases_are_determined.Goals as goal
 
 pub returns-clause-all : goal.returns-clause-all
 returns-clause-all c = octopus-bases

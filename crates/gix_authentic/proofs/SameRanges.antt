@@ -3,8 +3,8 @@ use Rattle.std.proofs.Common.{ℕ, List}
 use Rattle.gix_base.specs.declared.hash.ObjectId.{ObjectId}
 use Rattle.gix_revwalk.specs.History.{History}
 use Rattle.gix_object.specs.Authentic.{IsClosed, Agree}
-use Rattle.gix_odb.specs.Determined.{BothHave, IsBeyond, ListsBeyond, CountsBeyond}
-use Rattle.gix_odb.proofs.Same.{turned, swapped, of-one}
+use Rattle.gix_authentic.specs.Determined.{BothHave, IsBeyond, ListsBeyond, CountsBeyond}
+use Rattle.gix_authentic.proofs.Same.{turned, swapped, of-one}
 
 module _ (h k : History) (agree : Agree h k) (closed-h : IsClosed h) (closed-k : IsClosed k) (shown hidden : List ObjectId)
     (both-shown : BothHave h k shown) (both-hidden : BothHave h k hidden) where

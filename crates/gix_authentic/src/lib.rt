@@ -1,13 +1,14 @@
-//! States that answers are determined by ids, each law as the contract of a function.
+//! States what the ids of commits determine, each law as the contract of a function.
 //!
 //! Each law is about two histories in which every id is the hash of the commit's content, and which
 //! have all parents of their commits. If both have the ids of a question, the answers are the same,
 //! or two contents with one id are at hand.
+#![tactic(auto)]
 
-ghost use Rattle.gix_odb.specs.Determined.{AncestryIsDetermined, BasesAreDetermined};
-ghost use Rattle.gix_odb.specs.Determined.{RangesAreDetermined, ListsAreDetermined, CountsAreDetermined};
-ghost use Rattle.gix_odb.specs.Determined.{OctopusBasesAreDetermined, OctopusBaseIsDetermined};
-ghost use Rattle.gix_odb.specs.Determined.{DescriptionsAreDetermined};
+ghost use Rattle.gix_authentic.specs.Determined.{AncestryIsDetermined, BasesAreDetermined};
+ghost use Rattle.gix_authentic.specs.Determined.{RangesAreDetermined, ListsAreDetermined, CountsAreDetermined};
+ghost use Rattle.gix_authentic.specs.Determined.{OctopusBasesAreDetermined, OctopusBaseIsDetermined};
+ghost use Rattle.gix_authentic.specs.Determined.{DescriptionsAreDetermined};
 
 /// States that ids determine which commits they reach.
 pub fn ancestry_is_determined()

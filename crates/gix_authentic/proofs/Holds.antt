@@ -3,11 +3,11 @@ use Rattle.std.proofs.Common.{inl, inr, [], ◌∷◌}
 use Rattle.gix_revwalk.specs.History.{History}
 use Rattle.gix_object.specs.Authentic.{IsClosed, Agree}
 use Rattle.gix_object.proofs.Determined.{agree-or}
-use Rattle.gix_odb.specs.Determined.{HoldsOrCollides, AncestryIsDetermined, RangesAreDetermined, ListsAreDetermined, CountsAreDetermined, BasesAreDetermined, OctopusBasesAreDetermined, OctopusBaseIsDetermined, DescriptionsAreDetermined}
-use Rattle.gix_odb.proofs.Same.{turned, swapped, first-of, go, back}
-use Rattle.gix_odb.proofs.SameRanges.{beyond-over, beyond-back, lists-over, counts-over}
-use Rattle.gix_odb.proofs.SameBases.{bases-over, octopus-bases-over, octopus-base-over}
-use Rattle.gix_odb.proofs.SameDescriptions.{described-over}
+use Rattle.gix_authentic.specs.Determined.{HoldsOrCollides, AncestryIsDetermined, RangesAreDetermined, ListsAreDetermined, CountsAreDetermined, BasesAreDetermined, OctopusBasesAreDetermined, OctopusBaseIsDetermined, DescriptionsAreDetermined}
+use Rattle.gix_authentic.proofs.Same.{turned, swapped, first-of, go, back}
+use Rattle.gix_authentic.proofs.SameRanges.{beyond-over, beyond-back, lists-over, counts-over}
+use Rattle.gix_authentic.proofs.SameBases.{bases-over, octopus-bases-over, octopus-base-over}
+use Rattle.gix_authentic.proofs.SameDescriptions.{described-over}
 
 -- A statement about closed histories that agree holds of authentic ones, or a collision is at hand.
 holds : (S : History → History → Type 0) → ((h k : History) → Agree h k → IsClosed h → IsClosed k → S h k) → HoldsOrCollides S

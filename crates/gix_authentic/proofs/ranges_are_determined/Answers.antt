@@ -1,5 +1,5 @@
-use Rattle.gix_odb.proofs.Holds.{ranges, lists, counts}
-use Rattle.gix_odb.proofs.laws.ranges_are_determined.Goals as goal
+use Rattle.gix_authentic.proofs.Holds.{ranges, lists, counts}
+use Rattle.gix_authentic.proofs.ranges_are_determined.Goals as goal
 
 pub returns-clause-all : goal.returns-clause-all
 returns-clause-all c = ranges

@@ -12,8 +12,8 @@ use Rattle.gix_merge_base.specs.Keys.{choice}
 use Rattle.gix_merge_base.specs.Octopus.{IsOctopusBase, AreOctopusBases}
 use Rattle.gix_merge_base.specs.Premises.{GenerationsNeverRiseFrom}
 use Rattle.gix_object.specs.Authentic.{IsClosed, Agree}
-use Rattle.gix_odb.specs.Determined.{BothHave}
-use Rattle.gix_odb.proofs.Same.{ends, turned, swapped, first, first-of, others-of, by, go, edge, of-one, of-all, maximal}
+use Rattle.gix_authentic.specs.Determined.{BothHave}
+use Rattle.gix_authentic.proofs.Same.{ends, turned, swapped, first, first-of, others-of, by, go, edge, of-one, of-all, maximal}
 
 module _ (h k : History) (agree : Agree h k) (closed-h : IsClosed h) (closed-k : IsClosed k) (f : ObjectId) (os : List ObjectId) (both : BothHave h k (f ∷ os)) where
   common : (c : ObjectId) → IsCommon h f os c → IsCommon k f os c

@@ -8,7 +8,7 @@ use Rattle.gix_describe.specs.Ahead.{IsAheadOf, IsOlder, IsFallingEdge, IsPath, 
 use Rattle.gix_describe.specs.Ahead.IsPath.{stay, further}
 use Rattle.gix_describe.specs.Described.{Names, Description, IsNamedAncestor, IsLeastAhead, IsNamedBy, DescribesUnnamed, DescribesNamed, IsDescribed, name_at, nothing_to_find, unnamed, named}
 use Rattle.gix_object.specs.Authentic.{IsClosed, Agree}
-use Rattle.gix_odb.proofs.Same.{ends, turned, by, go, back, edge}
+use Rattle.gix_authentic.proofs.Same.{ends, turned, by, go, back, edge}
 
 -- Two sets with the same members have the same size.
 sized : (S T : ObjectId → Type 0) → ((c : ObjectId) → S c → T c) → ((c : ObjectId) → T c → S c) → (n : ℕ) → HasSize S n → HasSize T n

@@ -1,0 +1,5 @@
+pub mod Same
+pub mod SameRanges
+pub mod SameBases
+pub mod SameDescriptions
+pub mod Holds
