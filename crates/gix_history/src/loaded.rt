@@ -140,11 +140,16 @@ impl<A: Allocator + Copy> Loaded<A> {
 
     /// Guarantees that the loaded commits are acyclic, with ordered generations. Does nothing else.
     ///
-    /// Each parent is loaded, and each commit is what a content says whose hash is its id. Of the
-    /// premises of questions only *older parents* is left, for the depth of a description.
+    /// Each parent is loaded, and each commit is what a content says whose hash is its id. So the
+    /// commits that are loaded reach nothing else, whatever lies beyond. Of the premises of questions
+    /// about them only *older parents* is left, for the depth of a description.
     pub fn premises(&self)
         ensures acyclic { (ids : List ObjectId) → IsAcyclicFrom self.now ids }
         ensures ordered { (ids : List ObjectId) → GenerationsNeverRiseFrom self.now ids }
+        ensures acyclic_on { (beyond : History) (ids : List ObjectId) → All (Has self.now) ids
+            → IsAcyclicFrom (self.now ++ beyond) ids }
+        ensures ordered_on { (beyond : History) (ids : List ObjectId) → All (Has self.now) ids
+            → GenerationsNeverRiseFrom (self.now ++ beyond) ids }
         ensures closed { IsClosed self.now }
         ensures authentic { (id : ObjectId) (commit : Entry) → entry_at self.now id ≡ Some commit
             → IsCommitOf id commit }
