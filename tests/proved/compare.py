@@ -2,7 +2,7 @@
 
 Makes repositories in the folder, and asks both the same: fixed commands, and as many random ones as
 COMMANDS says. The answers are the same if the statuses and standard output are. With status 128 or
-129 the program prints nothing on standard output. With 0, 1 and 128 the errors and warnings on
+129 the program prints nothing on standard output, nor with 125. With 129 the message ends with `; ask git`. With 0, 1 and 128 the errors and warnings on
 standard error are git's, but each once.
 """
 
@@ -22,7 +22,7 @@ from dataclasses import dataclass
 import crafted
 from questions import Asker, Command
 from repositories import ENVIRONMENT, Repository, Room, chained, filed
-from shapes import refusal
+from shapes import OPTIONS, refusal, refused_variable
 from truth import History, truth
 
 # A command that takes longer has no answer.
@@ -115,9 +115,9 @@ class Comparison:
         """Returns how an answer differs from git's."""
         if command.place.twin and self.is_answer_of_twin(command, found):
             return None
-        if found.status == 129 and wanted.status != 129:
+        if found.status in (125, 129) and wanted.status != 129:
             return self.refusal(command, wanted, found)
-        if found.status in (128, 129) and found.out:
+        if found.status in (125, 128, 129) and found.out:
             return f"status {found.status} with output {found.out[:60]!r}"
         if wanted.status == 128 and found.status == 0 and is_of_damage(wanted):
             with self.lock:
@@ -142,16 +142,19 @@ class Comparison:
     def refusal(self, command: Command, wanted: Said, found: Said) -> str | None:
         """Notes a command that is refused, or returns that it has to be answered."""
         if found.out:
-            return f"status 129 with output {found.out[:60]!r}"
-        why = refusal(command.before, command.words, command.data, command.cwd,
-                      command.environment)
+            return f"status {found.status} with output {found.out[:60]!r}"
+        if (found.status == 129) != found.err.endswith(b"; ask git\n"):
+            return f"status {found.status} with the message {found.err[-120:]!r}"
+        why = refused_variable(command.environment)
+        if found.status == 129:
+            why = why or refusal(command.before, command.words, command.data, command.cwd)
         if command.place.may_be_refused:
             why = why or "the repository"
         if command.place.twin:
             why = why or "damage"
         if wanted.status == 128 and re.search(rb"@\{push\}", b" ".join(command.words), re.I):
             why = why or "no branch to push to"
-        if command.place.is_untidy:
+        if command.place.is_untidy and found.status == 129:
             why = why or self.doubt(command)
         if command.is_strict:
             return f"refused, and git has status {wanted.status}: {found.err[:120]!r}"
@@ -387,7 +390,7 @@ def compare_authentic(comparison: Comparison, commands: list[Command]) -> None:
     for command in commands:
         wanted = comparison.known[command]
         found = ask([*comparison.program, b"--authentic"], command)
-        if found.status == 129 and not found.out:
+        if found.status in (125, 129) and not found.out:
             with comparison.lock:
                 comparison.refused["--authentic"] += 1
             continue
@@ -422,7 +425,7 @@ def compare_damaged_graphs(comparison: Comparison, room: Room, seed: int) -> Non
                                                 command)]
             allowed = [(it.status, it.out if it.status in (0, 1) else b"") for it in both
                        if it.status >= 0]
-            allowed.append((129, b""))
+            allowed += [(125, b""), (129, b"")]
             what = f"{command.text()} with byte {at} changed: {found}, and git has {allowed}"
             comparison.expect((found.status, found.out) in allowed, what)
 
@@ -434,6 +437,13 @@ def check_itself(comparison: Comparison, place: Repository, top: bytes) -> None:
         lost = [it for known in crafted.WORDS for it in (known,) if known.encode() not in said.out]
         comparison.expect(said.status == 0 and not lost,
                           f"{option.decode()} has status {said.status}, and lacks {lost}")
+    for word, options in OPTIONS.items():
+        for option in (b"-h", b"--help"):
+            said = ask(comparison.program, Command(place, (word, option)))
+            names = re.findall(rb"-[\w-]+", said.out.replace(b"[no-]", b""))
+            comparison.expect(said.status == 0 and options <= {*names},
+                              f"{word.decode()} {option.decode()} has status {said.status}, and lacks "
+                              f"{options - {*names}}")
     with open(top + b"/VERSION", "rb") as file:
         version = file.read().strip()
     said = ask(comparison.program, Command(place, (), (b"--version",)))

@@ -869,7 +869,7 @@ def nowhere(room: Room) -> list[Command]:
     damaged.git("pack-refs", "--all")
     with open(damaged.path + b"/.git/packed-refs", "ab") as file:
         file.write(b"nothing that is a reference\n")
-    # git ends with status 128, and the program with 129.
+    # git ends with status 128, and the program with 125.
     damaged.may_be_refused = True
     commands = rows(damaged, "rev-parse HEAD", "rev-parse v1", "rev-list --all", "describe --all",
                     "for-each-ref", "merge-base HEAD HEAD~1")

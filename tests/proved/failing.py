@@ -2,7 +2,7 @@
 
 The library is failing.c, and is loaded into the program. Of each command the calls are counted, and
 then one of them fails, or one and all later ones. The program has to print what git prints, with
-git's status, or nothing with status 129. With reads that give few bytes it has to answer.
+git's status, or nothing with status 125. With reads that give few bytes it has to answer.
 """
 
 from __future__ import annotations
@@ -121,11 +121,11 @@ def frames_of(out: bytes) -> list[bytes] | None:
 def is_refused(text: str, found: tuple[int, bytes], right: tuple[int, bytes]) -> bool:
     """Returns whether the program says that it has no answer; of a batch, to each line."""
     if text != "batch":
-        return found == (129, b"")
+        return found == (125, b"")
     frames, wanted = frames_of(found[1]), frames_of(right[1])
-    if frames is None or found[0] not in (0, 129) or (found[0] == 0 and len(frames) != len(wanted)):
+    if frames is None or found[0] not in (0, 125) or (found[0] == 0 and len(frames) != len(wanted)):
         return False
-    return all(it in (one, b"129 0\n\n") for it, one in zip(frames, wanted))
+    return all(it in (one, b"125 0\n\n") for it, one in zip(frames, wanted))
 
 
 def make(room: Room) -> list[Repository]:

@@ -37,7 +37,7 @@ def answer(program: bytes, place: Repository, words: str) -> tuple[int, bytes]:
     """Returns status and output. With status 128 git may have printed a part."""
     done = subprocess.run([program, *words.encode().split()], cwd=place.path, env=environment_of(place),
                           capture_output=True, timeout=SECONDS)
-    return done.returncode, b"" if done.returncode in (128, 129) else done.stdout
+    return done.returncode, b"" if done.returncode in (125, 128, 129) else done.stdout
 
 
 @dataclass
@@ -275,7 +275,7 @@ def mended(asked: Asked, room: Room) -> None:
                 batch.ask(*before)
                 path.rename(path.with_suffix(".kept"))
                 path.write_bytes(damaged)
-                asked.expect(place, f"damaged {path.suffix}", batch.ask("rev-list main")[0][0] in (128, 129), True)
+                asked.expect(place, f"damaged {path.suffix}", batch.ask("rev-list main")[0][0] in (125, 128), True)
                 path.with_suffix(".kept").rename(path)
                 asked.expect(place, f"mended {path.suffix}", batch.ask("rev-list main"), right)
                 batch.end()
@@ -358,7 +358,7 @@ def closed(asked: Asked, room: Room) -> None:
     with open("/dev/full", "wb") as full:
         done = subprocess.run([asked.program, "batch"], input=b"rev-parse main\n", stdout=full,
                               stderr=subprocess.DEVNULL, cwd=place.path, env=environment_of(place), timeout=SECONDS)
-    asked.expect(place, "a full device", done.returncode, 129)
+    asked.expect(place, "a full device", done.returncode, 125)
 
 
 ROWS = (equal_dates, children, packs, far, chain, long_lines, long_paths, included, messages, mended, repacked, twins,

@@ -152,11 +152,9 @@ def refused_variable(environment: dict[bytes, bytes]) -> str | None:
     return None
 
 
-def refusal(before: tuple[bytes, ...], words: tuple[bytes, ...], data: bytes, folder: bytes,
-            environment: dict[bytes, bytes]) -> str | None:
+def refusal(before: tuple[bytes, ...], words: tuple[bytes, ...], data: bytes,
+            folder: bytes) -> str | None:
     """Returns why a command may be refused; None if it has to be answered."""
-    if refused_variable(environment):
-        return refused_variable(environment)
     for option in before:
         if option.startswith(b"-") and option.partition(b"=")[0] not in BEFORE:
             return "an option before the word"

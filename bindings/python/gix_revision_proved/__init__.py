@@ -54,7 +54,7 @@ have ordered generations. The history stays acyclic if the commits that are adde
 cycle. Its generations stay ordered if these commits have no generation number.
 """
 
-from ._errors import AlreadyThere, Altered, Fault, Misshapen, NoCommit, NoGraph, NoKind, NoLevels, NotRead, NotThere
+from ._errors import AlreadyThere, Altered, Damaged, Fault, Misshapen, NoCommit, NoGraph, NoKind, NoLevels, NotSupported, NotThere
 from ._errors import Refused, TooMany, UnknownCode, Wants
 from ._history import Commit, Description, History, Kind, Names, Span
 from ._library import File, Id, Text, graph_fault, library_version
@@ -78,7 +78,7 @@ __all__ = [
     "NoGraph",
     "NoKind",
     "NoLevels",
-    "NotRead",
+    "NotSupported",
     "NotThere",
     "Reference",
     "Refused",

@@ -98,8 +98,21 @@ class NotThere(Refused):
     """git would end with status 128, for example because a revision names nothing."""
 
 
-class NotRead(Refused):
-    """The program git-proved does not read the question, or fails."""
+class NotSupported(Refused):
+    """The program git-proved does not support the question. git may answer it."""
+
+
+class Damaged(Refused):
+    """Something is damaged or has changed, or the program git-proved has failed."""
+
+
+# What the statuses of git-proved mean. Every other status is a failure.
+_STATUSES = {128: NotThere, 129: NotSupported}
+
+
+def refusal_of(status: int) -> type[Refused]:
+    """Returns the error that a status of git-proved means."""
+    return _STATUSES.get(status, Damaged)
 
 
 class UnknownCode(Refused):

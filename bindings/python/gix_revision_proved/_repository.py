@@ -13,7 +13,7 @@ from collections.abc import Iterable, Iterator
 from types import TracebackType
 from typing import NamedTuple, NoReturn
 
-from ._errors import NotRead, NotThere
+from ._errors import Damaged, refusal_of
 from ._library import PATH, Text
 
 # In the class Repository, `list` could be taken for a method.
@@ -112,10 +112,10 @@ def _answer_in(output: bytearray) -> tuple[int, bytes] | None:
     if end < 0 and len(output) < _HEAD:
         return None
     if len(words) != 2 or not all(it.isdigit() for it in words):
-        raise NotRead("git-proved printed what is no answer")
+        raise Damaged("git-proved printed what is no answer")
     size = end + 1 + int(words[1]) + 1
     if len(output) > size:
-        raise NotRead("git-proved printed more than an answer")
+        raise Damaged("git-proved printed more than an answer")
     return (int(words[0]), bytes(output[end + 1 : -1])) if len(output) == size else None
 
 
@@ -197,8 +197,7 @@ class _Program:
             status = self._process.wait(seconds)
         except subprocess.TimeoutExpired:
             return TimeoutError("git-proved closed its output, and did not end in time")
-        refusal = NotThere if status == 128 else NotRead
-        return refusal(_message(errors) or f"git-proved ended with status {status}")
+        return refusal_of(status)(_message(errors) or f"git-proved ended with status {status}")
 
 
 def _folder() -> str | None:
@@ -239,7 +238,9 @@ class Repository:
     Every call can raise these errors:
 
     - NotThere: git would end with status 128, for example because a revision names nothing.
-    - NotRead: the program does not read the question, or fails.
+    - NotSupported: the program does not support the question. git may answer it.
+    - Damaged: something is damaged or has changed, or the program failed. Do not simply ask git
+      then: it may answer from what is damaged.
     - TimeoutError: there was no answer within `timeout` seconds.
     - ValueError: an argument cannot be a revision, or the repository is closed.
     - RuntimeError: a signal handler asks during a question of the same thread, or this process is a
@@ -308,7 +309,7 @@ class Repository:
                 self._is_busy = False
         if answer.status in (0, 1):
             return answer
-        refusal = NotThere if answer.status == 128 else NotRead
+        refusal = refusal_of(answer.status)
         raise refusal(answer.message or refusal.__doc__)
 
     def _exchange(self, line: bytes) -> _Answer:

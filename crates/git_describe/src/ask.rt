@@ -3,7 +3,7 @@
 use crate::table::{Name, Table};
 use crate::walk::{Candidate, Found, Search};
 use git_session::session::Session;
-use git_session::stop::{Stop, not_read};
+use git_session::stop::{Stop, not_supported};
 use gix_questions::{CountReachable, Describe, IsAncestor};
 use gix_revision::describe::Options;
 use gix_revision::hash::ObjectId;
@@ -73,7 +73,10 @@ fn answer(
     question: &Describe<'static>,
 ) -> Result<Option<(u8, u32)>, Stop> {
     let Ok(found) = session.repository.ask::<Brand, _>(question)? else {
-        return Err(not_read(session.alloc, &[b"the history is too long"]));
+        return Err(not_supported(
+            session.alloc,
+            &[b"a history of so many commits is not supported"],
+        ));
     };
     let Some(outcome) = found else {
         return Ok(None);
@@ -150,11 +153,11 @@ fn is_exact(
     Ok(u32::try_from(count) == Ok(candidate.depth))
 }
 
-/// Returns the end for an answer that hangs on the order of commits with one date.
+/// Returns the end for an answer that depends on the order of commits with the same date.
 fn undecided(session: &Session<'_>) -> Stop {
-    not_read(
+    not_supported(
         session.alloc,
-        &[b"the depth hangs on the order of commits with one date"],
+        &[b"the depth depends on which of several commits with the same date comes first"],
     )
 }
 
@@ -165,7 +168,7 @@ fn undecided(session: &Session<'_>) -> Stop {
 ///
 /// # Errors
 ///
-/// `NotRead` if neither is so.
+/// `NotSupported` if neither is so.
 pub(crate) fn nearest(
     session: &mut Session<'_>,
     question: &mut Describe<'static>,

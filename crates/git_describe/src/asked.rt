@@ -1,10 +1,10 @@
 //! Reads the options of `describe` (git-describe, "Options").
 
 use git_session::integer::integer;
-use git_session::options::next_item;
-use git_session::stop::{Stop, not_read};
+use git_session::options::{add_choice, next_item};
+use git_session::stop::{Stop, not_supported};
 use parse_options::{Choice, Given, Item, Reader, Value};
-use std::alloc::Global;
+use std::alloc::{AllocError, Global};
 
 /// Is how many names git weighs at most.
 pub(crate) const MOST_CANDIDATES: usize = 27;
@@ -147,6 +147,16 @@ static CHOICES: [Choice<Key>; 14] = [
     },
 ];
 
+/// Adds the options to a text, each on a line.
+pub(crate) fn add_options(text: &mut Vec<u8>) -> Result<(), AllocError> {
+    for choice in CHOICES.iter() {
+        if !matches!(choice.key, Key::Contains | Key::Debug | Key::Broken) {
+            add_choice(text, choice, choice.has_no)?;
+        }
+    }
+    Ok(())
+}
+
 /// Has what the words ask for.
 #[derive(Drop)]
 pub(crate) struct Asked<'w> {
@@ -172,7 +182,7 @@ pub(crate) struct Asked<'w> {
 
 /// Returns the end for a value of an option that is no number.
 fn no_number<'t>(alloc: Global, option: &'t [u8], value: &'t [u8]) -> Stop {
-    not_read(
+    not_supported(
         alloc,
         &[
             b"the number '",

@@ -6,7 +6,7 @@
 use crate::head::{files_of, head_tree};
 use crate::work_tree::{open_tree, read_index, top_of};
 use git_session::session::Session;
-use git_session::stop::{Stop, not_read, refused};
+use git_session::stop::{Stop, failed, not_supported, refused, unread};
 use gix_files::{FileError, System};
 use gix_index::{
     Difference, Entry, FileKind, Index, Look, Looked, WorkTree, are_sorted, first_difference,
@@ -15,9 +15,9 @@ use gix_revision::hash::ObjectId;
 
 /// Returns the end for what only git decides about a path.
 fn undecided(session: &Session<'_>, path: &[u8]) -> Stop {
-    not_read(
+    not_supported(
         session.alloc,
-        &[b"describe --dirty does not decide about '", path, b"'"],
+        &[b"--dirty is not supported for the state of '", path, b"'"],
     )
 }
 
@@ -29,8 +29,7 @@ fn looked<T: Drop>(
 ) -> Result<T, Stop> {
     match found {
         Ok(found) => Ok(found),
-        Err(FileError::OutOfMemory) => Err(Stop::OutOfMemory),
-        Err(_) => Err(not_read(session.alloc, &[b"the file '", path, b"' cannot be read"])),
+        Err(error) => Err(unread(session.alloc, path, error)),
     }
 }
 
@@ -108,7 +107,10 @@ fn differs(
 ) -> Result<bool, Stop> {
     let files = files_of(session, head)?;
     if !are_sorted(&index.entries, &files) {
-        return Err(not_read(session.alloc, &[b"an index or a tree is not sorted"]));
+        return Err(failed(
+            session.alloc,
+            &[b"the index or a tree of HEAD is not sorted"],
+        ));
     }
     match first_difference(looked, &files) {
         Some(difference) => counts(session, difference),
@@ -119,7 +121,14 @@ fn differs(
 /// Returns whether a difference counts. Settings say whether that of a submodule does.
 fn counts(session: &Session<'_>, difference: Difference<'_>) -> Result<bool, Stop> {
     match FileKind::of(difference.mode) {
-        FileKind::Submodule => Err(undecided(session, difference.path)),
+        FileKind::Submodule => Err(not_supported(
+            session.alloc,
+            &[
+                b"--dirty: submodules are not supported ('",
+                difference.path,
+                b"')",
+            ],
+        )),
         _ => Ok(true),
     }
 }
@@ -141,7 +150,7 @@ fn check_settings(session: &Session<'_>) -> Result<(), Stop> {
 /// # Errors
 ///
 /// - `Fatal` if there is no working tree or no commit.
-/// - `NotRead` if git decides by what is not read here.
+/// - `NotSupported` if git decides by what is not read here.
 /// - `OutOfMemory` if an allocation failed.
 pub(crate) fn is_dirty(session: &mut Session<'_>) -> Result<bool, Stop> {
     let top = top_of(session)?;

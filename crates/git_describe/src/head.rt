@@ -3,7 +3,7 @@
 use git_session::names::commit_of;
 use git_session::ranges::revision;
 use git_session::session::Session;
-use git_session::stop::{Stop, fatal, not_read};
+use git_session::stop::{Stop, failed, fatal, not_supported};
 use gix_index::tree::{Listed, TREE, TreeEntry, first};
 use gix_revision::hash::ObjectId;
 use gix_revision::object::Kind;
@@ -11,7 +11,7 @@ use gix_revision::object::Kind;
 /// Fails if a tree is replaced: git then takes the other tree in some places only.
 fn expect_own(session: &Session<'_>, tree: ObjectId) -> Result<(), Stop> {
     if session.repository.is_replaced(tree) {
-        return Err(not_read(
+        return Err(not_supported(
             session.alloc,
             &[b"a replaced tree of HEAD is not supported"],
         ));
@@ -24,7 +24,7 @@ fn expect_own(session: &Session<'_>, tree: ObjectId) -> Result<(), Stop> {
 /// # Errors
 ///
 /// - `Fatal`, with git's message, if there is none.
-/// - `NotRead` if it is replaced.
+/// - `NotSupported` if it is replaced.
 pub(crate) fn head_tree(session: &mut Session<'_>) -> Result<ObjectId, Stop> {
     let Some(id) = revision(session, b"HEAD")? else {
         return Err(fatal(session.alloc, &[b"bad revision 'HEAD'"]));
@@ -35,7 +35,7 @@ pub(crate) fn head_tree(session: &mut Session<'_>) -> Result<ObjectId, Stop> {
             expect_own(session, tree)?;
             Ok(tree)
         }
-        None => Err(not_read(session.alloc, &[b"HEAD is no commit"])),
+        None => Err(not_supported(session.alloc, &[b"'HEAD' names no commit"])),
     }
 }
 
@@ -69,7 +69,7 @@ fn entries_of(session: &mut Session<'_>, tree: &Listed) -> Result<Vec<Listed>, S
         rest = after;
     }
     if object.kind != Kind::Tree || !rest.is_empty() {
-        return Err(not_read(session.alloc, &[b"a tree of HEAD is malformed"]));
+        return Err(failed(session.alloc, &[b"a tree of HEAD is malformed"]));
     }
     entries.reverse();
     Ok(entries)

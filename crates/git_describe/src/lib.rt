@@ -23,12 +23,17 @@ use crate::walk::{Candidate, Search, walk_from};
 use git_session::names::commit_of;
 use git_session::ranges::revision;
 use git_session::session::Session;
-use git_session::stop::{Stop, fatal, not_read};
+use git_session::stop::{Stop, fatal, missing, not_supported};
 use gix_questions::Describe;
 use gix_repository::Refusal;
 use gix_revision::hash::ObjectId;
 use gix_revision::object::Kind;
-use std::alloc::Global;
+use std::alloc::{AllocError, Global};
+
+/// Adds the options of `describe` to a text, each on a line.
+pub fn add_options(text: &mut Vec<u8>) -> Result<(), AllocError> {
+    asked::add_options(text)
+}
 
 /// Describes commits, one after another.
 #[derive(Drop)]
@@ -60,13 +65,13 @@ fn refuse(session: &Session<'_>, asked: &Asked<'_>) -> Result<(), Stop> {
         ));
     }
     if asked.contains || asked.debug {
-        return Err(not_read(
+        return Err(not_supported(
             alloc,
-            &[b"describe --contains and --debug are not supported"],
+            &[b"the options '--contains' and '--debug' are not supported"],
         ));
     }
     if asked.texts.is_empty() && asked.broken {
-        return Err(not_read(alloc, &[b"describe --broken is not supported"]));
+        return Err(not_supported(alloc, &[b"the option '--broken' is not supported"]));
     }
     refuse_odd(alloc, &asked.matched)?;
     refuse_odd(alloc, &asked.excluded)
@@ -141,7 +146,7 @@ fn described(session: &mut Session<'_>, text: &[u8]) -> Result<(ObjectId, Object
         return Ok((id, commit));
     }
     match session.repository.kind(id) {
-        Ok(Kind::Blob) => Err(not_read(alloc, &[b"describe of a blob is not supported"])),
+        Ok(Kind::Blob) => Err(not_supported(alloc, &[b"'", text, b"': blobs are not supported"])),
         Ok(_) | Err(Refusal::Object(gix_odb::Error::Missing(_))) => {
             Err(fatal(alloc, &[text, b" is neither a commit nor blob"]))
         }
@@ -151,12 +156,14 @@ fn described(session: &mut Session<'_>, text: &[u8]) -> Result<(ObjectId, Object
 
 /// Ends if a tag says another kind than that of its object. git then reads the object as that kind,
 /// and fails.
-fn expect_kind(session: &mut Session<'_>, target: ObjectId, said: Kind) -> Result<(), Stop> {
+fn expect_kind(
+    session: &mut Session<'_>,
+    tag: ObjectId,
+    target: ObjectId,
+    said: Kind,
+) -> Result<(), Stop> {
     match session.repository.kind(target) {
-        Ok(kind) if kind != said => Err(not_read(
-            session.alloc,
-            &[b"a tag that says another kind than its object has is not supported"],
-        )),
+        Ok(kind) if kind != said => Err(Stop::from(Refusal::TagKind(tag))),
         Ok(_) | Err(Refusal::Object(gix_odb::Error::Missing(_))) => Ok(()),
         Err(refusal) => Err(Stop::from(refusal)),
     }
@@ -172,9 +179,12 @@ fn read_tag(
         return Err(fatal(session.alloc, &[b"annotated tag ", path, b" not available"]));
     };
     if tag.name.contains(&0) {
-        return Err(not_read(session.alloc, &[b"a tag's name has a byte that is 0"]));
+        return Err(not_supported(
+            session.alloc,
+            &[b"a tag whose name has a zero byte is not supported"],
+        ));
     }
-    expect_kind(session, tag.target, tag.kind)?;
+    expect_kind(session, name.id, tag.target, tag.kind)?;
     Ok((tag.target, tag.name))
 }
 
@@ -190,7 +200,7 @@ impl<'w> Describer<'w> {
             Some(path)
         };
         let Some(own) = own else {
-            return Err(not_read(
+            return Err(not_supported(
                 session.alloc,
                 &[b"a tag outside of refs/tags/ is not supported"],
             ));
@@ -254,7 +264,7 @@ impl<'w> Describer<'w> {
         near: Candidate,
     ) -> Result<(), Stop> {
         let Some(name) = self.table.name_of(near.id) else {
-            return Err(not_read(session.alloc, &[b"a commit that has a name is missing"]));
+            return Err(missing(near.id));
         };
         let printed = self.print_name(session, &name)?;
         if printed.is_misnamed || self.asked.abbrev != Abbrev::Nothing {

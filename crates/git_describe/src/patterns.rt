@@ -1,7 +1,7 @@
 //! Tells which references `--match` and `--exclude` choose.
 
 use crate::asked::Asked;
-use git_session::stop::{Stop, not_read};
+use git_session::stop::{Stop, not_supported};
 use gix_discover::wildmatch::{Rules, is_match};
 use std::alloc::Global;
 
@@ -55,7 +55,7 @@ fn is_plain(pattern: &[u8]) -> bool {
 pub(crate) fn refuse_odd(alloc: Global, patterns: &[&[u8]]) -> Result<(), Stop> {
     for pattern in patterns {
         if !is_plain(pattern) {
-            return Err(not_read(alloc, &[b"the pattern '", pattern, b"' is not supported"]));
+            return Err(not_supported(alloc, &[b"the pattern '", pattern, b"' is not supported"]));
         }
     }
     Ok(())

@@ -3,10 +3,10 @@
 use crate::asked::Asked;
 use crate::patterns::counts;
 use git_session::session::Session;
-use git_session::stop::Stop;
+use git_session::stop::{Stop, failed};
 use gix_odb::Tag;
 use gix_ref::{Listed, Listing};
-use gix_repository::Refusal;
+use gix_repository::{Refusal, Unsupported};
 use gix_revision::Seed;
 use gix_revision::hash::ObjectId;
 use gix_revision::object::Kind;
@@ -114,7 +114,7 @@ fn end_of(session: &mut Session<'_>, tag: Annotation) -> Result<Option<ObjectId>
             None => return Ok(None),
         }
     }
-    Err(Stop::Refused(Refusal::NotSupported))
+    Err(Stop::from(Refusal::NotSupported(Unsupported::Tags)))
 }
 
 /// Returns where an object leads that may be a tag.
@@ -152,7 +152,10 @@ fn leads_to(
     }
     let found = followed(session, id)?;
     if found.is_annotated && told.is_some() {
-        return Err(Stop::Refused(Refusal::NotSupported));
+        return Err(failed(
+            session.alloc,
+            &[b"'packed-refs' says of a tag that it is none"],
+        ));
     }
     Ok(found)
 }

@@ -6,7 +6,7 @@
 use crate::table::Table;
 use git_session::queue::Queue;
 use git_session::session::Session;
-use git_session::stop::{Stop, not_read};
+use git_session::stop::{Stop, not_supported};
 use gix_revision::Seed;
 use gix_revision::graph::SourceCommit;
 use gix_revision::hash::ObjectId;
@@ -139,13 +139,13 @@ impl Walk {
     ///
     /// # Errors
     ///
-    /// `NotRead` if it and the one behind it have dates that only git tells apart.
+    /// `NotSupported` if it and the one behind it have dates that only git tells apart.
     fn next(&mut self) -> Result<Option<(i64, usize)>, Stop> {
         let Some((time, place)) = self.waiting.pop() else {
             return Ok(None);
         };
         if time == i64::MAX && self.waiting.next_time() == Some(i64::MAX) {
-            return Err(not_read(self.alloc, &[b"dates before 1970 are not supported"]));
+            return Err(not_supported(self.alloc, &[b"dates before 1970 are not supported"]));
         }
         if let Some(met) = self.met.get_mut(place) {
             met.is_waiting = false;
@@ -311,7 +311,7 @@ pub(crate) struct Found {
 /// # Errors
 ///
 /// - `Refused` if a commit is not read.
-/// - `NotRead` if git's order is not known.
+/// - `NotSupported` if git's order is not known.
 /// - `OutOfMemory` if an allocation failed.
 pub(crate) fn walk_from(
     session: &mut Session<'_>,

@@ -1,21 +1,13 @@
 //! Opens the index and the working tree.
 
 use git_session::session::Session;
-use git_session::stop::{Stop, fatal, joined, not_read};
+use git_session::stop::{Stop, failed, fatal, joined, not_supported, unread};
 use gix_discover::{PathKind, Places, Variable};
 use gix_files::{FileError, System};
 use gix_index::{
     Checks, Conversion, FileKind, Index, Statuses, WorkTree, add_conversion, read_file,
 };
 use std::io::Write;
-
-/// Returns the end for a file that is not read.
-fn unread(session: &Session<'_>, path: &[u8], error: FileError) -> Stop {
-    match error {
-        FileError::OutOfMemory => Stop::OutOfMemory,
-        _ => not_read(session.alloc, &[b"the file '", path, b"' cannot be read"]),
-    }
-}
 
 /// Returns the top folder of the working tree; empty is the current one.
 ///
@@ -31,7 +23,7 @@ pub(crate) fn top_of(session: &Session<'_>) -> Result<Vec<u8>, Stop> {
                 return Ok(top.as_slice().to_vec(alloc)?);
             }
             Ok(_) => {}
-            Err(error) => return Err(unread(session, path, error)),
+            Err(error) => return Err(unread(session.alloc, path, error)),
         }
     }
     Err(fatal(alloc, &[b"this operation must be run in a work tree"]))
@@ -57,7 +49,8 @@ fn unparsed(session: &Session<'_>, error: gix_index::Error) -> Stop {
     }
     let mut text = Vec::new(session.alloc);
     match write!(text, "{error}") {
-        Ok(()) => Stop::NotRead(text),
+        Ok(()) if error.is_not_supported() => not_supported(session.alloc, &[&text]),
+        Ok(()) => failed(session.alloc, &[&text]),
         Err(_) => Stop::OutOfMemory,
     }
 }
@@ -69,17 +62,17 @@ pub(crate) fn read_index(session: &Session<'_>, top: &[u8]) -> Result<(Index, u3
     let status = match session.files.status(&path) {
         Ok(Some(status)) => status,
         Ok(None) => return Ok((Index::empty(alloc), 0)),
-        Err(error) => return Err(unread(session, &path, error)),
+        Err(error) => return Err(unread(session.alloc, &path, error)),
     };
     if FileKind::of(status.mode) != FileKind::File {
-        return Err(not_read(
+        return Err(not_supported(
             alloc,
             &[b"an index that is a symbolic link is not supported"],
         ));
     }
     let mut bytes = Vec::new(alloc);
     if let Err(error) = read_file(&session.files, &path, &mut bytes) {
-        return Err(unread(session, &path, error));
+        return Err(unread(session.alloc, &path, error));
     }
     match Index::parse(alloc, &bytes) {
         Ok(index) => Ok((index, status.mtime)),
@@ -92,7 +85,7 @@ fn setting(session: &Session<'_>, key: &[u8], usual: bool) -> Result<bool, Stop>
     let settings = session.repository.settings();
     match settings.boolean(session.alloc, b"core", None, key, usual) {
         Ok(value) => Ok(value),
-        Err(_) => Err(not_read(
+        Err(_) => Err(not_supported(
             session.alloc,
             &[b"the setting core.", key, b" is not supported"],
         )),
@@ -116,7 +109,7 @@ fn checks(session: &Session<'_>) -> Result<Checks, Stop> {
         .value(b"core", None, b"checkstat")
         .is_some();
     if is_set && !is_minimal && !has_value(session, b"checkstat", b"default") {
-        return Err(not_read(
+        return Err(not_supported(
             session.alloc,
             &[b"the setting core.checkStat is not supported"],
         ));
@@ -182,7 +175,7 @@ pub(crate) fn open_tree<'s>(
     let alloc = session.alloc;
     // A monitor of the file system says which files git looks at.
     if setting(session, b"fsmonitor", false)? {
-        return Err(not_read(alloc, &[b"the setting core.fsmonitor is not supported"]));
+        return Err(not_supported(alloc, &[b"the setting core.fsmonitor is not supported"]));
     }
     let checks = checks(session)?;
     let has_links = setting(session, b"symlinks", true)?;

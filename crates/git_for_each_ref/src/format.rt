@@ -3,7 +3,7 @@
 use crate::list::Candidate;
 use git_session::names::commit_of;
 use git_session::session::Session;
-use git_session::stop::{Stop, fatal, not_read};
+use git_session::stop::{Stop, failed, fatal, not_supported};
 use gix_questions::AheadBehind;
 use gix_repository::Refusal;
 use gix_revision::hash::ObjectId;
@@ -119,7 +119,7 @@ fn field(session: &mut Session<'_>, name: &[u8]) -> Result<Part, Stop> {
     } else if let Some(text) = name.strip_prefix(b"ahead-behind:") {
         Ok(Part::AheadBehind(base(session, text)?))
     } else {
-        Err(not_read(
+        Err(not_supported(
             session.alloc,
             &[b"the field '", name, b"' is not supported"],
         ))
@@ -138,7 +138,7 @@ fn cut_field(text: &[u8]) -> Option<(&[u8], &[u8])> {
 /// # Errors
 ///
 /// - `Fatal` if the commit of `ahead-behind` is not found.
-/// - `NotRead` if the format has another field, or one that is not closed.
+/// - `NotSupported` if the format has another field, or one that is not closed.
 pub(crate) fn read_format(session: &mut Session<'_>, format: &[u8]) -> Result<Vec<Part>, Stop> {
     let mut parts = Vec::new(session.alloc);
     let mut rest = format;
@@ -149,7 +149,10 @@ pub(crate) fn read_format(session: &mut Session<'_>, format: &[u8]) -> Result<Ve
         let (text, begin) = rest.split_at(at.min(rest.len()));
         add_text(session.alloc, text, &mut parts)?;
         let Some((name, after)) = cut_field(begin) else {
-            return Err(not_read(session.alloc, &[b"malformed format string ", begin]));
+            return Err(not_supported(
+                session.alloc,
+                &[b"the format '", begin, b"' is not supported"],
+            ));
         };
         parts.push(field(session, name)?)?;
         rest = after;
@@ -206,7 +209,10 @@ fn look_up_all_kinds(session: &mut Session<'_>, candidates: &mut [Candidate]) ->
             continue;
         }
         if end.is_some() {
-            return Err(not_read(session.alloc, &[b"the objects of references are missing"]));
+            return Err(failed(
+                session.alloc,
+                &[b"the objects of several references are missing"],
+            ));
         }
         end = Some(missing(session, candidate));
     }
@@ -220,7 +226,7 @@ fn look_up_all_kinds(session: &mut Session<'_>, candidates: &mut [Candidate]) ->
 ///
 /// # Errors
 ///
-/// `Fatal` if the kind of an object is wanted that is missing, and `NotRead` if there are several:
+/// `Fatal` if the kind of an object is wanted that is missing, and `Failure` if there are several:
 /// in which order git looks is not told.
 pub(crate) fn look_up(
     session: &mut Session<'_>,

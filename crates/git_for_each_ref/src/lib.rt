@@ -11,13 +11,13 @@ use crate::format::{Part, expect_names, look_up, print_reference, read_format};
 use crate::list::{Candidate, list_wanted};
 use git_session::integer::integer;
 use git_session::names::commit_of;
-use git_session::options::next_item;
+use git_session::options::{add_choice, next_item};
 use git_session::ranges::revision;
 use git_session::session::Session;
-use git_session::stop::{Stop, fatal, not_read};
+use git_session::stop::{Stop, fatal, not_supported};
 use gix_revision::hash::ObjectId;
 use parse_options::{Choice, Given, Item, Reader, Value};
-use std::alloc::Global;
+use std::alloc::{AllocError, Global};
 
 /// The format if none is given.
 const FORMAT: &[u8] = b"%(objectname) %(objecttype)\t%(refname)";
@@ -138,6 +138,16 @@ static CHOICES: [Choice<Key>; 14] = [
     },
 ];
 
+/// Adds the options of `for-each-ref` to a text, each on a line.
+pub fn add_options(text: &mut Vec<u8>) -> Result<(), AllocError> {
+    for choice in CHOICES.iter() {
+        if !matches!(choice.key, Key::Other(_)) {
+            add_choice(text, choice, matches!(choice.key, Key::Count | Key::Sort))?;
+        }
+    }
+    Ok(())
+}
+
 /// What the words ask for.
 #[derive(Drop)]
 struct Asked<'w> {
@@ -153,11 +163,11 @@ struct Asked<'w> {
 /// Returns the commit of `--contains` or `--no-contains`.
 fn contained(session: &mut Session<'_>, text: &[u8]) -> Result<ObjectId, Stop> {
     let Some(id) = revision(session, text)? else {
-        return Err(not_read(session.alloc, &[b"malformed object name ", text]));
+        return Err(not_supported(session.alloc, &[b"'", text, b"' names no object"]));
     };
     match commit_of(session, id)? {
         Some(commit) => Ok(commit),
-        None => Err(not_read(session.alloc, &[b"no such commit ", text])),
+        None => Err(not_supported(session.alloc, &[b"'", text, b"' names no commit"])),
     }
 }
 
@@ -168,7 +178,7 @@ fn merged(session: &mut Session<'_>, text: &[u8]) -> Result<ObjectId, Stop> {
     };
     match commit_of(session, id)? {
         Some(commit) => Ok(commit),
-        None => Err(not_read(session.alloc, &[b"'", text, b"' is no commit"])),
+        None => Err(not_supported(session.alloc, &[b"'", text, b"' names no commit"])),
     }
 }
 
@@ -179,7 +189,7 @@ fn is_falling(alloc: Global, key: &[u8]) -> Result<bool, Stop> {
     } else if key == b"-refname".as_slice() {
         Ok(true)
     } else {
-        Err(not_read(alloc, &[b"the sort key '", key, b"' is not supported"]))
+        Err(not_supported(alloc, &[b"the sort key '", key, b"' is not supported"]))
     }
 }
 
@@ -187,7 +197,10 @@ fn is_falling(alloc: Global, key: &[u8]) -> Result<bool, Stop> {
 fn count(alloc: Global, text: &[u8]) -> Result<i32, Stop> {
     match integer(text) {
         Some(count) => Ok(count),
-        None => Err(not_read(alloc, &[b"--count wants a number"])),
+        None => Err(not_supported(
+            alloc,
+            &[b"the number '", text, b"' of --count is not supported"],
+        )),
     }
 }
 
@@ -209,10 +222,10 @@ fn name_of(key: Key) -> &'static str {
 fn unsupported(alloc: Global, given: Given<'_, Key>) -> Stop {
     let no = if given.is_no { "no-" } else { "" };
     let name = name_of(given.key);
-    not_read(
+    not_supported(
         alloc,
         &[
-            b"option `",
+            b"the option '--",
             no.as_bytes(),
             name.as_bytes(),
             b"' is not supported",
@@ -254,7 +267,7 @@ impl<'w> Asked<'w> {
     /// Notes a pattern. An empty one is not supported.
     fn note_pattern(&mut self, alloc: Global, pattern: &'w [u8]) -> Result<(), Stop> {
         if pattern.is_empty() {
-            return Err(not_read(alloc, &[b"an empty pattern is not supported"]));
+            return Err(not_supported(alloc, &[b"an empty pattern is not supported"]));
         }
         self.patterns.push(pattern)?;
         Ok(())
@@ -287,7 +300,7 @@ fn most(alloc: Global, count: i32) -> Result<usize, Stop> {
     match usize::try_from(count) {
         Ok(0) => Ok(usize::MAX),
         Ok(count) => Ok(count),
-        Err(_) => Err(not_read(alloc, &[b"--count wants a number that is not negative"])),
+        Err(_) => Err(not_supported(alloc, &[b"a negative number of --count is not supported"])),
     }
 }
 

@@ -2,8 +2,9 @@
 
 use crate::patterns::{fronts, is_wanted};
 use git_session::session::Session;
-use git_session::stop::{Stop, not_read};
+use git_session::stop::Stop;
 use gix_ref::{Listed, Skipped, Why, is_full_name};
+use gix_repository::Refusal;
 use gix_revision::hash::ObjectId;
 use gix_revision::object::Kind;
 
@@ -25,7 +26,7 @@ fn warn(session: &mut Session<'_>, skipped: &Skipped) -> Result<(), Stop> {
     match skipped.why {
         Why::LeadsNowhere => {}
         Why::NotUtf8 => {
-            return Err(not_read(session.alloc, &[b"the name of a reference is not UTF-8"]));
+            return Err(Stop::from(Refusal::NotUtf8));
         }
         Why::Broken if is_full_name(&skipped.name) => {
             session.say(&[b"warning: ignoring broken ref ", &skipped.name])?;

@@ -6,7 +6,8 @@ use git_describe::describe;
 use git_for_each_ref::for_each_ref;
 use git_rev_list::rev_list;
 use git_session::session::Session;
-use git_session::stop::{FATAL, NOT_READ, Stop, not_read};
+use git_session::stop::{Cause, FATAL, Stop, not_supported};
+use gix_repository::Refusal;
 use std::alloc::{AllocError, Global};
 use std::io::Write;
 
@@ -19,6 +20,9 @@ pub(crate) struct Finished {
     /// What goes to standard error.
     pub(crate) errors: Vec<u8>,
 }
+
+/// Says that a command is not answered.
+pub(crate) const NO_COMMAND: &[u8] = b"this command is not supported";
 
 /// Returns the status of an answer to the words behind `git proved`, whose output is printed.
 fn ask(session: &mut Session<'_>, word: &[u8], words: &[&[u8]]) -> Result<u8, Stop> {
@@ -33,48 +37,81 @@ fn ask(session: &mut Session<'_>, word: &[u8], words: &[&[u8]]) -> Result<u8, St
     } else if word == b"for-each-ref".as_slice() {
         for_each_ref(session, words)
     } else {
-        Err(not_read(
-            session.alloc,
-            &[b"'", word, b"' is not a command; -h lists them"],
-        ))
+        Err(not_supported(session.alloc, &[NO_COMMAND]))
     }
 }
 
-/// Adds a line about an end to what goes to standard error. Returns the status.
-fn add_end(stop: &Stop, errors: &mut Vec<u8>) -> Result<u8, AllocError> {
-    match stop {
-        Stop::Fatal(text) => {
-            errors.extend_from_slice(b"fatal: ")?;
-            errors.extend_from_slice(text)?;
-            errors.push(b'\n')?;
-            Ok(FATAL)
+/// What is known of a question that ends.
+#[derive(Clone, Copy)]
+struct Place<'w> {
+    alloc: Global,
+    /// The command; empty if there is none.
+    word: &'w [u8],
+    /// Tells whether a remote may have what is missing, which git fetches then.
+    is_partial: bool,
+}
+
+impl<'w> Place<'w> {
+    /// Adds a line about the program's own end to what goes to standard error. Returns the status.
+    fn add_own(self, cause: Cause, text: &[u8], errors: &mut Vec<u8>) -> Result<u8, AllocError> {
+        errors.extend_from_slice(b"git-proved: ")?;
+        if cause == Cause::NotSupported && !self.word.is_empty() {
+            errors.extend_from_slice(self.word)?;
+            errors.extend_from_slice(b": ")?;
         }
-        Stop::Said(status) => Ok(*status),
-        Stop::NotRead(text) => {
-            errors.extend_from_slice(b"git-proved: ")?;
-            errors.extend_from_slice(text)?;
-            errors.push(b'\n')?;
-            Ok(NOT_READ)
+        errors.extend_from_slice(text)?;
+        if cause == Cause::NotSupported {
+            errors.extend_from_slice(b"; ask git")?;
         }
-        Stop::Refused(refusal) => match write!(errors, "git-proved: {refusal}\n") {
-            Ok(()) => Ok(NOT_READ),
-            Err(_) => Err(AllocError),
-        },
-        Stop::OutOfMemory => {
-            errors.extend_from_slice(b"git-proved: out of memory\n")?;
-            Ok(NOT_READ)
+        errors.push(b'\n')?;
+        Ok(cause.status())
+    }
+
+    /// Adds a line about a refusal to what goes to standard error. Returns the status.
+    fn add_refusal(self, refusal: &Refusal, errors: &mut Vec<u8>) -> Result<u8, AllocError> {
+        let mut text = Vec::new(self.alloc);
+        if write!(text, "{refusal}").is_err() {
+            return Err(AllocError);
+        }
+        let is_promised = self.is_partial && refusal.is_missing();
+        let cause = if refusal.is_not_supported() || is_promised {
+            Cause::NotSupported
+        } else {
+            Cause::Failure
+        };
+        self.add_own(cause, &text, errors)
+    }
+
+    /// Adds a line about an end to what goes to standard error. Returns the status.
+    fn add_end(self, stop: &Stop, errors: &mut Vec<u8>) -> Result<u8, AllocError> {
+        match stop {
+            Stop::Fatal(text) => {
+                errors.extend_from_slice(b"fatal: ")?;
+                errors.extend_from_slice(text)?;
+                errors.push(b'\n')?;
+                Ok(FATAL)
+            }
+            Stop::Said(status) => Ok(*status),
+            Stop::Ended(cause, text) => self.add_own(*cause, text, errors),
+            Stop::Refused(refusal) => self.add_refusal(refusal, errors),
+            Stop::OutOfMemory => self.add_own(Cause::Failure, b"out of memory", errors),
         }
     }
 }
 
-/// Returns what an end prints, and its status.
+/// Returns what an end prints that no question has, and its status.
 ///
 /// # Errors
 ///
 /// Fails if an allocation failed.
-pub(crate) fn ended(alloc: Global, stop: &Stop) -> Result<Finished, AllocError> {
+pub(crate) fn ended(alloc: Global, word: &[u8], stop: &Stop) -> Result<Finished, AllocError> {
+    let place = Place {
+        alloc,
+        word,
+        is_partial: false,
+    };
     let mut errors = Vec::new(alloc);
-    let status = add_end(stop, &mut errors)?;
+    let status = place.add_end(stop, &mut errors)?;
     Ok(Finished {
         status,
         output: Vec::new(alloc),
@@ -134,7 +171,12 @@ pub(crate) fn answer(
             errors: as_said(alloc, &errors)?,
         }),
         Err(stop) => {
-            let status = add_end(&stop, &mut errors)?;
+            let place = Place {
+                alloc,
+                word,
+                is_partial: session.repository.is_partial(),
+            };
+            let status = place.add_end(&stop, &mut errors)?;
             Ok(Finished {
                 status,
                 output: Vec::new(session.alloc),

@@ -1,10 +1,10 @@
 //! Answers `batch`: a question on each line of the input.
 
 use crate::answer::{Finished, answer, ended};
-use crate::program::Streams;
+use crate::program::{Streams, reason_of, say_failed};
 use crate::quoted::split_words;
 use git_session::session::Session;
-use git_session::stop::{NOT_READ, Stop, not_read};
+use git_session::stop::{Cause, Stop, no_question};
 use std::alloc::Global;
 use std::io::{self, BufRead, Write};
 
@@ -22,7 +22,7 @@ fn answer_words(session: &mut Session<'_>, words: &[Vec<u8>]) -> Result<Finished
     let words = slices(session.alloc, words)?;
     match words.split_first() {
         Some((word, rest)) => Ok(answer(session, word, rest)?),
-        None => Err(not_read(session.alloc, &[b"an empty line is no question"])),
+        None => Err(no_question(session.alloc, &[b"an empty line is no question"])),
     }
 }
 
@@ -37,7 +37,7 @@ fn answer_line(session: &mut Session<'_>, line: &[u8]) -> Result<Finished, Stop>
 fn finished(session: &mut Session<'_>, line: &[u8]) -> Result<Finished, Stop> {
     match answer_line(session, line) {
         Ok(finished) => Ok(finished),
-        Err(stop) => Ok(ended(session.alloc, &stop)?),
+        Err(stop) => Ok(ended(session.alloc, b"", &stop)?),
     }
 }
 
@@ -72,10 +72,10 @@ fn serve<I: BufRead, O: Write, E: Write>(
     streams: &mut Streams<'_, I, O, E>,
 ) -> Result<(), u8> {
     let Ok(finished) = finished(session, line) else {
-        return Err(NOT_READ);
+        return Err(streams.end_without_memory());
     };
     let Ok(bytes) = framed(session.alloc, &finished) else {
-        return Err(NOT_READ);
+        return Err(streams.end_without_memory());
     };
     match streams.finish(0, &bytes, &finished.errors) {
         0 => Ok(()),
@@ -84,14 +84,15 @@ fn serve<I: BufRead, O: Write, E: Write>(
 }
 
 /// Answers each line of the input at once, up to its end. Returns the status: 0 if each line was
-/// answered, if only by the status 129.
+/// answered, if only by the status 125 or 129.
 pub(crate) fn batch<I: BufRead, O: Write, E: Write>(
     session: &mut Session<'_>,
     words: &[&[u8]],
     streams: &mut Streams<'_, I, O, E>,
 ) -> u8 {
     if !words.is_empty() {
-        return streams.finish(NOT_READ, b"", b"git-proved: batch takes no arguments\n");
+        let status = Cause::NoQuestion.status();
+        return streams.finish(status, b"", b"git-proved: batch takes no arguments\n");
     }
     for _ in 0..u64::MAX {
         match read_line(session.alloc, streams.input) {
@@ -101,7 +102,14 @@ pub(crate) fn batch<I: BufRead, O: Write, E: Write>(
                 }
             }
             Ok(None) => return 0,
-            Err(_) => return NOT_READ,
+            Err(error) => {
+                say_failed(
+                    streams.errors,
+                    b"cannot read standard input: ",
+                    reason_of(&error),
+                );
+                return Cause::Failure.status();
+            }
         }
     }
     0

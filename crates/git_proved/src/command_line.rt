@@ -3,10 +3,10 @@
 use crate::answer::ended;
 use crate::front::{Asked, Front};
 use crate::help::{HELP, VERSION};
-use crate::program::{Streams, print_text, run};
-use git_session::stop::{NOT_READ, Stop, fatal, not_read};
+use crate::program::{OUT_OF_MEMORY, Streams, run, write_answer};
+use git_session::stop::{Cause, Stop, failed, fatal, no_question, not_supported, refused, unread};
 use gix_discover::{Environment, Variable};
-use gix_files::System;
+use gix_files::{FileError, System};
 use gix_repository::{Mode, Opening};
 use gix_revision::Seed;
 use gix_revision::date::Time;
@@ -77,14 +77,14 @@ fn cannot_change<'t>(rt: &HostRuntime, folder: &'t [u8], reason: &'t [u8]) -> St
 fn not_entered(rt: &HostRuntime, folder: &[u8], error: io::Error) -> Stop {
     match reason(error) {
         Some(reason) => cannot_change(rt, folder, reason),
-        None => not_read(rt.alloc(), &[b"the folder of -C is not entered"]),
+        None => unread(rt.alloc(), folder, FileError::Failed(error.kind())),
     }
 }
 
 /// Goes to a folder of `-C`.
 fn enter(rt: &HostRuntime, folder: &[u8]) -> Result<(), Stop> {
     let Ok(path) = str::from_utf8(folder) else {
-        return Err(not_read(rt.alloc(), &[b"a path that is not UTF-8 is not supported"]));
+        return Err(unread(rt.alloc(), folder, FileError::NotUtf8));
     };
     match rt.set_current_dir(path) {
         Ok(()) => Ok(()),
@@ -102,11 +102,9 @@ fn enter_all(rt: &HostRuntime, folders: &[&[u8]]) -> Result<(), Stop> {
 
 /// Reads the environment, with what the options before the word say.
 fn environment(rt: &HostRuntime, front: &Front<'_>) -> Result<Environment, Stop> {
-    let Ok(mut environment) = Environment::read(rt.alloc(), rt) else {
-        return Err(not_read(
-            rt.alloc(),
-            &[b"the current folder or the environment cannot be read"],
-        ));
+    let mut environment = match Environment::read(rt.alloc(), rt) {
+        Ok(environment) => environment,
+        Err(error) => return Err(refused(rt.alloc(), &error)),
     };
     if let Some(folder) = front.git_dir {
         environment.set(rt.alloc(), Variable::GitDir, folder)?;
@@ -115,9 +113,9 @@ fn environment(rt: &HostRuntime, front: &Front<'_>) -> Result<Environment, Stop>
         environment.set(rt.alloc(), Variable::WorkTree, folder)?;
     }
     if environment.get(Variable::WorkTree) == Some(b"".as_slice()) {
-        return Err(not_read(
+        return Err(not_supported(
             rt.alloc(),
-            &[b"a work tree without a name is not supported"],
+            &[b"a work tree with an empty name is not supported"],
         ));
     }
     Ok(environment)
@@ -135,7 +133,7 @@ fn seed(rt: &HostRuntime) -> Seed {
 /// Returns the current time. Of a clock that is set to a time before 1970 it is 1970.
 fn now(rt: &HostRuntime) -> Result<Time, Stop> {
     let Ok(time) = SystemTime::now(rt) else {
-        return Err(not_read(rt.alloc(), &[b"the clock cannot be read"]));
+        return Err(failed(rt.alloc(), &[b"cannot read the clock"]));
     };
     let seconds = match time.duration_since(SystemTime::UNIX_EPOCH) {
         Ok(since) => since.as_secs().cast_signed(),
@@ -176,16 +174,27 @@ fn serve(rt: &HostRuntime, front: &Front<'_>, word: &[u8], words: &[&[u8]]) -> R
     ))
 }
 
-/// Returns the end for an option before the command that is not read.
-fn unread(rt: &HostRuntime, option: &[u8]) -> Stop {
-    not_read(
+/// Returns the end for an option before the command that is not supported.
+fn unsupported(rt: &HostRuntime, option: &[u8]) -> Stop {
+    let advice = if option == b"-c".as_slice() {
+        b": write git -c KEY=VALUE proved ..".as_slice()
+    } else {
+        b""
+    };
+    not_supported(
         rt.alloc(),
         &[
-            b"option '",
+            b"the option '",
             option,
-            b"' before the command is unknown or has no value",
+            b"' before the command is not supported",
+            advice,
         ],
     )
+}
+
+/// Returns the end for an option before the command whose value is missing.
+fn without_value(rt: &HostRuntime, option: &[u8]) -> Stop {
+    no_question(rt.alloc(), &[b"the option '", option, b"' lacks its value"])
 }
 
 /// Answers the command line, and returns the status.
@@ -198,22 +207,33 @@ fn answer(rt: &HostRuntime, words: &[Vec<u8>]) -> Result<u8, Stop> {
     enter_all(rt, &front.folders)?;
     match front.asked {
         Asked::Word(word, rest) => serve(rt, &front, word, rest),
-        Asked::Help => Ok(print_text(&mut rt.stdout(), HELP)),
-        Asked::Version => Ok(print_text(&mut rt.stdout(), VERSION)),
-        Asked::Nothing => Err(not_read(rt.alloc(), &[b"no command is given; -h lists them"])),
-        Asked::Unread(option) => Err(unread(rt, option)),
+        Asked::Help => Ok(print_text(rt, HELP)),
+        Asked::Version => Ok(print_text(rt, VERSION)),
+        Asked::Nothing => Err(no_question(
+            rt.alloc(),
+            &[b"no command is given; git proved -h lists them"],
+        )),
+        Asked::Unread(option) => Err(unsupported(rt, option)),
+        Asked::NoValue(option) => Err(without_value(rt, option)),
     }
+}
+
+/// Prints a text, and returns the status.
+fn print_text(rt: &HostRuntime, text: &[u8]) -> u8 {
+    write_answer(&mut rt.stdout(), &mut rt.stderr(), 0, text, b"")
 }
 
 /// Writes why there is no answer, and returns the status.
 fn end(rt: &HostRuntime, stop: &Stop) -> u8 {
-    match ended(rt.alloc(), stop) {
+    let errors = match ended(rt.alloc(), b"", stop) {
         Ok(finished) => {
             let _ = rt.stderr().write_all(&finished.errors);
-            finished.status
+            return finished.status;
         }
-        Err(AllocError) => NOT_READ,
-    }
+        Err(AllocError) => OUT_OF_MEMORY,
+    };
+    let _ = rt.stderr().write_all(errors);
+    Cause::Failure.status()
 }
 
 /// Answers the command line of the process, and returns the status.

@@ -28,8 +28,10 @@ pub(crate) enum Asked<'w> {
     Version,
     /// Nothing: there is no word.
     Nothing,
-    /// An option that is not read, or one whose value is missing.
+    /// An option that is not supported.
     Unread(&'w [u8]),
+    /// An option whose value is missing.
+    NoValue(&'w [u8]),
 }
 
 /// An option that wants a value.
@@ -113,7 +115,7 @@ impl<'w> Front<'w> {
                 next = next.saturating_add(1);
             }
             let Some(value) = joined.or(rest.first().copied()) else {
-                front.asked = Asked::Unread(word);
+                front.asked = Asked::NoValue(word);
                 return Ok(front);
             };
             front.note(wants, value)?;

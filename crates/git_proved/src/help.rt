@@ -28,11 +28,12 @@ Options before the command:
 Exit status:
 
     0, 1, 128   as in git
-    129         the question is not supported, or the program failed; nothing
-                is printed on standard output, so that a script can ask git
+    129         the question is not supported; ask git
+    125         something is damaged or has changed, or the program failed
     141         standard output is a pipe that was closed
 
-The manual page git-proved(1) has the options of each command.
+With 125 and 129 nothing is printed on standard output. git proved COMMAND -h
+lists the options of a command. The manual page git-proved(1) explains them.
 ";
 
 /// The version: what `git proved --version` prints.

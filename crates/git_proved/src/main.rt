@@ -13,8 +13,9 @@
 //!   where the repository is.
 //! - `program` opens the repository, answers, and returns the status.
 //!
-//! The status is git's: 0, 1 or 128. What is not read here, and what fails here, ends with the
-//! status 129 and prints nothing on standard output, so that a script can ask git then.
+//! The status is git's: 0, 1 or 128. What is not supported here ends with the status 129, so that a
+//! script can ask git then. Damage, and a failure of the program, end with 125. Both print nothing on
+//! standard output.
 #![tactic(auto)]
 
 mod answer;
@@ -26,6 +27,7 @@ mod merge_base;
 mod program;
 mod quoted;
 mod rev_parse;
+mod usage;
 
 use crate::command_line::answered;
 use std::process::ExitCode;

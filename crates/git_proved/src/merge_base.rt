@@ -3,15 +3,15 @@
 use git_session::bases::{bases_in_order, merge_bases, octopus_in_order};
 use git_session::forms::asks_entry;
 use git_session::names::{commit, commit_of, commits, commits_last_first};
-use git_session::options::next_item;
+use git_session::options::{add_choice, next_item};
 use git_session::ranges::revision;
 use git_session::session::Session;
-use git_session::stop::{Stop, fatal, not_read};
+use git_session::stop::{Stop, fatal, missing, not_supported};
 use gix_questions::{Independent, IsAncestor};
 use gix_repository::Refusal;
 use gix_revision::hash::ObjectId;
 use parse_options::{Choice, Given, Item, Reader, Value};
-use std::alloc::Global;
+use std::alloc::{AllocError, Global};
 use std::marker::Brand;
 
 /// Says what is asked for.
@@ -70,6 +70,14 @@ static CHOICES: [Choice<Key>; 5] = [
     },
 ];
 
+/// Adds the options to a text, each on a line.
+pub(crate) fn add_options(text: &mut Vec<u8>) -> Result<(), AllocError> {
+    for choice in CHOICES.iter() {
+        add_choice(text, choice, choice.has_no)?;
+    }
+    Ok(())
+}
+
 /// What the words ask for.
 #[derive(Drop)]
 struct Asked<'w> {
@@ -84,7 +92,7 @@ impl<'w> Asked<'w> {
         match given.key {
             Key::All => self.all = !given.is_no,
             Key::Mode(mode) if self.mode == Mode::Bases || self.mode == mode => self.mode = mode,
-            Key::Mode(_) => return Err(not_read(alloc, &[b"merge-base takes one mode"])),
+            Key::Mode(_) => return Err(not_supported(alloc, &[b"several modes are not supported"])),
         }
         Ok(())
     }
@@ -128,7 +136,10 @@ fn print_ids(session: &mut Session<'_>, all: bool, ids: &[ObjectId]) -> Result<u
 /// Answers for the merge bases of the first commit and a merge of the others.
 fn bases(session: &mut Session<'_>, asked: &Asked<'_>) -> Result<u8, Stop> {
     if asked.texts.len() < 2 {
-        return Err(not_read(session.alloc, &[b"merge-base wants two commits or more"]));
+        return Err(not_supported(
+            session.alloc,
+            &[b"fewer than two commits are not supported"],
+        ));
     }
     let ids = commits(session, &asked.texts)?;
     let Some((first, others)) = ids.split_first() else {
@@ -165,7 +176,10 @@ fn independent(session: &mut Session<'_>, asked: &Asked<'_>) -> Result<u8, Stop>
 /// Answers `--is-ancestor`.
 fn is_ancestor(session: &mut Session<'_>, asked: &Asked<'_>) -> Result<u8, Stop> {
     if asked.texts.len() < 2 {
-        return Err(not_read(session.alloc, &[b"--is-ancestor wants two commits"]));
+        return Err(not_supported(
+            session.alloc,
+            &[b"--is-ancestor of fewer than two commits is not supported"],
+        ));
     }
     if asked.all {
         return Err(excluded(session.alloc, b"--is-ancestor"));
@@ -236,9 +250,9 @@ fn fork_point(session: &mut Session<'_>, asked: &Asked<'_>) -> Result<u8, Stop> 
     let (reference, text) = match asked.texts.as_slice() {
         [reference] => (*reference, b"HEAD".as_slice()),
         [reference, text] => (*reference, *text),
-        _ => return Err(not_read(
+        _ => return Err(not_supported(
             session.alloc,
-            &[b"--fork-point wants a reference and a commit"],
+            &[b"--fork-point is supported of a reference and at most one commit"],
         )),
     };
     let Some(id) = revision(session, text)? else {

@@ -1,6 +1,6 @@
 //! Splits a line into words, as a shell does with quotes.
 
-use git_session::stop::{Stop, not_read};
+use git_session::stop::{Stop, no_question};
 use std::alloc::Global;
 
 /// Says in which quotes a byte stands.
@@ -101,7 +101,7 @@ impl Splitter {
 ///
 /// # Errors
 ///
-/// - `NotRead` if quotes are not closed, or nothing follows a backslash.
+/// - `NoQuestion` if quotes are not closed, or nothing follows a backslash.
 /// - `OutOfMemory` if an allocation failed.
 pub(crate) fn split_words(alloc: Global, line: &[u8]) -> Result<Vec<Vec<u8>>, Stop> {
     let mut splitter = Splitter {
@@ -116,7 +116,7 @@ pub(crate) fn split_words(alloc: Global, line: &[u8]) -> Result<Vec<Vec<u8>>, St
         splitter.read(*byte)?;
     }
     if splitter.is_escaped || splitter.quotes != Quotes::Outside {
-        return Err(not_read(alloc, &[b"a line has an open quote"]));
+        return Err(no_question(alloc, &[b"a line has an open quote"]));
     }
     splitter.end_word()?;
     Ok(splitter.words)

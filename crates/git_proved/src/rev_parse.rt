@@ -3,6 +3,7 @@
 mod asked;
 mod show;
 
+pub(crate) use crate::rev_parse::asked::add_options;
 use crate::rev_parse::asked::{Asked, Place};
 use crate::rev_parse::show::{show_default, show_text, show_tip};
 use git_session::forms::{asks_sibling, is_counted};

@@ -4,7 +4,7 @@ use crate::order::{Come, set_of};
 use crate::topological::sort;
 use crate::wishes::{Order, Wishes};
 use git_session::session::Session;
-use git_session::stop::{Stop, not_read};
+use git_session::stop::{Stop, not_supported};
 use gix_revision::hash::ObjectId;
 
 /// Returns the parents of commits that are not among these, each once, the last one first.
@@ -31,7 +31,7 @@ fn parents_behind(session: &mut Session<'_>, ids: &[ObjectId]) -> Result<Vec<Com
 ///
 /// # Errors
 ///
-/// `NotRead` with `--first-parent`, and if the sides are counted: both hang on what git has read.
+/// `NotSupported` with `--first-parent`, and if the sides are counted: both hang on what git has read.
 pub(crate) fn boundary_of(
     session: &mut Session<'_>,
     wishes: &Wishes,
@@ -41,9 +41,9 @@ pub(crate) fn boundary_of(
         return Ok(Vec::new(session.alloc));
     }
     if wishes.is_first_parent || (wishes.counts && wishes.has_sides) {
-        return Err(not_read(
+        return Err(not_supported(
             session.alloc,
-            &[b"--boundary is not supported with --first-parent, or where sides are counted"],
+            &[b"--boundary is not supported with --first-parent, or if sides are counted"],
         ));
     }
     let behind = parents_behind(session, ids)?;

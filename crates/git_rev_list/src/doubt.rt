@@ -7,7 +7,7 @@
 use crate::order::{Come, Walk, set_of};
 use crate::starts::Ends;
 use git_session::session::Session;
-use git_session::stop::{Stop, not_read};
+use git_session::stop::{Stop, not_supported};
 use gix_revision::hash::ObjectId;
 
 /// A commit that is left out, at which a line of first parents ends. The greatest is the newest.
@@ -70,9 +70,9 @@ pub(crate) fn refuse_doubt(
     if are_known(session, ends, &last)? {
         Ok(())
     } else {
-        Err(not_read(
+        Err(not_supported(
             session.alloc,
-            &[b"--first-parent is not supported where commits have one date"],
+            &[b"--first-parent is not supported if commits have the same date"],
         ))
     }
 }

@@ -2,7 +2,7 @@
 
 use git_session::paths::{Turn, both, is_file, verify_file};
 use git_session::session::Session;
-use git_session::stop::{Stop, not_read};
+use git_session::stop::{Stop, not_supported};
 
 /// Ends if a revision is the name of a file, too.
 pub(crate) fn refuse_file(session: &Session<'_>, word: &[u8]) -> Result<(), Stop> {
@@ -18,10 +18,7 @@ pub(crate) fn refuse_file(session: &Session<'_>, word: &[u8]) -> Result<(), Stop
 /// Returns the end for a word that names no revision: a path, or nothing.
 pub(crate) fn no_revision(session: &Session<'_>, word: &[u8]) -> Stop {
     match verify_file(session, word, Turn::First) {
-        Ok(()) => not_read(
-            session.alloc,
-            &[b"rev-list: the path '", word, b"' is not supported"],
-        ),
+        Ok(()) => not_supported(session.alloc, &[b"'", word, b"': paths are not supported"]),
         Err(stop) => stop,
     }
 }

@@ -28,6 +28,7 @@ use crate::wishes::Wishes;
 use git_session::session::Session;
 use git_session::stop::Stop;
 use gix_revision::hash::ObjectId;
+use std::alloc::AllocError;
 
 /// Returns the mark of a commit: its side.
 fn mark(wishes: &Wishes, left: &Ids, id: ObjectId) -> &'static [u8] {
@@ -96,6 +97,11 @@ fn print_list(session: &mut Session<'_>, wishes: &Wishes, ends: &Ends) -> Result
         session.print(b"\n")?;
     }
     Ok(())
+}
+
+/// Adds the options of `rev-list` to a text, each on a line.
+pub fn add_options(text: &mut Vec<u8>) -> Result<(), AllocError> {
+    words::add_options(text)
 }
 
 /// Answers `rev-list`, and returns the status.

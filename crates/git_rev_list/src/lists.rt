@@ -6,7 +6,7 @@ use crate::starts::Ends;
 use crate::topological::sort;
 use crate::wishes::{Order, Wishes};
 use git_session::session::Session;
-use git_session::stop::{Stop, not_read};
+use git_session::stop::{Stop, failed, not_supported};
 use gix_questions::ReachableNewestFirst;
 use gix_revision::hash::ObjectId;
 use std::alloc::Global;
@@ -115,7 +115,7 @@ fn first_parents(session: &mut Session<'_>, begin: &[ObjectId], ends: &Ends) -> 
 ///
 /// # Errors
 ///
-/// `NotRead` if the walk does not meet each commit of the set: then generation numbers rise
+/// `Failure` if the walk does not meet each commit of the set: then generation numbers rise
 /// somewhere, and the set may be too great.
 fn whole_list(session: &mut Session<'_>, ends: &Ends) -> Result<Vec<Come>, Stop> {
     let ids = reachable(session, &ends.included, &ends.excluded)?;
@@ -125,7 +125,10 @@ fn whole_list(session: &mut Session<'_>, ends: &Ends) -> Result<Vec<Come>, Stop>
     if list.len() == ids.len() {
         Ok(list)
     } else {
-        Err(not_read(session.alloc, &[b"the commit-graph is damaged"]))
+        Err(failed(
+            session.alloc,
+            &[b"the commit-graph is damaged: generation numbers rise"],
+        ))
     }
 }
 
@@ -133,7 +136,7 @@ fn whole_list(session: &mut Session<'_>, ends: &Ends) -> Result<Vec<Come>, Stop>
 ///
 /// # Errors
 ///
-/// `NotRead` if only first parents are followed, and the order hangs on others: with a commit-graph
+/// `NotSupported` if only first parents are followed, and the order hangs on others: with a commit-graph
 /// git has another one than without.
 fn sorted_list(
     session: &mut Session<'_>,
@@ -143,7 +146,7 @@ fn sorted_list(
 ) -> Result<Vec<Come>, Stop> {
     let sorted = sort(session, list, wishes.order)?;
     if wishes.is_first_parent && begins > 1 && sorted.has_sides {
-        return Err(not_read(
+        return Err(not_supported(
             session.alloc,
             &[b"--first-parent of several revisions is not supported in this order"],
         ));
@@ -155,7 +158,7 @@ fn sorted_list(
 ///
 /// # Errors
 ///
-/// `NotRead` if git may list more of them.
+/// `NotSupported` if git may list more of them.
 fn first_parent_list(session: &mut Session<'_>, ends: &Ends) -> Result<Vec<Come>, Stop> {
     let mut walk = first_parents(session, &ends.included, ends)?;
     let list = all_of(session, &mut walk)?;
@@ -223,7 +226,7 @@ fn side(
 
 /// Returns the end for commits that are on both sides.
 pub(crate) fn on_both_sides(alloc: Global) -> Stop {
-    not_read(
+    not_supported(
         alloc,
         &[b"--left-right is not supported for commits that are on both sides"],
     )
@@ -233,7 +236,7 @@ pub(crate) fn on_both_sides(alloc: Global) -> Stop {
 ///
 /// # Errors
 ///
-/// `NotRead` if a commit is on both sides, as it may be for several ranges: which side git takes
+/// `NotSupported` if a commit is on both sides, as it may be for several ranges: which side git takes
 /// then hangs on the order in which it meets commits.
 pub(crate) fn left_side(
     session: &mut Session<'_>,

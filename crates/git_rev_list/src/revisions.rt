@@ -7,7 +7,7 @@ use git_session::ranges::{
     Ends, Marked, commit_reference, committish, ends_of, revision, shorthand_of, shorthand_tips,
 };
 use git_session::session::Session;
-use git_session::stop::{Stop, fatal, not_read};
+use git_session::stop::{Stop, fatal, not_supported};
 use gix_revision::hash::ObjectId;
 
 /// Says how a revision is read.
@@ -209,7 +209,7 @@ fn add_word(
 /// # Errors
 ///
 /// - `Fatal`, with git's message, if it names nothing, or a file, too.
-/// - `NotRead` if it is a path, or not read.
+/// - `NotSupported` if it is a path, or not read.
 pub(crate) fn read(
     session: &mut Session<'_>,
     flags: Flags,
@@ -217,7 +217,7 @@ pub(crate) fn read(
     starts: &mut Starts,
 ) -> Result<(), Stop> {
     if word == b"..".as_slice() {
-        return Err(not_read(session.alloc, &[b"rev-list: '..' is not supported"]));
+        return Err(not_supported(session.alloc, &[b"'..' is not supported"]));
     }
     if add_word(session, flags, word, starts)? {
         return Ok(());
@@ -237,9 +237,9 @@ fn is_dashes(session: &Session<'_>, line: &[u8]) -> Result<bool, Stop> {
         return Err(fatal(session.alloc, &[b"options not supported in --stdin mode"]));
     }
     if line.contains(&0) {
-        return Err(not_read(
+        return Err(not_supported(
             session.alloc,
-            &[b"a line with a zero byte is not supported"],
+            &[b"a line of --stdin with a zero byte is not supported"],
         ));
     }
     Ok(false)
@@ -250,10 +250,10 @@ fn is_dashes(session: &Session<'_>, line: &[u8]) -> Result<bool, Stop> {
 /// # Errors
 ///
 /// - `Fatal`, with git's message, if one names nothing.
-/// - `NotRead` if paths follow, or in a batch, whose standard input has its questions.
+/// - `NotSupported` if paths follow, or in a batch, whose standard input has its questions.
 pub(crate) fn read_input(session: &mut Session<'_>, starts: &mut Starts) -> Result<(), Stop> {
     let Some(input) = session.input.take() else {
-        return Err(not_read(session.alloc, &[b"rev-list: batch has no --stdin"]));
+        return Err(not_supported(session.alloc, &[b"--stdin is not supported in a batch"]));
     };
     let flags = Flags {
         is_turned: false,
@@ -280,6 +280,6 @@ pub(crate) fn read_input(session: &mut Session<'_>, starts: &mut Starts) -> Resu
 fn end_input(session: &Session<'_>, rest: Option<&[u8]>, is_more: bool) -> Result<(), Stop> {
     match rest {
         None | Some([]) if !is_more => Ok(()),
-        _ => Err(not_read(session.alloc, &[b"rev-list: paths are not supported"])),
+        _ => Err(not_supported(session.alloc, &[b"paths are not supported"])),
     }
 }

@@ -1,7 +1,7 @@
 //! The objects from which a list begins, and those that end it.
 
 use git_session::session::Session;
-use git_session::stop::{Stop, fatal, not_read};
+use git_session::stop::{Stop, fatal, missing};
 use gix_discover::wildmatch::{Rules, is_match};
 use gix_ref::{Listing, Skipped, Why};
 use gix_repository::Refusal;
@@ -49,7 +49,7 @@ pub(crate) struct Ends {
 ///
 /// # Errors
 ///
-/// `NotRead` if it is not read, or if a remote has promised it.
+/// `NotSupported` if it is not read, or if a remote has promised it.
 pub(crate) fn is_there(session: &mut Session<'_>, id: ObjectId) -> Result<bool, Stop> {
     match session.repository.kind(id) {
         Ok(_) => Ok(true),
@@ -141,10 +141,7 @@ fn target(
         return Err(bad_object(session.alloc, &digits[..written]));
     }
     if session.repository.kind(tag.target)? != tag.kind {
-        return Err(not_read(
-            session.alloc,
-            &[b"a tag that says another kind than its object has is not supported"],
-        ));
+        return Err(Stop::from(Refusal::TagKind(id)));
     }
     Ok(Some(tag.target))
 }
@@ -307,7 +304,7 @@ impl Starts {
         let heads = session.repository.heads()?;
         for id in heads.iter() {
             if !is_there(session, *id)? {
-                return Err(not_read(session.alloc, &[b"what HEAD stands for is not there"]));
+                return Err(missing(*id));
             }
             self.add(*id, is_excluded)?;
         }

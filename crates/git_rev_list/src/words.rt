@@ -3,11 +3,12 @@
 use crate::revisions::{self, Flags};
 use crate::starts::{Start, Starts};
 use crate::wishes::{Order, Wishes};
+use git_session::options::{add_exact, unsupported};
 use git_session::session::Session;
-use git_session::stop::{FATAL, Stop, fatal, not_read};
+use git_session::stop::{FATAL, Stop, fatal, not_supported};
 use git_session::words::Words;
 use parse_options::{Exact, Holds, Takes, exact_option};
-use std::alloc::Global;
+use std::alloc::{AllocError, Global};
 
 /// Names an option.
 #[derive(Clone, Copy)]
@@ -59,6 +60,15 @@ static OPTIONS: [Exact<Key>; 20] = [
     Exact("--skip", Takes::Word, Key::Skip),
 ];
 
+/// Adds the options to a text, each on a line.
+pub(crate) fn add_options(text: &mut Vec<u8>) -> Result<(), AllocError> {
+    for option in OPTIONS.iter() {
+        add_exact(text, option)?;
+    }
+    text.extend_from_slice(b"    -NUMBER\n")?;
+    Ok(())
+}
+
 /// Returns the digits with which a text begins, and whether a minus is before them.
 fn sign_and_digits(text: &[u8]) -> (bool, &[u8]) {
     let is_space = |b: &u8| b.is_ascii_whitespace() || *b == 11;
@@ -81,7 +91,7 @@ fn sign_and_digits(text: &[u8]) -> (bool, &[u8]) {
 ///
 /// # Errors
 ///
-/// `NotRead` for a number that does not fit 32 bits: git wraps it.
+/// `NotSupported` for a number that does not fit 32 bits: git wraps it.
 fn leading_number(alloc: Global, text: &[u8]) -> Result<Option<usize>, Stop> {
     let (is_negative, digits) = sign_and_digits(text);
     match whole_number(digits) {
@@ -89,7 +99,7 @@ fn leading_number(alloc: Global, text: &[u8]) -> Result<Option<usize>, Stop> {
         Some(0) => Ok(Some(0)),
         Some(_) if is_negative => Ok(None),
         Some(number) => Ok(Some(number)),
-        None => Err(not_read(alloc, &[b"the number '", text, b"' is not supported"])),
+        None => Err(not_supported(alloc, &[b"the number '", text, b"' is not supported"])),
     }
 }
 
@@ -231,10 +241,7 @@ impl<'w> Scan<'w> {
             Some(digits) if digits.first().is_some_and(|b| b.is_ascii_digit()) => {
                 self.note_digits(session.alloc, digits)
             }
-            _ => Err(not_read(
-                session.alloc,
-                &[b"rev-list: option '", word, b"' is not supported"],
-            )),
+            _ => Err(unsupported(session.alloc, word)),
         }
     }
 
@@ -252,13 +259,13 @@ impl<'w> Scan<'w> {
 ///
 /// # Errors
 ///
-/// `NotRead` if a path is behind it.
+/// `NotSupported` if a path is behind it.
 fn before_dashes<'w>(alloc: Global, words: &'w [&'w [u8]]) -> Result<(&'w [&'w [u8]], bool), Stop> {
     let Some(at) = words.iter().position(|word| *word == b"--".as_slice()) else {
         return Ok((words, false));
     };
     if at.saturating_add(1) < words.len() {
-        return Err(not_read(alloc, &[b"rev-list: paths are not supported"]));
+        return Err(not_supported(alloc, &[b"paths are not supported"]));
     }
     Ok((words.get(..at).unwrap_or(&[]), true))
 }
@@ -268,7 +275,7 @@ fn before_dashes<'w>(alloc: Global, words: &'w [&'w [u8]]) -> Result<(&'w [&'w [
 /// # Errors
 ///
 /// - `Fatal` and `Said` as git ends.
-/// - `NotRead` for other options, for paths, and if there are no revisions.
+/// - `NotSupported` for other options, for paths, and if there are no revisions.
 pub(crate) fn read<'w>(session: &mut Session<'_>, words: &'w [&'w [u8]]) -> Result<Scan<'w>, Stop> {
     let (words, has_dashes) = before_dashes(session.alloc, words)?;
     let mut scan = Scan {
@@ -290,7 +297,7 @@ pub(crate) fn read<'w>(session: &mut Session<'_>, words: &'w [&'w [u8]]) -> Resu
         scan.note(session, word)?;
     }
     if !scan.has_revisions {
-        return Err(not_read(session.alloc, &[b"rev-list: a revision is wanted"]));
+        return Err(not_supported(session.alloc, &[b"no revision is given"]));
     }
     Ok(scan)
 }

@@ -5,7 +5,7 @@ mod painting;
 
 use crate::bases::painting::met;
 use crate::session::Session;
-use crate::stop::{Stop, not_read};
+use crate::stop::{Stop, not_supported};
 use gix_questions::{MergeBases, OctopusBases};
 use gix_revision::hash::ObjectId;
 use std::alloc::{AllocError, Global};
@@ -54,7 +54,7 @@ fn has_equals(dated: &[Dated]) -> bool {
 
 /// Returns the end for merge bases whose order is not read.
 fn unordered(alloc: Global) -> Stop {
-    not_read(
+    not_supported(
         alloc,
         &[b"the order of merge bases with one date is not supported"],
     )
@@ -65,7 +65,7 @@ fn unordered(alloc: Global) -> Stop {
 ///
 /// # Errors
 ///
-/// `NotRead` if dates are the same, and the walk depends on what is not read.
+/// `NotSupported` if dates are the same, and the walk depends on what is not read.
 fn in_order(
     session: &mut Session<'_>,
     first: ObjectId,
@@ -116,7 +116,7 @@ pub fn merge_bases(
 ///
 /// # Errors
 ///
-/// - `NotRead` if git's order depends on what is not read.
+/// - `NotSupported` if git's order depends on what is not read.
 /// - `Refused` if a commit is not read.
 pub fn bases_in_order(
     session: &mut Session<'_>,
@@ -179,7 +179,7 @@ fn only(
 ///
 /// # Errors
 ///
-/// - `NotRead` if git's order depends on what is not read.
+/// - `NotSupported` if git's order depends on what is not read.
 /// - `Refused` if a commit is not read.
 pub fn octopus_in_order(
     session: &mut Session<'_>,

@@ -11,7 +11,7 @@ use gix_revision::hash::ObjectId;
 ///
 /// # Errors
 ///
-/// `NotRead` if an object on the way is not read, or if a remote has promised it.
+/// `Refused` if an object on the way is not read.
 pub fn commit_of(session: &mut Session<'_>, id: ObjectId) -> Result<Option<ObjectId>, Stop> {
     match session.repository.commit(id) {
         Ok(found) => Ok(found),

@@ -3,9 +3,8 @@
 
 use crate::forms::{Form, before_path, form_of};
 use crate::session::Session;
-use crate::stop::{Stop, fatal, joined, not_read};
+use crate::stop::{Stop, fatal, joined, not_supported, unread};
 use gix_discover::Places;
-use gix_files::FileError;
 use std::alloc::Global;
 
 /// Says which word of a command line may be the name of a file.
@@ -29,15 +28,14 @@ fn is_below_top(session: &Session<'_>) -> bool {
 ///
 /// # Errors
 ///
-/// `NotRead` if the system does not say it.
+/// `Failure` if the system does not say it.
 fn is_path(session: &Session<'_>, path: &[u8]) -> Result<bool, Stop> {
     if path.is_empty() {
         return Ok(is_below_top(session));
     }
     match session.files.link_place(path) {
         Ok(found) => Ok(found.is_some()),
-        Err(FileError::OutOfMemory) => Err(Stop::OutOfMemory),
-        Err(_) => Err(not_read(session.alloc, &[b"the path '", path, b"' is not supported"])),
+        Err(error) => Err(unread(session.alloc, path, error)),
     }
 }
 
@@ -58,7 +56,7 @@ fn is_path_from_top(session: &Session<'_>, path: &[u8]) -> Result<bool, Stop> {
 ///
 /// # Errors
 ///
-/// `NotRead` if the system does not say it.
+/// `Failure` if the system does not say it.
 pub fn is_file(session: &Session<'_>, word: &[u8]) -> Result<bool, Stop> {
     if let Some(path) = word.strip_prefix(b":/") {
         return Ok(path.is_empty() || is_path_from_top(session, path)?);
@@ -131,7 +129,7 @@ fn no_path(alloc: Global, word: &[u8]) -> Stop {
     let front = before_path(word);
     if !front.is_empty() && front.len() < word.len() {
         // It may be a path in a tree. git has printed the words up to it.
-        return not_read(alloc, &[b"the path '", word, b"' is not supported"]);
+        return not_supported(alloc, &[b"'", word, b"': paths are not supported"]);
     }
     fatal(
         alloc,

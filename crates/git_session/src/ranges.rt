@@ -3,7 +3,7 @@
 use crate::bases::bases_in_order;
 use crate::forms::{Form, before_path, form_of, may_be_date};
 use crate::session::Session;
-use crate::stop::{Stop, fatal, not_read};
+use crate::stop::{Stop, fatal, not_supported};
 use crate::unpeeled::{say_lost, say_no_commit, say_unpeeled};
 use gix_repository::Refusal;
 use gix_revision::hash::ObjectId;
@@ -101,7 +101,7 @@ pub fn range_of<'w>(word: &'w [u8]) -> Option<Range<'w>> {
 ///
 /// # Errors
 ///
-/// `NotRead` for what C reads as a number in other forms, as with signs.
+/// `NotSupported` for what C reads as a number in other forms, as with signs.
 fn parent_number(alloc: Global, text: &[u8]) -> Result<Option<usize>, Stop> {
     if text.is_empty() {
         return Ok(Some(1));
@@ -112,7 +112,7 @@ fn parent_number(alloc: Global, text: &[u8]) -> Result<Option<usize>, Stop> {
             .first()
             .is_some_and(|b| b.is_ascii_whitespace() || *b == 11);
     if is_odd || text.len() > 9 {
-        return Err(not_read(alloc, &[b"the number '", text, b"' is not supported"]));
+        return Err(not_supported(alloc, &[b"the number '", text, b"' is not supported"]));
     }
     let number = match str::from_utf8(text) {
         Ok(text) => text.parse::<usize>().ok(),
@@ -163,9 +163,17 @@ fn existing(session: &mut Session<'_>, id: ObjectId) -> Result<Option<ObjectId>,
 /// Ends if git may read as a date what names nothing.
 fn unless_date(alloc: Global, text: &[u8]) -> Result<(), Stop> {
     if may_be_date(text) {
-        return Err(not_read(alloc, &[b"the date in '", text, b"' is not supported"]));
+        return Err(not_supported(
+            alloc,
+            &[b"'", text, b"': this form of a date is not supported"],
+        ));
     }
     Ok(())
+}
+
+/// Returns the end for a text that needs what is not supported.
+fn unsupported<'t>(alloc: Global, text: &'t [u8], reason: &'t [u8]) -> Stop {
+    not_supported(alloc, &[b"'", text, b"': ", reason])
 }
 
 /// Returns the object of a look-up; `None` if the text names none, or if it is ambiguous. If a step
@@ -189,6 +197,11 @@ fn found(
             say_lost(session, text, id)?;
             Ok(None)
         }
+        Err(Refusal::NotSupported(what)) => Err(unsupported(
+            session.alloc,
+            text,
+            what.text().as_bytes(),
+        )),
         Err(refusal) => Err(Stop::from(refusal)),
     }
 }
@@ -203,7 +216,7 @@ fn has_step(text: &[u8]) -> bool {
 ///
 /// # Errors
 ///
-/// `NotRead` if an object on the way is not read, or if a remote has promised it.
+/// `Refused` if an object on the way is not read.
 pub fn commit_reference(session: &mut Session<'_>, id: ObjectId) -> Result<Option<ObjectId>, Stop> {
     match session.repository.peeled(id) {
         Ok((id, Kind::Commit)) => Ok(Some(id)),
@@ -222,14 +235,14 @@ pub fn commit_reference(session: &mut Session<'_>, id: ObjectId) -> Result<Optio
 ///
 /// # Errors
 ///
-/// `NotRead` for paths of the index and odd forms, and `Fatal` if git ends there with a message.
+/// `NotSupported` for paths of the index and odd forms, and `Fatal` if git ends there with a message.
 fn is_nothing(session: &Session<'_>, text: &[u8]) -> Result<bool, Stop> {
     let alloc = session.alloc;
     if text.starts_with(b":/") && text.len() > 2 {
         return Ok(false);
     }
     if text.starts_with(b":") {
-        return Err(not_read(alloc, &[b"the path '", text, b"' is not supported"]));
+        return Err(not_supported(alloc, &[b"'", text, b"': paths are not supported"]));
     }
     match form_of(before_path(text)) {
         Form::Usual => Ok(false),
@@ -238,7 +251,10 @@ fn is_nothing(session: &Session<'_>, text: &[u8]) -> Result<bool, Stop> {
             Ok(true)
         }
         Form::NoBranch(name) => Err(fatal(alloc, &[b"no such branch: '", name, b"'"])),
-        Form::Odd => Err(not_read(alloc, &[b"'", text, b"' is not supported"])),
+        Form::Odd => Err(not_supported(
+            alloc,
+            &[b"'", text, b"': this form of a revision is not supported"],
+        )),
     }
 }
 
@@ -247,7 +263,8 @@ fn is_nothing(session: &Session<'_>, text: &[u8]) -> Result<bool, Stop> {
 ///
 /// # Errors
 ///
-/// `Fatal` or `Said` if git ends there with a message, and `NotRead` if the text is not read.
+/// `Fatal` or `Said` if git ends there with a message, and `NotSupported` for forms that are not
+/// supported.
 pub fn revision(session: &mut Session<'_>, text: &[u8]) -> Result<Option<ObjectId>, Stop> {
     if is_nothing(session, text)? {
         return Ok(None);
@@ -326,7 +343,7 @@ fn add_bases<'w>(
 ///
 /// # Errors
 ///
-/// Those of [`revision`], and `NotRead` if the merge bases of objects are asked for that are no
+/// Those of [`revision`], and `NotSupported` if the merge bases of objects are asked for that are no
 /// commits: git has printed the ends before it says so.
 pub fn range_tips<'w>(
     session: &mut Session<'_>,
@@ -339,9 +356,9 @@ pub fn range_tips<'w>(
     tips.push(tip_of(ends.end, ends.range.end, false))?;
     tips.push(tip_of(ends.start, ends.range.start, !ends.range.is_symmetric))?;
     if ends.range.is_symmetric && !add_bases(session, &ends, &mut tips)? {
-        return Err(not_read(
+        return Err(not_supported(
             session.alloc,
-            &[b"the ends of '", word, b"' are no commits"],
+            &[b"'", word, b"': ends that are no commits are not supported"],
         ));
     }
     Ok(Some(tips))

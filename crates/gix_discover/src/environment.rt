@@ -1,6 +1,6 @@
 //! Has the environment variables that git reads (git, "Environment variables").
 
-use crate::error::{DiscoverError, Reason, about};
+use crate::error::{DiscoverError, Reason, about_value};
 use gix_config::{boolean, decimal};
 use std::alloc::{AllocError, Allocator, Global};
 use std::env::{Env, FillError};
@@ -332,10 +332,12 @@ impl<A: Allocator + Copy> Environment<A> {
                 | Variable::ImplicitWorkTree,
                 Some(text),
             ) if boolean(text).is_none() => Some(Reason::BadBoolean),
-            (Variable::RefParanoia, Some(text)) if boolean(text) != Some(true) => {
-                Some(Reason::BadBoolean)
-            }
-            (Variable::SuperPrefix, Some(_)) => Some(Reason::BadValue),
+            (Variable::RefParanoia, Some(text)) => match boolean(text) {
+                Some(true) => None,
+                Some(false) => Some(Reason::UnsupportedValue),
+                None => Some(Reason::BadBoolean),
+            },
+            (Variable::SuperPrefix, Some(_)) => Some(Reason::UnsupportedValue),
             _ => None,
         }
     }
@@ -344,7 +346,8 @@ impl<A: Allocator + Copy> Environment<A> {
     pub(crate) fn check_values(&self, alloc: A) -> Result<(), DiscoverError<A>> {
         for named in &NAMES {
             if let Some(reason) = self.refused_for(named.variable) {
-                return Err(about(alloc, reason, named.name.as_bytes()));
+                let value = self.get(named.variable).unwrap_or(&[]);
+                return Err(about_value(alloc, reason, named.name.as_bytes(), value));
             }
         }
         Ok(())

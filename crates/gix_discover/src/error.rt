@@ -40,9 +40,9 @@ pub enum Reason {
     UnknownExtension,
     /// A repository of version 0 has an extension that only version 1 may have.
     ExtensionNeedsVersion1,
-    /// `extensions.objectFormat` is not `sha1`.
+    /// `extensions.objectFormat` is not `sha1`. The subject is the format.
     ObjectFormat,
-    /// `extensions.refStorage` is not `files`.
+    /// The repository sets `extensions.refStorage`. The subject is the format.
     RefStorage,
     /// The config file has a malformed line with this number.
     BadConfigLine(u64),
@@ -56,6 +56,8 @@ pub enum Reason {
     BadAbbrev,
     /// The value of the setting is not one of those that git takes.
     BadValue,
+    /// The value of the variable is not supported.
+    UnsupportedValue,
     /// The value of the setting is malformed, and git fails when it first looks for an object.
     BadReadSetting,
     /// The value of the setting is not a refspec.
@@ -100,6 +102,26 @@ pub struct DiscoverError<A: Allocator = Global> {
     pub subject: Option<Vec<u8, A>>,
     /// Has the value of the setting, if the reason is about it.
     pub value: Option<Vec<u8, A>>,
+}
+
+impl Reason {
+    /// Returns whether the repository or a setting needs what is not supported. Otherwise there is
+    /// no repository, git refuses it or a setting, or a file cannot be read.
+    pub fn is_not_supported(self) -> bool {
+        matches!(
+            self,
+            Reason::NoRepositoryUpToMount
+                | Reason::OtherCommonDir
+                | Reason::FormatVersion(_)
+                | Reason::UnknownExtension
+                | Reason::ObjectFormat
+                | Reason::RefStorage
+                | Reason::UnsupportedValue
+                | Reason::HasConfig
+                | Reason::QuotedPath
+                | Reason::NotUtf8
+        )
+    }
 }
 
 impl<A: Allocator> From<AllocError> for DiscoverError<A> {
@@ -201,7 +223,7 @@ fn reason_text(reason: Reason) -> &'static str {
         Reason::GitfileNoPath => "no path in gitfile",
         Reason::GitfileTooLarge => "too large to be a .git file",
         Reason::EmptyCommonDir => "failed to read",
-        Reason::OtherCommonDir => "unsupported value of GIT_COMMON_DIR",
+        Reason::OtherCommonDir => "this value of GIT_COMMON_DIR is not supported:",
         Reason::NoWorkTree => "cannot enter the work tree",
         Reason::DubiousOwnership => "detected dubious ownership in repository at",
         Reason::BareRepositoryRefused => "cannot use bare repository",
@@ -209,38 +231,47 @@ fn reason_text(reason: Reason) -> &'static str {
         Reason::FormatVersion(_) => "expected git repo version <= 1",
         Reason::UnknownExtension => "unknown repository extension found",
         Reason::ExtensionNeedsVersion1 => "repo version is 0, but v1-only extension found",
-        Reason::ObjectFormat => "unsupported object format",
-        Reason::RefStorage => "unsupported ref storage",
+        Reason::ObjectFormat => "this format of objects is not supported:",
+        Reason::RefStorage => "this format of refs is not supported:",
         Reason::BadConfigLine(_) => "bad config line in file",
         Reason::MissingValue => "missing value for",
         Reason::BadBoolean => "bad boolean config value",
         Reason::BadNumber => "bad numeric config value",
         Reason::BadAbbrev => "abbrev length out of range",
         Reason::BadValue => "malformed value",
+        Reason::UnsupportedValue => "unsupported value",
         Reason::BadReadSetting => "malformed value for",
         Reason::BadRefspec => "invalid refspec",
         Reason::UnexpandedPath => "failed to expand user dir in:",
         Reason::IncludeDepth => "exceeded maximum include depth (10) at",
         Reason::RelativeInclude => "relative config includes must come from files",
         Reason::UnexpandedInclude => "could not expand include path",
-        Reason::HasConfig => "unsupported condition of includeIf",
+        Reason::HasConfig => "this condition of includeIf is not supported:",
         Reason::BadConfigCount => "bogus count in GIT_CONFIG_COUNT",
         Reason::MissingConfigKey(_) => "missing config key",
         Reason::MissingConfigValue(_) => "missing config value",
         Reason::BadConfigParameters => "bogus format in GIT_CONFIG_PARAMETERS",
         Reason::BadConfigKey => "invalid config key",
         Reason::NoCurrentFolder => "unable to read current working directory",
-        Reason::QuotedPath => "unsupported: path in quotes",
-        Reason::NotUtf8 => "unsupported: path is not UTF-8",
+        Reason::QuotedPath => "a path in quotes is not supported:",
+        Reason::NotUtf8 => "a path that is not UTF-8 is not supported:",
         Reason::Failed(_) => "unable to access",
         Reason::OutOfMemory => "out of memory",
     }
 }
 
-/// Writes the number that a reason has, after its text.
-fn write_number<W: fmt::Write>(f: &mut fmt::Formatter<W>, reason: Reason) -> fmt::Result {
+/// Writes the number that a reason has before its subject.
+fn write_version<W: fmt::Write>(f: &mut fmt::Formatter<W>, reason: Reason) -> fmt::Result {
     match reason {
-        Reason::FormatVersion(n) => write!(f, ", found {n}"),
+        Reason::FormatVersion(n) => write!(f, ", found {n} in"),
+        _ => Ok(()),
+    }
+}
+
+/// Writes what a reason has after its subject: a number, or why a file was not read.
+fn write_end<W: fmt::Write>(f: &mut fmt::Formatter<W>, reason: Reason) -> fmt::Result {
+    match reason {
+        Reason::Failed(kind) => write!(f, ": {kind}"),
         Reason::BadConfigLine(n) => write!(f, " at line {n}"),
         Reason::MissingConfigKey(n) => write!(f, " GIT_CONFIG_KEY_{n}"),
         Reason::MissingConfigValue(n) => write!(f, " GIT_CONFIG_VALUE_{n}"),
@@ -251,6 +282,7 @@ fn write_number<W: fmt::Write>(f: &mut fmt::Formatter<W>, reason: Reason) -> fmt
 impl<A: Allocator> fmt::Display for DiscoverError<A> {
     fn fmt<W: fmt::Write>(&self, f: &mut fmt::Formatter<W>) -> fmt::Result {
         f.write_str(reason_text(self.reason))?;
+        write_version(f, self.reason)?;
         if let Some(value) = &self.value {
             write_quoted(f, value)?;
             f.write_str(" for")?;
@@ -258,6 +290,6 @@ impl<A: Allocator> fmt::Display for DiscoverError<A> {
         if let Some(subject) = &self.subject {
             write_quoted(f, subject)?;
         }
-        write_number(f, self.reason)
+        write_end(f, self.reason)
     }
 }

@@ -90,17 +90,18 @@ fn check_extension<A: Allocator + Copy>(
     {
         return Ok(());
     }
-    if extension == b"objectformat".as_slice()
-        && needed(alloc, name, value)? != b"sha1".as_slice()
-    {
-        return Err(about(alloc, Reason::ObjectFormat, name));
+    if extension == b"objectformat".as_slice() {
+        let format = needed(alloc, name, value)?;
+        if format != b"sha1".as_slice() {
+            return Err(about(alloc, Reason::ObjectFormat, format));
+        }
     }
     let is_known = extension == b"noop-v1".as_slice() || extension == b"objectformat".as_slice();
     if version == 0 && is_known {
         return Err(about(alloc, Reason::ExtensionNeedsVersion1, name));
     }
     if version == 1 && extension == b"refstorage".as_slice() {
-        return Err(about(alloc, Reason::RefStorage, name));
+        return Err(about(alloc, Reason::RefStorage, needed(alloc, name, value)?));
     }
     if version == 1 && !is_known {
         return Err(about(alloc, Reason::UnknownExtension, name));
@@ -171,7 +172,7 @@ impl<A: Allocator + Copy> Format<A> {
         } else if extension == b"objectformat".as_slice() {
             let format = needed(alloc, &entry.name, value)?;
             if format != b"sha1".as_slice() && format != b"sha256".as_slice() {
-                return Err(about(alloc, Reason::ObjectFormat, &entry.name));
+                return Err(about(alloc, Reason::ObjectFormat, format));
             }
         }
         Ok(())

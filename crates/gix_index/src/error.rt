@@ -28,6 +28,14 @@ pub enum Error {
     OutOfMemory,
 }
 
+impl Error {
+    /// Returns whether the file has what is not supported. Otherwise it is damaged, or an allocation
+    /// failed.
+    pub fn is_not_supported(&self) -> bool {
+        matches!(self, Error::Version(_) | Error::Extension(_))
+    }
+}
+
 impl From<AllocError> for Error {
     fn from(_e: AllocError) -> Error {
         Error::OutOfMemory
@@ -45,14 +53,17 @@ impl fmt::Display for Error {
         match self {
             Error::TooShort => f.write_str("index file is too short"),
             Error::Signature => f.write_str("index file has a bad signature"),
-            Error::Version(version) => write!(f, "unsupported: version {version} of index files"),
+            Error::Version(version) => write!(
+                f,
+                "version {version} of index files is not supported"
+            ),
             Error::Checksum => f.write_str("index file has a bad checksum"),
             Error::Entry(number) => write!(f, "entry {number} of the index is malformed"),
             Error::Path(number) => write!(f, "entry {number} of the index has an invalid path"),
             Error::CutOff(at) => write!(f, "index file has an extension at {at} that is cut off"),
             Error::Extension(name) => write!(
                 f,
-                "unsupported: extension '{}' of index files",
+                "extension '{}' of index files is not supported",
                 str::from_utf8(name.as_slice()).unwrap_or("?"),
             ),
             Error::OutOfMemory => f.write_str("out of memory"),

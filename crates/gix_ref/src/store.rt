@@ -253,11 +253,11 @@ impl<F: Folders + Drop, A: Allocator + Copy> References<F, A> {
         let bytes = match read_file(self.alloc, &self.files, &path) {
             Ok(Some(bytes)) => bytes,
             Ok(None) => Vec::new(self.alloc),
-            Err(error) => return Err(fault_of(b"packed-refs", error)),
+            Err(error) => return Err(fault_of(&path, error)),
         };
         match Snapshot::new(self.alloc, bytes)? {
             Some(snapshot) => Ok(snapshot),
-            None => Err(Fault::Damaged(ErrorName::new(b"packed-refs"))),
+            None => Err(Fault::Damaged(ErrorName::new(&path))),
         }
     }
 

@@ -1,7 +1,7 @@
 //! Lists the objects that ambiguous digits may mean, as git does in a hint.
 
 use crate::dates::{offset_of, push_date};
-use crate::error::Refusal;
+use crate::error::{Refusal, Unsupported};
 use crate::names::Wanted;
 use crate::repository::Repository;
 use gix_files::Folders;
@@ -116,7 +116,7 @@ impl<F: Folders + Drop, A: Allocator + Copy> Repository<F, A> {
     ///
     /// # Errors
     ///
-    /// `Object` if the object is not read, and `NotSupported` if it is missing. git then says more,
+    /// `Object` if the object is not read, also if it is missing by now. git then says more,
     /// which depends on the damage.
     fn candidate(&mut self, id: ObjectId) -> Result<(u8, Vec<u8, A>), Refusal> {
         let least = self.least_digits()?;
@@ -126,8 +126,6 @@ impl<F: Folders + Drop, A: Allocator + Copy> Repository<F, A> {
         let mut line = digits[..written].to_vec(self.alloc)?;
         let object = match self.read_object(id) {
             Ok(object) => object,
-            // It was there before.
-            Err(Refusal::Object(gix_odb::Error::Missing(_))) => return Err(Refusal::NotSupported),
             Err(refusal) => return Err(refusal),
         };
         self.push_object(&mut line, id, &object)?;
@@ -169,7 +167,7 @@ impl<F: Folders + Drop, A: Allocator + Copy> Repository<F, A> {
         let store = &mut self.history.reader.store;
         let found = store.completions(alloc, prefix, MOST_LISTED.saturating_add(1))?;
         if found.len() > MOST_LISTED {
-            return Err(Refusal::NotSupported);
+            return Err(Refusal::NotSupported(Unsupported::Candidates));
         }
         let listed = self.all_wanted(&found, wanted)?;
         let lines = self.candidates(&listed)?;

@@ -283,6 +283,7 @@ impl<F: Folders + Drop, A: Allocator + Copy> Commits<F, A> {
         ensures { IfOk result (λ read. IsReadOf id (Some read)) }
     {
         let Some(by) = self.changes.stand_in(id) else {
+            self.error = None;
             return Err(ReadError::Failed(id));
         };
         let read = self.replaced(alloc, id, by)?;

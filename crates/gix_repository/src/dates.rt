@@ -1,6 +1,6 @@
 //! Writes dates as git does (git-log, "--date").
 
-use crate::error::Refusal;
+use crate::error::{Refusal, Unsupported};
 use jiff_core::civil::DateTime;
 use jiff_core::{Offset, Timestamp};
 use std::alloc::Allocator;
@@ -87,10 +87,10 @@ pub(crate) fn push_full_date<A: Allocator>(
     let offset = offset_of(i64::from(zone)).unwrap_or(0);
     let seconds = i64::try_from(seconds).unwrap_or(i64::MAX);
     if seconds.saturating_add(offset) < 0 {
-        return Err(Refusal::NotSupported);
+        return Err(Refusal::NotSupported(Unsupported::Year));
     }
     let Some(clock) = clock(seconds, offset) else {
-        return Err(Refusal::NotSupported);
+        return Err(Refusal::NotSupported(Unsupported::Year));
     };
     push_day(to, clock)?;
     push_time(to, clock, zone)

@@ -1,6 +1,6 @@
 //! Abbreviates object names, and completes abbreviated ones.
 
-use crate::error::Refusal;
+use crate::error::{Refusal, Unsupported};
 use crate::repository::Repository;
 use gix_discover::Abbrev;
 use gix_files::Folders;
@@ -46,7 +46,7 @@ impl<F: Folders + Drop, A: Allocator + Copy> Repository<F, A> {
                 if digits == digits_for(most) {
                     Ok(digits)
                 } else {
-                    Err(Refusal::NotSupported)
+                    Err(Refusal::NotSupported(Unsupported::Digits))
                 }
             }
         }
@@ -80,7 +80,7 @@ impl<F: Folders + Drop, A: Allocator + Copy> Repository<F, A> {
                 return Ok(digits);
             }
             if digits > MOST_SHARED {
-                return Err(Refusal::NotSupported);
+                return Err(Refusal::NotSupported(Unsupported::Digits));
             }
         }
         Ok(40)

@@ -30,6 +30,6 @@ mod revision;
 mod search;
 mod siblings;
 
-pub use error::Refusal;
+pub use error::{Refusal, Unsupported};
 pub use open::{Mode, OpenError, Opening};
 pub use repository::Repository;

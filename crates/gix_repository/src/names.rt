@@ -1,6 +1,6 @@
 //! Looks up what names stand for, in git's order (gitrevisions, "Specifying Revisions").
 
-use crate::error::Refusal;
+use crate::error::{Refusal, Unsupported};
 use crate::repository::Repository;
 use gix_files::Folders;
 use gix_revision::hash::{ObjectId, Prefix};
@@ -175,7 +175,7 @@ impl<F: Folders + Drop, A: Allocator + Copy> Repository<F, A> {
             [] => Err(Refusal::Unknown),
             [id] => Ok(*id),
             ids if wanted != Wanted::Any => self.only_wanted(ids, wanted),
-            _ if self.has_preference() => Err(Refusal::NotSupported),
+            _ if self.has_preference() => Err(Refusal::NotSupported(Unsupported::Preference)),
             _ => Err(Refusal::Ambiguous),
         }
     }
@@ -209,11 +209,8 @@ impl<F: Folders + Drop, A: Allocator + Copy> Repository<F, A> {
             Ok((_, Kind::Commit)) if wanted == Wanted::Committish => Ok(true),
             Ok((peeled, Kind::Commit)) if wanted == Wanted::OnlyCommit => Ok(peeled == id),
             Ok((_, Kind::Commit | Kind::Tree)) => Ok(wanted == Wanted::Treeish),
-            Err(Refusal::Object(gix_odb::Error::Missing(_))) if self.is_partial() => {
-                Err(Refusal::NotSupported)
-            }
-            Ok(_) | Err(Refusal::Object(gix_odb::Error::Missing(_))) => Ok(wanted == Wanted::Any),
-            Err(refusal) => Err(refusal),
+            Err(refusal) if self.is_partial() || !refusal.is_missing() => Err(refusal),
+            Ok(_) | Err(_) => Ok(wanted == Wanted::Any),
         }
     }
 }

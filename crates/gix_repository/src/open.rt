@@ -44,9 +44,10 @@ pub enum OpenError<A: Allocator = Global> {
     Object(gix_odb::Error),
     /// References are not read.
     Reference(gix_ref::Error),
-    /// The file `shallow` or `info/grafts` is not read, or is malformed. Or `GIT_REPLACE_REF_BASE`,
-    /// or the name of a replacement, is none that git writes.
+    /// The file `shallow` or `info/grafts` is not read, or is malformed.
     Changes,
+    /// `GIT_REPLACE_REF_BASE`, or the name of a replacement, is none that git writes.
+    Replacements,
     /// The file `shallow` or `info/grafts` names an object that is no commit, or an object is
     /// replaced by one of another kind.
     WrongKind,
@@ -166,7 +167,7 @@ impl<A: Allocator + Copy> Changes<A> {
         match ObjectId::from_hex(digits) {
             Ok(id) => Ok(self.replace(id, by)?),
             Err(_) if base == REPLACEMENTS && !digits.contains(&b'/') => Ok(()),
-            Err(_) => Err(OpenError::Changes),
+            Err(_) => Err(OpenError::Replacements),
         }
     }
 
@@ -179,7 +180,7 @@ impl<A: Allocator + Copy> Changes<A> {
         base: &[u8],
     ) -> Result<(), OpenError<A>> {
         if !base.starts_with(b"refs/") || !base.ends_with(b"/") {
-            return Err(OpenError::Changes);
+            return Err(OpenError::Replacements);
         }
         let listing = references.all(base)?;
         for listed in listing.references.iter() {
@@ -325,6 +326,7 @@ impl<F: Places + Copy + Drop, A: Allocator + Copy> Repository<F, A> {
     ///
     /// - `Discover` if it is not found, or if it or its settings are refused.
     /// - `Object`, `Reference` or `Changes` if files were not read.
+    /// - `Replacements` if replacements are named as git does not name them.
     /// - `WrongKind` if a change is about an object of another kind.
     /// - `IsChanged` if commits are changed, and the mode is authentic.
     /// - `OutOfMemory` if an allocation failed.

@@ -1,6 +1,6 @@
 //! Follows tags to the objects that they name.
 
-use crate::error::Refusal;
+use crate::error::{Refusal, Unsupported};
 use crate::repository::Repository;
 use gix_files::Folders;
 use gix_history::ReadError;
@@ -23,7 +23,7 @@ fn tree_line(content: &[u8]) -> Option<ObjectId> {
 fn not_read(id: ObjectId, by: ObjectId, error: gix_odb::Error) -> Refusal {
     match error {
         // git fails if the object in place of another one is missing.
-        gix_odb::Error::Missing(_) if by != id => Refusal::NotSupported,
+        gix_odb::Error::Missing(_) if by != id => Refusal::Replaced(id),
         error => Refusal::from(error),
     }
 }
@@ -33,7 +33,7 @@ impl<F: Folders + Drop, A: Allocator + Copy> Repository<F, A> {
     fn stand_in(&self, id: ObjectId) -> Result<ObjectId, Refusal> {
         match self.history.reader.changes.stand_in(id) {
             Some(by) => Ok(by),
-            None => Err(Refusal::NotSupported),
+            None => Err(Refusal::Replaced(id)),
         }
     }
 
@@ -47,7 +47,7 @@ impl<F: Folders + Drop, A: Allocator + Copy> Repository<F, A> {
     /// # Errors
     ///
     /// - `Object` if the object was not read.
-    /// - `NotSupported` if it is replaced by an object that is missing, or too many times in turn.
+    /// - `Replaced` if it is replaced by an object that is missing, or too many times in turn.
     /// - `OutOfMemory` if an allocation failed.
     pub fn kind(&mut self, id: ObjectId) -> Result<Kind, Refusal> {
         let alloc = self.alloc;
@@ -89,7 +89,7 @@ impl<F: Folders + Drop, A: Allocator + Copy> Repository<F, A> {
     /// # Errors
     ///
     /// - `Object` if the tag was not read, or if the object is no tag.
-    /// - `NotSupported` as for [`Repository::kind`].
+    /// - `Replaced` as for [`Repository::kind`].
     /// - `OutOfMemory` if an allocation failed.
     pub fn tag(&mut self, id: ObjectId) -> Result<Tag<A>, Refusal> {
         let alloc = self.alloc;
@@ -105,7 +105,7 @@ impl<F: Folders + Drop, A: Allocator + Copy> Repository<F, A> {
     /// # Errors
     ///
     /// - `Object` if the object was not read.
-    /// - `NotSupported` as for [`Repository::kind`].
+    /// - `Replaced` as for [`Repository::kind`].
     /// - `OutOfMemory` if an allocation failed.
     pub fn read_object(&mut self, id: ObjectId) -> Result<Object<A>, Refusal> {
         let alloc = self.alloc;
@@ -135,14 +135,14 @@ impl<F: Folders + Drop, A: Allocator + Copy> Repository<F, A> {
     ///
     /// # Errors
     ///
-    /// - `NotSupported` if the tag says another kind. git then fails, or passes over the tag.
+    /// - `TagKind` if the tag says another kind. git then fails, or passes over the tag.
     /// - Those of [`Repository::tag`] and [`Repository::kind`].
     fn tagged(&mut self, tag: ObjectId) -> Result<(ObjectId, Kind), Refusal> {
         let Tag { target, kind, .. } = self.tag(tag)?;
         if self.kind(target)? == kind {
             Ok((target, kind))
         } else {
-            Err(Refusal::NotSupported)
+            Err(Refusal::TagKind(tag))
         }
     }
 
@@ -153,8 +153,8 @@ impl<F: Folders + Drop, A: Allocator + Copy> Repository<F, A> {
     ///
     /// - `Object` if an object on the way was not read, or a commit is malformed.
     /// - `Differs` if the commit-graph says something else of the commit.
-    /// - `NotSupported` if a tag says another kind than that of its object, or if there are more than
-    ///   1,024 tags on the way.
+    /// - `TagKind` if a tag says another kind than that of its object.
+    /// - `NotSupported` if there are more than 1,024 tags on the way.
     /// - `OutOfMemory` if an allocation failed.
     pub fn peeled(&mut self, id: ObjectId) -> Result<(ObjectId, Kind), Refusal> {
         let mut at = (id, self.kind(id)?);
@@ -168,7 +168,7 @@ impl<F: Folders + Drop, A: Allocator + Copy> Repository<F, A> {
                 _ => return Ok(at),
             }
         }
-        Err(Refusal::NotSupported)
+        Err(Refusal::NotSupported(Unsupported::Tags))
     }
 
     /// Returns the commit to which an object leads through tags; `None` if it is another kind of

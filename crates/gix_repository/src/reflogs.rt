@@ -1,7 +1,7 @@
 //! Looks names up in reflogs (gitrevisions, `<refname>@{<date>}`, `<refname>@{<n>}`, `@{-<n>}`).
 
 use crate::dates::push_full_date;
-use crate::error::Refusal;
+use crate::error::{Refusal, Unsupported};
 use crate::marks::Doubt;
 use crate::names::{Named, read, unabbreviated};
 use crate::repository::Repository;
@@ -86,7 +86,7 @@ impl<F: Folders + Drop, A: Allocator + Copy> Repository<F, A> {
             }
             ReflogLookup::Entry(number) => self.nth_entry(logged, written, number),
             ReflogLookup::Date(time) if !is_sure(&logged.reflog, time.seconds, doubt) => {
-                Err(Refusal::NotSupported)
+                Err(Refusal::NotSupported(Unsupported::Entry))
             }
             ReflogLookup::Date(time) => self.entry_at(logged, written, time.seconds),
         }

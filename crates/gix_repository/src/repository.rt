@@ -4,10 +4,10 @@ ghost use Rattle.std.specs.Prelude.{◌≡◌, IfOk};
 ghost use Rattle.gix_repository.specs.Answers.{answered_over};
 
 use crate::commits::Commits;
-use crate::error::Refusal;
+use crate::error::{Refusal, Unsupported};
 use gix_discover::{Abbrev, Layout, Settings};
 use gix_files::Folders;
-use gix_history::{Beyond, History, Loaded, Question};
+use gix_history::{Beyond, History, Loaded, Question, ReadError};
 use gix_ref::{Listing, References, Skipped, Why};
 use gix_revision::Seed;
 use gix_revision::date::Time;
@@ -166,6 +166,16 @@ impl<F: Folders + Drop, A: Allocator + Copy> Repository<F, A> {
         }
     }
 
+    /// Returns why a commit was not read: what the object database says of it, unless the commit is
+    /// missing.
+    fn cause_of(&self, error: ReadError) -> Refusal {
+        match (error, self.history.reader.error) {
+            (ReadError::Altered(_) | ReadError::Malformed(_) | ReadError::Failed(_), Some(cause))
+                if !matches!(cause, gix_odb::Error::Missing(_)) => Refusal::Object(cause),
+            (error, _) => Refusal::from(error),
+        }
+    }
+
     /// Forgets the commits that were read, and goes on without the commit-graph, since it is damaged.
     pub(crate) fn leave_graph(&mut self)
         ensures { self.new.loaded ≡ self.old.loaded }
@@ -198,9 +208,12 @@ impl<F: Folders + Drop, A: Allocator + Copy> Repository<F, A> {
             Ok(answer) => Ok(answer),
             Err(_) if self.history.reader.damage.is_some() => {
                 self.leave_graph();
-                Ok(self.history.ask::<K, Q>(self.alloc, question)?)
+                match self.history.ask::<K, Q>(self.alloc, question) {
+                    Ok(answer) => Ok(answer),
+                    Err(error) => Err(self.cause_of(error)),
+                }
             }
-            Err(error) => Err(Refusal::from(error)),
+            Err(error) => Err(self.cause_of(error)),
         }
     }
 
@@ -217,13 +230,13 @@ impl<F: Folders + Drop, A: Allocator + Copy> Repository<F, A> {
             tips.push(id)?;
         }
         let Some(loaded) = self.loaded.as_mut() else {
-            return Err(Refusal::NotSupported);
+            return Err(Refusal::NotSupported(Unsupported::Form));
         };
         // What a question does not name is loaded when it wants it.
         loaded.load(self.alloc, &tips, &mut self.history.reader)?;
         match loaded.ask::<K, Q, _>(self.alloc, question, &mut self.history.reader) {
             Ok(answer) => Ok(answer),
-            Err(error) => Err(Refusal::from(error)),
+            Err(error) => Err(self.cause_of(error)),
         }
     }
 
@@ -251,9 +264,12 @@ impl<F: Folders + Drop, A: Allocator + Copy> Repository<F, A> {
             Ok(commit) => Ok(commit),
             Err(_) if self.history.reader.damage.is_some() => {
                 self.leave_graph();
-                Ok(self.history.commit(self.alloc, id)?)
+                match self.history.commit(self.alloc, id) {
+                    Ok(commit) => Ok(commit),
+                    Err(error) => Err(self.cause_of(error)),
+                }
             }
-            Err(error) => Err(Refusal::from(error)),
+            Err(error) => Err(self.cause_of(error)),
         }
     }
 }

@@ -1,6 +1,6 @@
 //! Reads revisions (gitrevisions, "Specifying Revisions"): the delegate that answers the parser.
 
-use crate::error::Refusal;
+use crate::error::{Refusal, Unsupported};
 use crate::marks::{doubt_about, first_mark};
 use crate::names::{Named, NamedReference, Wanted};
 use crate::repository::Repository;
@@ -154,22 +154,22 @@ impl<'r, 't, F: Folders + Drop, A: Allocator + Copy> Lookup<'r, 't, F, A> {
                 self.repository.expect_sound(id, kind)?;
                 Ok(id)
             }
-            PeelTo::Path(_) => Err(Refusal::NotSupported),
+            PeelTo::Path(_) => Err(Refusal::NotSupported(Unsupported::Path)),
         }
     }
 
     /// Returns the object that an entry of the reflog names.
     fn logged(&mut self, query: ReflogLookup) -> Result<ObjectId, Refusal> {
         let Some(doubt) = doubt_about(first_mark(self.text), query) else {
-            return Err(Refusal::NotSupported);
+            return Err(Refusal::NotSupported(Unsupported::Date));
         };
         if is_too_great(marked(self.text)) {
-            return Err(Refusal::NotSupported);
+            return Err(Refusal::NotSupported(Unsupported::Date));
         }
         let name = self.name.take();
         match name {
             Some(name) => self.repository.logged(&name, query, doubt),
-            None if self.at.is_some() => Err(Refusal::NotSupported),
+            None if self.at.is_some() => Err(Refusal::NotSupported(Unsupported::Form)),
             None => self.repository.logged_here(query, doubt),
         }
     }
@@ -179,7 +179,7 @@ impl<'r, 't, F: Folders + Drop, A: Allocator + Copy> Lookup<'r, 't, F, A> {
         let name = self.name.take();
         match name {
             Some(name) => self.repository.sibling_of(&name, kind),
-            None if self.at.is_some() => Err(Refusal::NotSupported),
+            None if self.at.is_some() => Err(Refusal::NotSupported(Unsupported::Form)),
             None => self.repository.sibling_here(kind),
         }
     }
@@ -202,7 +202,7 @@ impl<'r, 't, F: Folders + Drop, A: Allocator + Copy> Lookup<'r, 't, F, A> {
     /// Returns why a form of revisions is not supported.
     fn unsupported(&mut self) -> Refusal {
         match self.settle() {
-            Ok(()) => Refusal::NotSupported,
+            Ok(()) => Refusal::NotSupported(Unsupported::Form),
             Err(refusal) => refusal,
         }
     }
@@ -276,7 +276,7 @@ impl<F: Folders + Drop, A: Allocator + Copy> Navigate for Lookup<'_, '_, F, A> {
     }
 
     fn index_lookup(&mut self, path: &[u8], stage: u8) -> Result<(), Exn> {
-        self.answer(Err(Refusal::NotSupported))
+        self.answer(Err(Refusal::NotSupported(Unsupported::Path)))
     }
 }
 
@@ -494,7 +494,7 @@ impl<F: Folders + Drop, A: Allocator + Copy> Repository<F, A> {
         wanted: Wanted,
     ) -> Result<(ObjectId, Option<NamedReference<A>>), Refusal> {
         if has_bare_at(text) || has_two_marks(text) {
-            return Err(Refusal::NotSupported);
+            return Err(Refusal::NotSupported(Unsupported::Form));
         }
         let Outcome {
             parsed,
@@ -506,7 +506,7 @@ impl<F: Folders + Drop, A: Allocator + Copy> Repository<F, A> {
             (Some(refusal), _) => Err(refusal),
             (None, Some(id)) if parsed => Ok((id, reference)),
             // git reads more than the grammar.
-            _ if has_braces(text) => Err(Refusal::NotSupported),
+            _ if has_braces(text) => Err(Refusal::NotSupported(Unsupported::Date)),
             _ => Err(Refusal::Unknown),
         }
     }

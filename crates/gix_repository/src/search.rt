@@ -2,7 +2,7 @@
 //!
 //! Only texts without signs that have a meaning in regular expressions are supported.
 
-use crate::error::Refusal;
+use crate::error::{Refusal, Unsupported};
 use crate::repository::Repository;
 use gix_files::Folders;
 use gix_revision::hash::ObjectId;
@@ -124,7 +124,7 @@ impl<F: Folders + Drop, A: Allocator + Copy> Repository<F, A> {
         negated: bool,
     ) -> Result<ObjectId, Refusal> {
         if !is_plain(text) {
-            return Err(Refusal::NotSupported);
+            return Err(Refusal::NotSupported(Unsupported::Regex));
         }
         let Some(id) = from else {
             let tips = self.all_tips()?;

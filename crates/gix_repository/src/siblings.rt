@@ -1,7 +1,7 @@
 //! Finds the branches that belong to a branch (gitrevisions, `[<branchname>]@{upstream}`,
 //! `[<branchname>]@{push}`).
 
-use crate::error::Refusal;
+use crate::error::{Refusal, Unsupported};
 use crate::names::{Named, read, unabbreviated};
 use crate::repository::Repository;
 use gix_discover::Reason;
@@ -116,7 +116,7 @@ impl<F: Folders + Drop, A: Allocator + Copy> Repository<F, A> {
             .iter()
             .any(|one| one.unwrap_or(&[]).starts_with(b"^"))
         {
-            return Err(Refusal::NotSupported);
+            return Err(Refusal::NotSupported(Unsupported::Refspec));
         }
         for refspec in refspecs.iter() {
             if let Some(mapped) = mapped(self.alloc, refspec.unwrap_or(&[]), name)? {
@@ -151,7 +151,9 @@ impl<F: Folders + Drop, A: Allocator + Copy> Repository<F, A> {
             .settings
             .values(self.alloc, b"branch", Some(short), b"merge")?;
         match merged.first() {
-            Some(Some(name)) if is_odd_merge(name) => Err(Refusal::NotSupported),
+            Some(Some(name)) if is_odd_merge(name) => {
+                Err(Refusal::NotSupported(Unsupported::Merge))
+            }
             Some(Some(name)) => Ok(Some((remote, *name))),
             _ => Ok(None),
         }
@@ -248,7 +250,7 @@ impl<F: Folders + Drop, A: Allocator + Copy> Repository<F, A> {
     fn no_sibling(&mut self, short: &[u8], kind: SiblingBranch) -> Result<Refusal, Refusal> {
         if kind == SiblingBranch::Push {
             // git has several reasons.
-            return Ok(Refusal::NotSupported);
+            return Ok(Refusal::NotSupported(Unsupported::Push));
         }
         if let Some((_, merge)) = self.merged_from(short)? {
             let merge = merge.to_vec(self.alloc)?;
@@ -286,6 +288,10 @@ impl<F: Folders + Drop, A: Allocator + Copy> Repository<F, A> {
     }
 
     /// Checks the settings of all branches and remotes, as git does before it looks for a sibling.
+    ///
+    /// # Errors
+    ///
+    /// `Remotes` if git refuses one.
     fn check_remotes(&self) -> Result<(), Refusal> {
         let Err(error) = self.settings.check_remotes(self.alloc) else {
             return Ok(());
@@ -293,7 +299,7 @@ impl<F: Folders + Drop, A: Allocator + Copy> Repository<F, A> {
         if matches!(error.reason, Reason::OutOfMemory) {
             Err(Refusal::OutOfMemory)
         } else {
-            Err(Refusal::NotSupported)
+            Err(Refusal::Remotes)
         }
     }
 

@@ -126,6 +126,11 @@ impl<'w, K: Copy + 'static> Reader<'w, K> {
         }
     }
 
+    /// Returns the word that was read last; before any was read, the first one.
+    pub fn last_word(&self) -> &'w [u8] {
+        text_at(self.words, self.next.saturating_sub(1))
+    }
+
     /// Returns the letters that are left of a word.
     fn letters(&self) -> &'w [u8]
         ensures { result.now ≡ self.now.letters }

@@ -20,7 +20,7 @@ from collections.abc import Iterator
 from contextlib import contextmanager
 from unittest import mock
 
-from gix_revision_proved import NotRead, NotThere, Reference, Repository, _repository
+from gix_revision_proved import Damaged, NotSupported, NotThere, Reference, Repository, _repository
 from gix_revision_proved._repository import _program
 
 # In this order the commits have the dates 1, 2, 3, ..
@@ -112,7 +112,7 @@ for line in iter(words.readline, b""):
         word = " ".join([os.getcwd(), os.environ.get("STAND_IN", "")])
     if word == "who":
         word = str(os.getpid())
-    status = 0
+    status = int(word) if word in ("125", "129") else 0
     if word == "loud":
         os.write(2, b"x" * 1000000)
         status = 128
@@ -281,9 +281,15 @@ class BadEnds(unittest.TestCase):
         with mock.patch.object(tempfile, "tempdir", "/nosuch"), self.assertRaisesRegex(NotThere, "^x{1000000}$"):
             self.opened().rev_parse("loud")
 
+    def test_statuses(self) -> None:
+        for word, error in (("125", Damaged), ("129", NotSupported)):
+            with self.assertRaises(error):
+                self.repository.rev_parse(word)
+            self.assertEqual(self.repository.rev_parse("one"), "one")
+
     def test_ends_of_the_program(self) -> None:
         process = self.repository.rev_parse("who")
-        with self.assertRaisesRegex(NotRead, "^fatal: died$"):
+        with self.assertRaisesRegex(Damaged, "^fatal: died$"):
             self.repository.rev_parse("dies")
         self.assertNotIn(self.repository.rev_parse("who"), (process, "dies"))
 
@@ -343,7 +349,7 @@ class Repositories(unittest.TestCase):
         asked = self.repository
         with self.assertRaisesRegex(NotThere, "Not a valid object name nosuch"):
             asked.merge_bases("one", "nosuch")
-        with self.assertRaises(NotRead):
+        with self.assertRaisesRegex(NotSupported, "'one:path': paths are not supported; ask git$"):
             asked.rev_parse("one:path")
         for bad in ("", "-n1", "a\nb"):
             with self.assertRaises(ValueError):

@@ -27,8 +27,11 @@ const HEAD: usize = 64;
 pub enum AskError {
     /// git would end with status 128 and this message, for example because a revision names nothing.
     NotThere(String),
-    /// The program does not read the question, or fails; with its message.
-    NotRead(String),
+    /// The program does not support the question, which git may answer; with its message.
+    NotSupported(String),
+    /// Something is damaged or has changed, or the program failed; with its message. Do not simply
+    /// ask git then: it may answer from what is damaged.
+    Damaged(String),
     /// The text cannot be a revision: it is empty, begins with a dash, or has a line feed or a zero
     /// byte.
     NoRevision,
@@ -42,10 +45,23 @@ pub enum AskError {
     Io(io::Error),
 }
 
+impl AskError {
+    /// Returns the error that a status of git-proved means; `None` if a signal has ended it.
+    fn of_status(status: Option<i32>, message: String) -> AskError {
+        match status {
+            Some(128) => AskError::NotThere(message),
+            Some(129) => AskError::NotSupported(message),
+            _ => AskError::Damaged(message),
+        }
+    }
+}
+
 impl fmt::Display for AskError {
     fn fmt(&self, f: &mut fmt::Formatter<'_>) -> fmt::Result {
         match self {
-            AskError::NotThere(message) | AskError::NotRead(message) => f.write_str(message),
+            AskError::NotThere(message)
+            | AskError::NotSupported(message)
+            | AskError::Damaged(message) => f.write_str(message),
             AskError::NoRevision => f.write_str("the text cannot be a revision"),
             AskError::Unknown => f.write_str("git-proved gave an unknown answer"),
             AskError::TimedOut => f.write_str("git-proved gave no answer in time"),
@@ -369,10 +385,7 @@ impl Running {
                     if message.is_empty() {
                         message = format!("git-proved ended with {status}");
                     }
-                    return Err(match status.code() {
-                        Some(128) => AskError::NotThere(message),
-                        _ => AskError::NotRead(message),
-                    });
+                    return Err(AskError::of_status(status.code(), message));
                 }
                 count => bytes.extend(&part[..count]),
             }
@@ -513,8 +526,7 @@ impl Repository {
                 is_yes: said.status == 0,
                 output: said.output,
             }),
-            128 => Err(AskError::NotThere(said.message)),
-            _ => Err(AskError::NotRead(said.message)),
+            status => Err(AskError::of_status(i32::try_from(status).ok(), said.message)),
         }
     }
 

@@ -44,6 +44,8 @@ fn stand_in() -> io::Result<()> {
                 eprintln!("fatal: died");
                 process::exit(3);
             }
+            "125" => status = 125,
+            "129" => status = 129,
             "wrong" => output.write_all(b"\xff\xff\n")?,
             "large" => output.write_all(b"0 18446744073709551615\n")?,
             "half" => {
@@ -129,9 +131,13 @@ fn failed_reads() -> Result<(), Box<dyn Error>> {
             assert_eq!(ask(&mut asked, next)?, next);
         }
     }
+    let damaged = ask(&mut asked, "125");
+    assert!(matches!(damaged, Err(AskError::Damaged(_))));
+    let unsupported = ask(&mut asked, "129");
+    assert!(matches!(unsupported, Err(AskError::NotSupported(_))));
     let process = ask(&mut asked, "who")?;
     let died = ask(&mut asked, "dies");
-    assert!(matches!(died, Err(AskError::NotRead(message)) if message == "fatal: died"));
+    assert!(matches!(died, Err(AskError::Damaged(message)) if message == "fatal: died"));
     assert_ne!(ask(&mut asked, "who")?, process);
     Ok(())
 }

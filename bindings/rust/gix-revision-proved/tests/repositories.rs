@@ -135,7 +135,7 @@ fn questions() -> Result<(), Box<dyn Error>> {
     ));
     assert!(matches!(
         asked.rev_parse("one:path"),
-        Err(AskError::NotRead(_))
+        Err(AskError::NotSupported(_))
     ));
     assert!(matches!(asked.rev_parse("-n1"), Err(AskError::NoRevision)));
     assert!(asked.rev_parse("one").is_ok());

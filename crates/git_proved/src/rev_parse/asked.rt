@@ -1,10 +1,11 @@
 //! Reads the options of `rev-parse`, which git reads word by word.
 
+use git_session::options::{add_exact, unsupported};
 use git_session::ranges::Tip;
-use git_session::stop::{Stop, fatal, not_read};
+use git_session::stop::{Stop, fatal, not_supported};
 use git_session::words::Words;
 use parse_options::{Exact, Holds, Takes, exact_option};
-use std::alloc::Global;
+use std::alloc::{AllocError, Global};
 
 /// Says what the next word may be.
 #[derive(Clone, Copy, PartialEq, Eq)]
@@ -108,18 +109,26 @@ static OPTIONS: [Exact<Key>; 15] = [
     Exact("--abbrev-ref", Takes::Joined, Key::AbbrevRef),
 ];
 
+/// Adds the options to a text, each on a line.
+pub(crate) fn add_options(text: &mut Vec<u8>) -> Result<(), AllocError> {
+    for option in OPTIONS.iter() {
+        add_exact(text, option)?;
+    }
+    Ok(())
+}
+
 /// Returns the number with which a text begins, as C reads it; 0 if it begins otherwise, or with a
 /// minus sign.
 ///
 /// # Errors
 ///
-/// `NotRead` for a number of more than nine digits.
+/// `NotSupported` for a number of more than nine digits.
 fn leading_number(alloc: Global, text: &[u8]) -> Result<usize, Stop> {
     let text = text.trim_ascii_start();
     let digits = text.strip_prefix(b"+").unwrap_or(text);
     let count = digits.iter().take_while(|b| b.is_ascii_digit()).count();
     if count > 9 || text.starts_with(b"-") && text.len() > 9 {
-        return Err(not_read(alloc, &[b"the number '", text, b"' is not supported"]));
+        return Err(not_supported(alloc, &[b"the number '", text, b"' is not supported"]));
     }
     match str::from_utf8(digits.get(..count).unwrap_or(&[])) {
         Ok(digits) => Ok(digits.parse::<usize>().unwrap_or(0)),
@@ -216,11 +225,11 @@ impl<'w> Asked<'w> {
     ///
     /// # Errors
     ///
-    /// `NotRead` for an option that is not read, and `Fatal` with git's message for a wrong value.
+    /// `NotSupported` for another option, and `Fatal` with git's message for a wrong value.
     pub(super) fn read_option(&mut self, alloc: Global, word: &'w [u8]) -> Result<(), Stop> {
         match exact_option(&OPTIONS, word) {
             Some((key, holds)) => self.note(alloc, key, holds),
-            None => Err(not_read(alloc, &[b"option `", word, b"' is not supported"])),
+            None => Err(unsupported(alloc, word)),
         }
     }
 

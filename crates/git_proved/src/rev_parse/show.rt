@@ -3,7 +3,7 @@
 use crate::rev_parse::asked::{Asked, Digits, Symbolic};
 use git_session::ranges::{Name, Tip, revision};
 use git_session::session::Session;
-use git_session::stop::{Stop, not_read};
+use git_session::stop::{Stop, not_supported};
 use gix_repository::Refusal;
 use gix_revision::hash::ObjectId;
 use std::alloc::{AllocError, Global};
@@ -116,9 +116,13 @@ fn refuse_id_name(session: &mut Session<'_>, text: &[u8]) -> Result<(), Stop> {
         let mut name = folder.to_vec(session.alloc)?;
         name.extend_from_slice(text)?;
         if session.repository.reference_of(&name).is_ok() {
-            return Err(not_read(
+            return Err(not_supported(
                 session.alloc,
-                &[b"the id '", text, b"' is the name of a reference"],
+                &[
+                    b"'",
+                    text,
+                    b"': a reference named like an id is not supported",
+                ],
             ));
         }
     }

@@ -3,7 +3,7 @@
 
 use crate::queue::Queue;
 use crate::session::Session;
-use crate::stop::{Stop, not_read};
+use crate::stop::{Stop, not_supported};
 use gix_revision::Seed;
 use gix_revision::hash::ObjectId;
 use std::alloc::Global;
@@ -82,12 +82,12 @@ struct Walk {
 ///
 /// # Errors
 ///
-/// `NotRead` if the commit is from a commit-graph: git may follow the corrected dates of that,
+/// `NotSupported` if the commit is from a commit-graph: git may follow the corrected dates of that,
 /// which are not read.
 fn date_of(session: &mut Session<'_>, id: ObjectId) -> Result<i64, Stop> {
     let entry = session.repository.entry(id)?;
     if entry.generation.is_some() {
-        return Err(not_read(
+        return Err(not_supported(
             session.alloc,
             &[b"the order of merge bases with one date is not supported"],
         ));
@@ -196,7 +196,7 @@ impl Walk {
 ///
 /// # Errors
 ///
-/// - `NotRead` if a commit is from a commit-graph.
+/// - `NotSupported` if a commit is from a commit-graph.
 /// - `Refused` if a commit is not read.
 pub(crate) fn met(
     session: &mut Session<'_>,
