@@ -3,10 +3,8 @@
 use git_session::session::Session;
 use git_session::stop::{Stop, failed, fatal, joined, not_supported, unread};
 use gix_discover::{PathKind, Places, Variable};
-use gix_files::{FileError, System};
-use gix_index::{
-    Checks, Conversion, FileKind, Index, Statuses, WorkTree, add_conversion, read_file,
-};
+use gix_files::{FileError, Limit, System, read_file};
+use gix_index::{Checks, Conversion, FileKind, Index, Statuses, WorkTree, add_conversion};
 use std::io::Write;
 
 /// Returns the top folder of the working tree; empty is the current one.
@@ -71,7 +69,7 @@ pub(crate) fn read_index(session: &Session<'_>, top: &[u8]) -> Result<(Index, u3
         ));
     }
     let mut bytes = Vec::new(alloc);
-    if let Err(error) = read_file(&session.files, &path, &mut bytes) {
+    if let Err(error) = read_file(&session.files, &path, Limit::Table, &mut bytes) {
         return Err(unread(session.alloc, &path, error));
     }
     match Index::parse(alloc, &bytes) {

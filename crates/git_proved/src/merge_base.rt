@@ -6,7 +6,7 @@ use git_session::names::{commit, commit_of, commits, commits_last_first};
 use git_session::options::{add_choice, next_item};
 use git_session::ranges::revision;
 use git_session::session::Session;
-use git_session::stop::{Stop, fatal, missing, not_supported};
+use git_session::stop::{Stop, fatal, not_supported};
 use gix_questions::{Independent, IsAncestor};
 use gix_repository::Refusal;
 use gix_revision::hash::ObjectId;

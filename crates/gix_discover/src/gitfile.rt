@@ -11,7 +11,7 @@ use std::alloc::Allocator;
 use std::io::ErrorKind;
 
 /// How many bytes a file `.git` has at most, as in git.
-const MOST_BYTES: usize = 1 << 20;
+const MOST_BYTES: u64 = 1 << 20;
 
 /// Returns the path in the text of a file `.git` (gitglossary, "gitfile").
 ///
@@ -37,10 +37,10 @@ pub(crate) fn read_gitfile<F: Places, A: Allocator + Copy>(
     path: &[u8],
 ) -> Result<Vec<u8, A>, DiscoverError<A>> {
     let mut text = Vec::new(alloc);
-    if !read_front(alloc, files, path, MOST_BYTES, &mut text)? {
+    if !read_front(alloc, files, path, MOST_BYTES + 1, &mut text)? {
         return Err(about(alloc, Reason::GitfileFormat, path));
     }
-    if text.len() > MOST_BYTES {
+    if text.len() as u64 > MOST_BYTES {
         return Err(about(alloc, Reason::GitfileTooLarge, path));
     }
     match linked(&text) {

@@ -13,7 +13,7 @@ use std::io::ErrorKind;
 const MOST_STEPS: u32 = 5;
 
 /// How many bytes of a ref are read at most.
-const MOST_BYTES: usize = 4096;
+const MOST_BYTES: u64 = 4096;
 
 /// Returns what follows blanks at the front of a text.
 pub(crate) fn after_blanks(text: &[u8]) -> &[u8] {

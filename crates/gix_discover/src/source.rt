@@ -1,9 +1,9 @@
-//! Opens and reads whole files, and names the path in each error.
+//! Reads files, and names the path in each error.
 
 use crate::error::{DiscoverError, Reason, about};
 use crate::paths::folder_of;
 use crate::places::{PathKind, Place, Places};
-use gix_files::{FileError, Folders, Opened};
+use gix_files::{FileError, Folders, Limit};
 use std::alloc::Allocator;
 
 /// Returns the reason for a failed call on a file.
@@ -15,63 +15,33 @@ pub(crate) fn reason_of(error: FileError) -> Reason {
     }
 }
 
-/// Reads a file from its beginning, up to `most` bytes.
-fn read_bytes<O: Opened, A: Allocator>(
-    file: &O,
-    bytes: &mut Vec<u8, A>,
-    most: usize,
-) -> Result<(), FileError> {
-    let mut buf = [0u8; 4096];
-    for _ in 0..u64::MAX {
-        let n = file.read_part(bytes.len() as u64, buf.as_mut_slice())?;
-        if n == 0 || bytes.len() >= most {
-            break;
-        }
-        bytes.extend_from_slice(&buf[..n])?;
-    }
-    Ok(())
-}
-
-/// Adds the bytes of a file to `bytes`. Returns `false` if there is no such file.
-fn add_file<F: Folders, A: Allocator>(
-    files: &F,
-    path: &[u8],
-    bytes: &mut Vec<u8, A>,
-    most: usize,
-) -> Result<bool, FileError> {
-    match files.open(path)? {
-        Some(file) => {
-            read_bytes(&file, bytes, most)?;
-            Ok(true)
-        }
-        None => Ok(false),
-    }
-}
-
-/// Adds the first bytes of a file to `bytes`, at least `most` if it has as many.
+/// Puts the first bytes of a file into `bytes`: all, or at least `enough`.
 ///
 /// Returns `false` if there is no such file.
 pub(crate) fn read_front<F: Folders, A: Allocator + Copy>(
     alloc: A,
     files: &F,
     path: &[u8],
-    most: usize,
+    enough: u64,
     bytes: &mut Vec<u8, A>,
 ) -> Result<bool, DiscoverError<A>> {
-    match add_file(files, path, bytes, most) {
+    match gix_files::read_front(files, path, enough, bytes) {
         Ok(found) => Ok(found),
         Err(error) => Err(about(alloc, reason_of(error), path)),
     }
 }
 
-/// Adds the bytes of a file to `bytes`. Returns `false` if there is no such file.
+/// Puts the bytes of a file into `bytes`. Returns `false` if there is no such file.
 pub(crate) fn read_file<F: Folders, A: Allocator + Copy>(
     alloc: A,
     files: &F,
     path: &[u8],
     bytes: &mut Vec<u8, A>,
 ) -> Result<bool, DiscoverError<A>> {
-    read_front(alloc, files, path, usize::MAX, bytes)
+    match gix_files::read_file(files, path, Limit::Text, bytes) {
+        Ok(found) => Ok(found),
+        Err(error) => Err(about(alloc, reason_of(error), path)),
+    }
 }
 
 /// Returns what is at a path; `None` if there is nothing.

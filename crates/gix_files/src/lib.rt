@@ -3,15 +3,18 @@
 //! - [`Folders`] and [`Opened`] are the traits by which the crates above read files, so that a test
 //!   can stand in for the file system.
 //! - [`System`] implements them over the file system.
+//! - [`read_file`] is the one way by which crates read a file whole, up to a [`Limit`].
 #![tactic(auto)]
 
 ghost use Rattle.std.specs.Prelude.{◌≤◌, length, IfOk};
 
 mod system;
+mod whole;
 
 use std::alloc::{AllocError, AllocFailed, Allocator};
 use std::io::ErrorKind;
 pub use system::System;
+pub use whole::{Limit, read_file, read_front};
 
 /// Says why a file was not opened, listed or read.
 #[derive(Clone, Copy)]
@@ -54,7 +57,8 @@ pub trait Folders {
 
     /// Opens a file for reading. Returns `None` if there is no such file.
     ///
-    /// Fails with `NotSeekable` if the file is a pipe, on which the program would wait.
+    /// Fails with `NotSeekable` if the path leads to a pipe, a socket or a device. A program may wait on
+    /// these, or read them without end. `/dev/null` is opened, and has no bytes.
     fn open(&self, path: &[u8]) -> Result<Option<Self::Opened>, FileError>;
 
     /// Adds the text of a symbolic link to `text`.

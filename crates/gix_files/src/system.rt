@@ -4,9 +4,9 @@ ghost use Rattle.std.specs.Prelude.{◌≤◌, length, IfOk};
 
 use crate::{FileError, Folders, Opened};
 use std::alloc::Allocator;
-use std::fs::{File, Files, OpenFile};
+use std::fs::{File, Files, Metadata, OpenFile};
 use std::io::{self, ErrorKind, Read};
-use std::os::unix::fs::{FileExt, MetadataExt};
+use std::os::unix::fs::{FileExt, FileTypeExt, MetadataExt};
 
 /// The file system. It opens only paths that are UTF-8.
 #[derive(Clone, Copy, Drop)]
@@ -17,9 +17,26 @@ fn is_missing(kind: ErrorKind) -> bool {
     matches!(kind, ErrorKind::NotFound | ErrorKind::NotADirectory)
 }
 
-/// Tells whether a file is a pipe with a name, by its mode (inode(7), "The file type and mode").
-fn is_pipe(mode: u32) -> bool {
-    mode >> 12 == 1
+/// The number of the device `/dev/null` (null(4)).
+const NULL_DEVICE: u64 = 0x103;
+
+/// Fails unless something is a file, a folder or `/dev/null` (inode(7), "The file type and mode").
+fn ensure_file(metadata: &Metadata) -> Result<(), FileError> {
+    let is_null = metadata.file_type().is_char_device() && metadata.rdev() == NULL_DEVICE;
+    if metadata.is_file() || metadata.is_dir() || is_null {
+        Ok(())
+    } else {
+        Err(FileError::Failed(ErrorKind::NotSeekable))
+    }
+}
+
+/// Returns an open file, unless something else was put in its place before it was opened.
+fn opened(file: File) -> Result<Option<File>, FileError> {
+    match file.metadata() {
+        Ok(metadata) => ensure_file(&metadata)?,
+        Err(error) => return Err(file_error(error)),
+    }
+    Ok(Some(file))
 }
 
 /// Returns the error of a file for one of the system.
@@ -60,15 +77,12 @@ impl<'a> Folders for System<'a> {
             return Err(FileError::NotUtf8);
         };
         match self.0.metadata(path) {
-            Ok(metadata) if is_pipe(metadata.mode()) => {
-                return Err(FileError::Failed(ErrorKind::NotSeekable));
-            }
-            Ok(_) => {}
+            Ok(metadata) => ensure_file(&metadata)?,
             Err(error) if is_missing(error.kind()) => return Ok(None),
             Err(error) => return Err(file_error(error)),
         }
         match File::open(self.0, path) {
-            Ok(file) => Ok(Some(file)),
+            Ok(file) => opened(file),
             Err(error) if is_missing(error.kind()) => Ok(None),
             Err(error) => Err(file_error(error)),
         }

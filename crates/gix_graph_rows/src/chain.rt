@@ -1,9 +1,8 @@
 //! Reads the file that names the files of a chain (technical/commit-graph, "Commit-Graph Chains").
 
-use crate::error::{Damage, Error, GraphFile};
-use crate::source::open;
+use crate::error::{Damage, Error, GraphFile, error_of};
 use gix_base::hash::ObjectId;
-use gix_files::Folders;
+use gix_files::{Folders, Limit, read_file};
 use std::alloc::{AllocError, Allocator};
 
 /// Joins three parts of a path.
@@ -58,12 +57,13 @@ pub(crate) fn hashes<F: Folders, A: Allocator + Copy>(
         b"/info/commit-graphs/commit-graph-chain",
         b"",
     )?;
+    let mut text = Vec::new(alloc);
+    if let Err(error) = read_file(files, &path, Limit::Text, &mut text) {
+        return Err(error_of(GraphFile::Chain, error));
+    }
     let mut hashes = Vec::new(alloc);
-    if let Some(source) = open(files, &path, GraphFile::Chain)? {
-        let text = source.read_whole(alloc)?;
-        if !text.is_empty() {
-            add_lines(text.strip_suffix(b"\n").unwrap_or(&text), &mut hashes)?;
-        }
+    if !text.is_empty() {
+        add_lines(text.strip_suffix(b"\n").unwrap_or(&text), &mut hashes)?;
     }
     Ok(hashes)
 }

@@ -96,18 +96,4 @@ impl<O: Opened> Source<O> {
             Err(error) => Err(error),
         }
     }
-
-    /// Reads the file whole.
-    pub(crate) fn read_whole<A: Allocator>(&self, alloc: A) -> Result<Vec<u8, A>, Error> {
-        let mut bytes = Vec::new(alloc);
-        let mut buf = [0u8; 4096];
-        for _ in 0..u64::MAX {
-            let n = self.read_part(bytes.len() as u64, buf.as_mut_slice())?;
-            if n == 0 {
-                break;
-            }
-            bytes.extend_from_slice(&buf[..n])?;
-        }
-        Ok(bytes)
-    }
 }

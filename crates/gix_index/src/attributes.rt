@@ -2,7 +2,7 @@
 //! checking-in").
 
 use crate::files::Statuses;
-use gix_files::{FileError, Opened};
+use gix_files::{FileError, Limit, read_file};
 use std::alloc::Allocator;
 
 /// Says what git may do to the content of a file before it is hashed.
@@ -64,32 +64,6 @@ impl Conversion {
     }
 }
 
-/// Adds the bytes of a file to `bytes`. Returns whether there is such a file.
-///
-/// # Errors
-///
-/// - `Failed` if the system failed.
-/// - `NotUtf8` if the path is not UTF-8.
-/// - `OutOfMemory` if an allocation failed.
-pub fn read_file<F: Statuses, A: Allocator>(
-    files: &F,
-    path: &[u8],
-    bytes: &mut Vec<u8, A>,
-) -> Result<bool, FileError> {
-    let Some(file) = files.open(path)? else {
-        return Ok(false);
-    };
-    let mut part = [0u8; 4096];
-    for _ in 0..u64::MAX {
-        let count = file.read_part(bytes.len() as u64, &mut part)?;
-        if count == 0 {
-            break;
-        }
-        bytes.extend_from_slice(&part[..count])?;
-    }
-    Ok(true)
-}
-
 /// Returns what a conversion allows together with the file of attributes at a path, if there is one.
 ///
 /// # Errors
@@ -102,7 +76,7 @@ pub fn add_conversion<F: Statuses, A: Allocator>(
     conversion: Conversion,
 ) -> Result<Conversion, FileError> {
     let mut text = Vec::new(alloc);
-    if read_file(files, path, &mut text)? {
+    if read_file(files, path, Limit::Text, &mut text)? {
         Ok(conversion.or(Conversion::of(&text)))
     } else {
         Ok(conversion)

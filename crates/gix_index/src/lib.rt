@@ -28,7 +28,7 @@ mod root;
 mod status;
 pub mod tree;
 
-pub use attributes::{Conversion, add_conversion, read_file};
+pub use attributes::{Conversion, add_conversion};
 pub use clean::{Difference, Looked, are_sorted, first_difference};
 pub use compare::{Change, Checks};
 pub use entry::{Entry, Stat};

@@ -1,6 +1,6 @@
 //! Compares entries of an index with the files of a working tree.
 
-use crate::attributes::{Conversion, add_conversion, read_file};
+use crate::attributes::{Conversion, add_conversion};
 use crate::compare::{Change, Checks};
 use crate::entry::Entry;
 use crate::files::Statuses;
@@ -8,7 +8,7 @@ use crate::mode::FileKind;
 use crate::status::Status;
 use gix_base::hash::ObjectId;
 use gix_base::object::Kind;
-use gix_files::FileError;
+use gix_files::{FileError, Limit, read_file};
 use gix_object::object_id;
 use memchr::memrchr;
 use std::alloc::{AllocError, Allocator, Global};
@@ -216,7 +216,8 @@ impl<F: Statuses + Copy + Drop, A: Allocator + Copy> WorkTree<F, A> {
         }
         let opened = self.path(path, b"")?;
         let mut content = Vec::new(self.alloc);
-        if read_file(&self.files, &opened, &mut content)? && conversion.keeps(&content) {
+        let is_there = read_file(&self.files, &opened, Limit::Table, &mut content)?;
+        if is_there && conversion.keeps(&content) {
             Ok(Some(object_id(Kind::Blob, &content)))
         } else {
             Ok(None)

@@ -5,8 +5,8 @@ mod text;
 use crate::error::{FileKind, FileName};
 use crate::failure::Fault;
 use crate::paths::joined;
-use crate::source::{fault_of, open};
-use gix_files::Folders;
+use crate::source::fault_of;
+use gix_files::{Folders, Limit, read_file};
 use std::alloc::Allocator;
 use text::next_path;
 
@@ -165,11 +165,12 @@ fn read_alternates<F: Folders, A: Allocator + Copy>(
         kind: FileKind::Alternates,
     };
     let path = joined(alloc, &folder.path, b"/info/alternates", b"", b"")?;
-    if let Some(source) = open(files, &path, name)? {
-        *text = source.read_whole(alloc)?;
-        let len = text.iter().position(|b| *b == 0).unwrap_or(text.len());
-        text.truncate(len);
+    if let Err(error) = read_file(files, &path, Limit::Text, text) {
+        text.clear();
+        return Err(fault_of(name, error));
     }
+    let len = text.iter().position(|b| *b == 0).unwrap_or(text.len());
+    text.truncate(len);
     Ok(())
 }
 

@@ -78,6 +78,11 @@ impl Failure {
         matches!(self, Failure::InFile(Fault::OutOfMemory))
     }
 
+    /// Tells whether there is no copy.
+    pub(crate) fn is_missing(self) -> bool {
+        matches!(self, Failure::Missing)
+    }
+
     /// Returns the failure of two copies: the first, unless that copy is missing.
     pub(crate) fn or(self, next: Failure) -> Failure
         ensures { (id : ObjectId) → IsFailure id self → IsFailure id next → IsFailure id result }

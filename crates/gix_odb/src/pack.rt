@@ -11,7 +11,7 @@ use crate::failure::{Failure, Fault};
 use crate::index::Index;
 use crate::object::{Object, accepted};
 use crate::paths::joined;
-use crate::source::open;
+use crate::source::open_listed;
 use gix_base::hash::ObjectId;
 use gix_files::Folders;
 use std::alloc::Allocator;
@@ -44,51 +44,43 @@ impl<F: Folders, A: Allocator + Copy> Pack<F, A> {
         self.body = None;
     }
 
-    /// Opens the index, unless it is open. Returns whether it is there.
-    fn open_index(&mut self, alloc: A, files: &F, folder: &[u8]) -> Result<bool, Fault> {
+    /// Opens the index, unless it is open. Fails if it is gone since it was listed.
+    fn open_index(&mut self, alloc: A, files: &F, folder: &[u8]) -> Result<(), Fault> {
         if self.index.is_some() {
-            return Ok(true);
+            return Ok(());
         }
         let name = FileName {
             folder: self.folder,
             kind: FileKind::Index(PackName::new(&self.name)),
         };
         let path = joined(alloc, folder, b"/pack/", &self.name, b".idx")?;
-        match open(files, &path, name)? {
-            Some(source) => {
-                self.index = Some(Index::new(alloc, source)?);
-                Ok(true)
-            }
-            None => Ok(false),
-        }
+        let source = open_listed(files, &path, name)?;
+        self.index = Some(Index::new(alloc, source)?);
+        Ok(())
     }
 
-    /// Opens the pack itself, unless it is open. Returns whether it is there.
+    /// Opens the pack itself, unless it is open. Fails if it is gone since it was listed.
     fn open_body(
         &mut self,
         alloc: A,
         files: &F,
         folder: &[u8],
         chains: &mut Chains<A>,
-    ) -> Result<bool, Fault> {
+    ) -> Result<(), Fault> {
         if self.body.is_some() {
-            return Ok(true);
+            return Ok(());
         }
         let name = FileName {
             folder: self.folder,
             kind: FileKind::Pack(PackName::new(&self.name)),
         };
         let path = joined(alloc, folder, b"/pack/", &self.name, b".pack")?;
-        match open(files, &path, name)? {
-            Some(source) => {
-                self.body = Some(Body::new(alloc, source, chains.next_number()));
-                Ok(true)
-            }
-            None => Ok(false),
-        }
+        let source = open_listed(files, &path, name)?;
+        self.body = Some(Body::new(alloc, source, chains.next_number()));
+        Ok(())
     }
 
-    /// Returns where the object with this id begins; `None` if it, or the pack, is not there.
+    /// Returns where the object with this id begins; `None` if it is not there.
     fn find(
         &mut self,
         alloc: A,
@@ -97,18 +89,15 @@ impl<F: Folders, A: Allocator + Copy> Pack<F, A> {
         id: ObjectId,
         chains: &mut Chains<A>,
     ) -> Result<Option<u64>, Fault> {
-        if !self.open_index(alloc, files, folder)? {
-            return Ok(None);
-        }
+        self.open_index(alloc, files, folder)?;
         let Some(index) = &mut self.index else {
             return Ok(None);
         };
         let at = index.find(alloc, id)?;
-        if at.is_some() && self.open_body(alloc, files, folder, chains)? {
-            Ok(at)
-        } else {
-            Ok(None)
+        if at.is_some() {
+            self.open_body(alloc, files, folder, chains)?;
         }
+        Ok(at)
     }
 
     /// Reads the object that begins at an offset, and takes it if it has this id.
@@ -129,7 +118,7 @@ impl<F: Folders, A: Allocator + Copy> Pack<F, A> {
         accepted(id, kind, content)
     }
 
-    /// Reads the object with this id. Fails with `Missing` if it, or the pack, is not there.
+    /// Reads the object with this id. Fails with `Missing` if the pack does not have it.
     pub(crate) fn read(
         &mut self,
         alloc: A,
@@ -147,7 +136,7 @@ impl<F: Folders, A: Allocator + Copy> Pack<F, A> {
         }
     }
 
-    /// Returns how many objects the pack has. Fails with `Missing` if its index is not there.
+    /// Returns how many objects the pack has.
     pub(crate) fn len(&mut self, alloc: A, files: &F, folder: &[u8]) -> Result<usize, Failure> {
         self.open_index(alloc, files, folder)?;
         match &self.index {
@@ -156,7 +145,7 @@ impl<F: Folders, A: Allocator + Copy> Pack<F, A> {
         }
     }
 
-    /// Succeeds if the pack is there and has the object with this id. Fails with `Missing` if not.
+    /// Succeeds if the pack has the object with this id. Fails with `Missing` if not.
     pub(crate) fn has(
         &mut self,
         alloc: A,

@@ -21,20 +21,25 @@ pub(crate) struct Listing<F: Folders, A: Allocator + Copy> {
     pub(crate) fault: Option<Fault>,
     /// Whether a folder has a multi-pack-index.
     pub(crate) has_multi_pack_index: bool,
+    /// Whether other packs are there than were listed before.
+    pub(crate) has_changed: bool,
 }
 
-/// Moves a pack from the old packs to the new ones, or adds it to these if it is new.
+/// Moves a pack from the old packs to the listed ones, or adds it to these if it is new.
 fn keep<F: Folders, A: Allocator + Copy>(
     alloc: A,
     old: &mut Vec<Pack<F, A>, A>,
-    new: &mut Vec<Pack<F, A>, A>,
+    listing: &mut Listing<F, A>,
     folder: usize,
     name: &[u8],
 ) -> Result<(), Fault> {
     let place = old.iter().position(|pack| pack.folder == folder && pack.name.as_slice() == name);
     match place {
-        Some(place) if place < old.len() => new.push(old.swap_remove(place))?,
-        _ => new.push(Pack::new(folder, name.to_vec(alloc)?))?,
+        Some(place) if place < old.len() => listing.packs.push(old.swap_remove(place))?,
+        _ => {
+            listing.has_changed = true;
+            listing.packs.push(Pack::new(folder, name.to_vec(alloc)?))?;
+        }
     }
     Ok(())
 }
@@ -55,7 +60,7 @@ fn stems<A: Allocator + Copy>(alloc: A, names: &[u8]) -> Result<Vec<&[u8], A>, A
 fn keep_named<F: Folders, A: Allocator + Copy>(
     alloc: A,
     old: &mut Vec<Pack<F, A>, A>,
-    new: &mut Vec<Pack<F, A>, A>,
+    listing: &mut Listing<F, A>,
     folder: usize,
     names: &[u8],
 ) -> Result<(), Fault> {
@@ -63,7 +68,7 @@ fn keep_named<F: Folders, A: Allocator + Copy>(
     for name in names.split(|b| *b == 0) {
         if let Some(stem) = name.strip_suffix(b".idx") {
             if stems.binary_search(&stem).is_ok() {
-                keep(alloc, old, new, folder, stem)?;
+                keep(alloc, old, listing, folder, stem)?;
             }
         }
     }
@@ -104,7 +109,7 @@ fn list<F: Folders, A: Allocator + Copy>(
             {
                 listing.has_multi_pack_index = true;
             }
-            keep_named(alloc, old, &mut listing.packs, number, &names)
+            keep_named(alloc, old, listing, number, &names)
         }
         Err(error) => {
             let name = FileName {
@@ -130,11 +135,13 @@ pub(crate) fn listed<F: Folders, A: Allocator + Copy>(
         packs: Vec::new(alloc),
         fault: None,
         has_multi_pack_index: false,
+        has_changed: false,
     };
     for (number, folder) in folders.iter().enumerate() {
         if folder.is_reached {
             list(alloc, files, old, &mut listing, number, &folder.path)?;
         }
     }
+    listing.has_changed |= !old.is_empty();
     Ok(listing)
 }

@@ -6,6 +6,7 @@ use crate::error::{Damage, Feature, FileName};
 use crate::failure::Fault;
 use gix_files::{FileError, Folders, Opened};
 use std::alloc::Allocator;
+use std::io::ErrorKind;
 
 /// An open file with its name.
 #[derive(Drop)]
@@ -33,6 +34,18 @@ pub(crate) fn open<F: Folders>(
         Ok(Some(file)) => Ok(Some(Source { file, name })),
         Ok(None) => Ok(None),
         Err(error) => Err(fault_of(name, error)),
+    }
+}
+
+/// Opens a file of a pack that was listed. Fails with `NotFound` if it is gone since then.
+pub(crate) fn open_listed<F: Folders>(
+    files: &F,
+    path: &[u8],
+    name: FileName,
+) -> Result<Source<F::Opened>, Fault> {
+    match open(files, path, name)? {
+        Some(source) => Ok(source),
+        None => Err(Fault::Failed(name, ErrorKind::NotFound)),
     }
 }
 
@@ -100,19 +113,5 @@ impl<O: Opened> Source<O> {
             Ok(_) => Ok(()),
             Err(fault) => Err(fault),
         }
-    }
-
-    /// Reads the file whole.
-    pub(crate) fn read_whole<A: Allocator>(&self, alloc: A) -> Result<Vec<u8, A>, Fault> {
-        let mut bytes = Vec::new(alloc);
-        let mut buf = [0u8; 4096];
-        for _ in 0..u64::MAX {
-            let n = self.read_part(bytes.len() as u64, buf.as_mut_slice())?;
-            if n == 0 {
-                break;
-            }
-            bytes.extend_from_slice(&buf[..n])?;
-        }
-        Ok(bytes)
     }
 }

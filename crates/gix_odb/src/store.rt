@@ -116,7 +116,7 @@ impl<F: Folders + Drop, A: Allocator + Copy> Store<F, A> {
     /// Returns the store with its packs listed.
     fn with_packs(mut self, alloc: A) -> Result<Store<F, A>, Error> {
         match self.list_packs(alloc) {
-            Ok(()) => Ok(self),
+            Ok(_) => Ok(self),
             Err(fault) => Err(fault.error()),
         }
     }
@@ -139,8 +139,9 @@ impl<F: Folders + Drop, A: Allocator + Copy> Store<F, A> {
     /// Returns the object with this id.
     ///
     /// Packs are tried first, the one that had the last object before the others, then loose files.
-    /// A copy that is not authentic is passed over. If there is no authentic copy, the packs are
-    /// listed once more, since git may just have repacked, and all copies are tried again.
+    /// A copy that is not authentic is passed over. If there is no authentic copy, the packs are listed
+    /// again, since git may just have repacked, and all copies are tried again. This ends if the same
+    /// packs are listed twice, or fails after ten listings.
     ///
     /// # Errors
     ///
@@ -155,7 +156,7 @@ impl<F: Folders + Drop, A: Allocator + Copy> Store<F, A> {
         // `Missing` and `Altered` name this id. None is about what the object says.
         ensures refused { IfErr result (IsRefused id) }
     {
-        match self.read_twice(alloc, id) {
+        match self.read_settled(alloc, id) {
             Ok(object) => Ok(object),
             Err(failure) => Err(self.refusal(failure, id)),
         }
@@ -223,7 +224,7 @@ impl<F: Folders + Drop, A: Allocator + Copy> Store<F, A> {
 
     /// Returns whether a pack has the object with this id, by its index, or a loose file is there.
     ///
-    /// The object is not read. If there is no copy, the packs are listed once more.
+    /// The object is not read. If there is no copy, the packs are listed again, as in [`Store::read`].
     ///
     /// # Errors
     ///
@@ -233,7 +234,7 @@ impl<F: Folders + Drop, A: Allocator + Copy> Store<F, A> {
         // `Missing` and `Altered` name this id. None is about what the object says.
         ensures refused { IfErr result (IsRefused id) }
     {
-        match self.has_twice(alloc, id) {
+        match self.has_settled(alloc, id) {
             Ok(()) => Ok(true),
             Err(failure) => match self.unfound(failure) {
                 Some(fault) => Err(fault.error()),
@@ -245,8 +246,8 @@ impl<F: Folders + Drop, A: Allocator + Copy> Store<F, A> {
     /// Returns the ids that begin with a prefix, by the indexes of packs and the names of loose files.
     ///
     /// The answer has the least of these ids, in order, and `most` of them if there are more. So two
-    /// are enough to tell whether the prefix is ambiguous. If there are none, the packs are listed
-    /// once more.
+    /// are enough to tell whether the prefix is ambiguous. If there are none, or a pack is gone, the packs
+    /// are listed again, as in [`Store::read`].
     ///
     /// # Errors
     ///

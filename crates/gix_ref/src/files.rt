@@ -1,7 +1,7 @@
-//! Reads files whole.
+//! Reads files, and names them in faults.
 
 use crate::error::{ErrorName, Fault};
-use gix_files::{FileError, Folders, Opened};
+use gix_files::{FileError, Folders, Limit, read_file};
 use gix_ref_text::lines::cut;
 use memchr::memrchr;
 use std::alloc::Allocator;
@@ -27,19 +27,6 @@ fn is_no_file(error: FileError) -> bool {
             ErrorKind::IsADirectory | ErrorKind::NotADirectory | ErrorKind::InvalidFilename
         )
     )
-}
-
-/// Adds the bytes of an open file to `bytes`.
-fn read_whole<O: Opened, A: Allocator>(file: &O, bytes: &mut Vec<u8, A>) -> Result<(), FileError> {
-    let mut buf = [0u8; 8192];
-    for _ in 0..u64::MAX {
-        let n = file.read_part(bytes.len() as u64, buf.as_mut_slice())?;
-        if n == 0 {
-            break;
-        }
-        bytes.extend_from_slice(&buf[..n])?;
-    }
-    Ok(())
 }
 
 /// Returns the folder and the name of the first part of a path that is not UTF-8.
@@ -104,29 +91,18 @@ pub(crate) fn ensure_missing<F: Folders, A: Allocator>(
     }
 }
 
-/// Returns the bytes of a file; `None` if there is nothing at the path. Fails if there is a folder.
-pub(crate) fn read_file<F: Folders, A: Allocator + Copy>(
-    alloc: A,
-    files: &F,
-    path: &[u8],
-) -> Result<Option<Vec<u8, A>>, FileError> {
-    let Some(file) = files.open(path)? else {
-        return Ok(None);
-    };
-    let mut bytes = Vec::new(alloc);
-    read_whole(&file, &mut bytes)?;
-    Ok(Some(bytes))
-}
-
 /// Returns the bytes of a file, as [`read`] does, but fails if the path is not UTF-8.
 pub(crate) fn read_listed<F: Folders, A: Allocator + Copy>(
     alloc: A,
     files: &F,
     path: &[u8],
 ) -> Result<Option<Vec<u8, A>>, FileError> {
-    match read_file(alloc, files, path) {
+    let mut bytes = Vec::new(alloc);
+    match read_file(files, path, Limit::Text, &mut bytes) {
+        Ok(true) => Ok(Some(bytes)),
+        Ok(false) => Ok(None),
         Err(error) if is_no_file(error) => Ok(None),
-        read => read,
+        Err(error) => Err(error),
     }
 }
 

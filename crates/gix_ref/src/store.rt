@@ -7,9 +7,9 @@ ghost use Rattle.gix_ref.specs.Known.{known, read_of};
 
 use crate::all::{Listing, Skipped};
 use crate::error::{Error, ErrorName, Fault};
-use crate::files::{fault_of, read, read_file};
+use crate::files::{fault_of, read};
 use crate::place::located;
-use gix_files::{FileError, Folders};
+use gix_files::{FileError, Folders, Limit, read_file};
 use gix_ref_text::loose::is_untrimmed;
 use gix_ref_text::name::is_full_name;
 use gix_ref_text::snapshot::Snapshot;
@@ -250,11 +250,10 @@ impl<F: Folders + Drop, A: Allocator + Copy> References<F, A> {
     fn packed_file(&self) -> Result<Snapshot<A>, Fault> {
         let mut path = self.common_dir.to_vec(self.alloc)?;
         path.extend_from_slice(b"/packed-refs")?;
-        let bytes = match read_file(self.alloc, &self.files, &path) {
-            Ok(Some(bytes)) => bytes,
-            Ok(None) => Vec::new(self.alloc),
-            Err(error) => return Err(fault_of(&path, error)),
-        };
+        let mut bytes = Vec::new(self.alloc);
+        if let Err(error) = read_file(&self.files, &path, Limit::Table, &mut bytes) {
+            return Err(fault_of(&path, error));
+        }
         match Snapshot::new(self.alloc, bytes)? {
             Some(snapshot) => Ok(snapshot),
             None => Err(Fault::Damaged(ErrorName::new(&path))),

@@ -6,7 +6,7 @@ use gix_discover::{
     DiscoverError, Environment, Layout, Places, Settings, SmallFileError, Variable, discover,
     grafts, shallow,
 };
-use gix_files::{FileError, Folders, Opened};
+use gix_files::{FileError, Folders, Limit, read_file};
 use gix_graph_rows::GraphRows;
 use gix_history::{History, Loaded};
 use gix_odb::Store;
@@ -96,27 +96,6 @@ impl<A: Allocator> From<FileError> for OpenError<A> {
     }
 }
 
-/// Returns the bytes of a file; `None` if there is no such file.
-fn read_whole<F: Folders, A: Allocator>(
-    alloc: A,
-    files: &F,
-    path: &[u8],
-) -> Result<Option<Vec<u8, A>>, FileError> {
-    let Some(file) = files.open(path)? else {
-        return Ok(None);
-    };
-    let mut bytes = Vec::new(alloc);
-    let mut part = [0u8; 4096];
-    for _ in 0..u64::MAX {
-        let count = file.read_part(bytes.len() as u64, &mut part)?;
-        if count == 0 {
-            break;
-        }
-        bytes.extend_from_slice(&part[..count])?;
-    }
-    Ok(Some(bytes))
-}
-
 impl<A: Allocator + Copy> Changes<A> {
     /// Takes the parents of the commits at which a shallow history ends (gitrepository-layout,
     /// "shallow").
@@ -126,9 +105,8 @@ impl<A: Allocator + Copy> Changes<A> {
         files: &F,
         path: &[u8],
     ) -> Result<(), OpenError<A>> {
-        let Some(text) = read_whole(alloc, files, path)? else {
-            return Ok(());
-        };
+        let mut text = Vec::new(alloc);
+        read_file(files, path, Limit::Text, &mut text)?;
         match shallow(alloc, &text) {
             Ok(ids) => {
                 for id in ids.iter() {
@@ -148,9 +126,8 @@ impl<A: Allocator + Copy> Changes<A> {
         files: &F,
         path: &[u8],
     ) -> Result<(), OpenError<A>> {
-        let Some(text) = read_whole(alloc, files, path)? else {
-            return Ok(());
-        };
+        let mut text = Vec::new(alloc);
+        read_file(files, path, Limit::Text, &mut text)?;
         // Of two lines about one commit git takes the first.
         for graft in grafts(alloc, &text)?.into_iter().rev() {
             self.graft(graft.id, graft.parents)?;

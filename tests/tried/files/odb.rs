@@ -1,4 +1,5 @@
 //! Tests of `gix_odb`.
 
+mod moving;
 mod reads;
 mod tables;

@@ -4,7 +4,7 @@ ghost use Rattle.std.specs.Prelude.{IfOk, IfErr};
 ghost use Rattle.gix_odb.specs.Refusals.{IsFailure, IsRefused};
 ghost use Rattle.gix_odb.specs.Stores.{IsObject};
 
-use crate::error::Error;
+use crate::error::{Error, FileKind, FileName};
 use crate::failure::{Failure, Fault};
 use crate::loose;
 use crate::object::Object;
@@ -13,19 +13,33 @@ use crate::store::Store;
 use gix_base::hash::ObjectId;
 use gix_files::Folders;
 use std::alloc::Allocator;
+use std::io::ErrorKind;
+
+/// How many times copies are looked for, if other packs are there each time.
+pub(super) const MOST_LISTINGS: u32 = 10;
+
+/// The fault if other packs are there each time.
+pub(super) const UNSETTLED: Fault = Fault::Failed(
+    FileName {
+        folder: 0,
+        kind: FileKind::Packs,
+    },
+    ErrorKind::ResourceBusy,
+);
 
 impl<F: Folders + Drop, A: Allocator + Copy> Store<F, A> {
-    /// Lists the packs once more.
-    pub(super) fn list_packs(&mut self, alloc: A) -> Result<(), Fault> {
+    /// Lists the packs once more. Returns whether others are there than before.
+    pub(super) fn list_packs(&mut self, alloc: A) -> Result<bool, Fault> {
         let Listing {
             packs,
             fault,
             has_multi_pack_index,
+            has_changed,
         } = listed(alloc, &self.files, &self.folders, &mut self.packs)?;
         self.packs = packs;
         self.packs_fault = fault;
         self.has_multi_pack_index |= has_multi_pack_index;
-        Ok(())
+        Ok(has_changed)
     }
 
     /// Reads the object from the pack at a place among the packs.
@@ -126,20 +140,39 @@ impl<F: Folders + Drop, A: Allocator + Copy> Store<F, A> {
         }
     }
 
-    /// Reads the object, and lists the packs once more if there is no authentic copy.
-    pub(super) fn read_twice(&mut self, alloc: A, id: ObjectId) -> Result<Object<A>, Failure>
+    /// Reads the object. If there is no authentic copy, lists the packs again and tries all copies, until
+    /// the same packs are listed twice.
+    pub(super) fn read_settled(&mut self, alloc: A, id: ObjectId) -> Result<Object<A>, Failure>
         ensures found { IfOk result (λ o. IsObject id o.kind o.content.items) }
         ensures failed { IfErr result (IsFailure id) }
     {
-        match self.read_once(alloc, id) {
-            Ok(object) => Ok(object),
-            Err(failure) if failure.is_out_of_memory() => Err(failure),
-            Err(_) => {
-                self.list_packs(alloc)?;
-                self.read_once(alloc, id)
+        for listings in 0..MOST_LISTINGS {
+            match self.read_once(alloc, id) {
+                Ok(object) => return Ok(object),
+                Err(failure) => {
+                    if failure.is_out_of_memory() || self.is_settled(alloc, failure, listings)? {
+                        return Err(failure);
+                    }
+                }
             }
         }
+        Err(Failure::InFile(UNSETTLED))
     }
+
+    /// Lists the packs once more. Returns whether a failure stands, after so many listings before.
+    ///
+    /// It does not if other packs are there now. A copy that failed is tried a second time, since its
+    /// file may be another one of the same name.
+    pub(super) fn is_settled(
+        &mut self,
+        alloc: A,
+        failure: Failure,
+        listings: u32,
+    ) -> Result<bool, Fault> {
+        let has_changed = self.list_packs(alloc)?;
+        Ok(!has_changed && (listings > 0 || failure.is_missing()))
+    }
+
     /// Returns the error for the object with this id. A missing one may be in a folder that could not
     /// be read.
     pub(super) fn refusal(&self, failure: Failure, id: ObjectId) -> Error

@@ -4,6 +4,7 @@ use crate::completions::Completions;
 use crate::failure::{Failure, Fault};
 use crate::loose;
 use crate::store::Store;
+use crate::store::copies::{MOST_LISTINGS, UNSETTLED};
 use gix_base::hash::ObjectId;
 use gix_files::Folders;
 use std::alloc::{AllocError, Allocator};
@@ -60,16 +61,20 @@ impl<F: Folders + Drop, A: Allocator + Copy> Store<F, A> {
         Err(failure)
     }
 
-    /// Succeeds if there is a copy of the object. Lists the packs once more if none was found.
-    pub(super) fn has_twice(&mut self, alloc: A, id: ObjectId) -> Result<(), Failure> {
-        match self.has_once(alloc, id) {
-            Ok(()) => Ok(()),
-            Err(failure) if failure.is_out_of_memory() => Err(failure),
-            Err(_) => {
-                self.list_packs(alloc)?;
-                self.has_once(alloc, id)
+    /// Succeeds if there is a copy of the object. If none was found, lists the packs again and looks
+    /// again, until the same packs are listed twice.
+    pub(super) fn has_settled(&mut self, alloc: A, id: ObjectId) -> Result<(), Failure> {
+        for listings in 0..MOST_LISTINGS {
+            match self.has_once(alloc, id) {
+                Ok(()) => return Ok(()),
+                Err(failure) => {
+                    if failure.is_out_of_memory() || self.is_settled(alloc, failure, listings)? {
+                        return Err(failure);
+                    }
+                }
             }
         }
+        Err(Failure::InFile(UNSETTLED))
     }
 
     /// Adds the ids in the pack at a place among the packs to those that were found.
@@ -120,18 +125,21 @@ impl<F: Folders + Drop, A: Allocator + Copy> Store<F, A> {
 
     /// Adds the ids in all packs and folders to those that were found.
     ///
-    /// Lists the packs once more if none was found. Fails if a pack or a folder was not read, unless
-    /// as many ids were found as are wanted.
+    /// If none was found, or a pack was not read, lists the packs again and looks again, until the same
+    /// packs are listed twice. Fails if a pack or a folder was not read, unless as many ids were found
+    /// as are wanted.
     pub(super) fn complete(&mut self, alloc: A, found: &mut Completions<A>) -> Result<(), Fault> {
-        let mut failure = self.complete_once(alloc, found)?;
-        if found.len() == 0 {
-            self.list_packs(alloc)?;
-            failure = self.complete_once(alloc, found)?;
+        for listings in 0..MOST_LISTINGS {
+            let failure = self.complete_once(alloc, found)?;
+            let is_enough = found.is_full() || (found.len() > 0 && failure.is_missing());
+            if is_enough || self.is_settled(alloc, failure, listings)? {
+                return match self.unfound(failure) {
+                    Some(fault) if !found.is_full() => Err(fault),
+                    _ => Ok(()),
+                };
+            }
         }
-        match self.unfound(failure) {
-            Some(fault) if !found.is_full() => Err(fault),
-            _ => Ok(()),
-        }
+        Err(UNSETTLED)
     }
 
     /// Returns the fault for which an id may not have been found.
