@@ -148,7 +148,7 @@ static CHOICES: [Choice<Key>; 14] = [
 ];
 
 /// Adds the options to a text, each on a line.
-pub(crate) fn add_options(text: &mut Vec<u8>) -> Result<(), AllocError> {
+pub fn add_options(text: &mut Vec<u8>) -> Result<(), AllocError> {
     for choice in CHOICES.iter() {
         if !matches!(choice.key, Key::Contains | Key::Debug | Key::Broken) {
             add_choice(text, choice, choice.has_no)?;

@@ -15,6 +15,7 @@ mod walk;
 mod work_tree;
 
 use crate::ask::{is_any_reached, is_own, nearest, question};
+pub use crate::asked::add_options;
 use crate::asked::{Abbrev, Asked};
 use crate::dirty::is_dirty;
 use crate::patterns::refuse_odd;
@@ -28,12 +29,7 @@ use gix_questions::Describe;
 use gix_repository::Refusal;
 use gix_revision::hash::ObjectId;
 use gix_revision::object::Kind;
-use std::alloc::{AllocError, Global};
-
-/// Adds the options of `describe` to a text, each on a line.
-pub fn add_options(text: &mut Vec<u8>) -> Result<(), AllocError> {
-    asked::add_options(text)
-}
+use std::alloc::Global;
 
 /// Describes commits, one after another.
 #[derive(Drop)]

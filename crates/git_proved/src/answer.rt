@@ -1,10 +1,10 @@
 //! Answers one question.
 
-use crate::merge_base::merge_base;
-use crate::rev_parse::rev_parse;
 use git_describe::describe;
 use git_for_each_ref::for_each_ref;
+use git_merge_base::merge_base;
 use git_rev_list::rev_list;
+use git_rev_parse::rev_parse;
 use git_session::session::Session;
 use git_session::stop::{Cause, FATAL, Stop, not_supported};
 use gix_repository::Refusal;

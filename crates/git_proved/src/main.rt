@@ -5,9 +5,9 @@
 //!
 //! Merge bases, ancestry, depths, and which commits a whole list has are answers of proved
 //! questions (`gix_questions`) about the repository (`gix_repository`). The forms of options are
-//! those of `parse_options`. All else is made here and in the crates `git_describe`, `git_rev_list`,
-//! `git_for_each_ref` and `git_session`, and tested against git: what options mean, the order of
-//! lists, first parents, filters, what is printed, and the status.
+//! those of `parse_options`. All else is made here, in `git_session`, and in the crate of each
+//! command, and tested against git: what options mean, the order of lists, first parents, filters,
+//! what is printed, and the status.
 //!
 //! - `command_line` reads the command line, and `front` the options before the word, which say
 //!   where the repository is.
@@ -23,10 +23,8 @@ mod batch;
 mod command_line;
 mod front;
 mod help;
-mod merge_base;
 mod program;
 mod quoted;
-mod rev_parse;
 mod usage;
 
 use crate::command_line::answered;

@@ -1,6 +1,5 @@
 //! Makes what `git proved COMMAND -h` prints: the options of the command, as its own table has them.
 
-use crate::{merge_base, rev_parse};
 use std::alloc::{AllocError, Global};
 
 /// A command, and the arguments that it takes.
@@ -28,11 +27,11 @@ pub(crate) fn command_of(word: &[u8]) -> Option<Command> {
 /// Adds the options of a command.
 fn add_options(name: &str, text: &mut Vec<u8>) -> Result<(), AllocError> {
     if name == "merge-base" {
-        merge_base::add_options(text)
+        git_merge_base::add_options(text)
     } else if name == "describe" {
         git_describe::add_options(text)
     } else if name == "rev-parse" {
-        rev_parse::add_options(text)
+        git_rev_parse::add_options(text)
     } else if name == "rev-list" {
         git_rev_list::add_options(text)
     } else {

@@ -109,8 +109,8 @@ static OPTIONS: [Exact<Key>; 15] = [
     Exact("--abbrev-ref", Takes::Joined, Key::AbbrevRef),
 ];
 
-/// Adds the options to a text, each on a line.
-pub(crate) fn add_options(text: &mut Vec<u8>) -> Result<(), AllocError> {
+/// Adds the options of `rev-parse` to a text, each on a line.
+pub fn add_options(text: &mut Vec<u8>) -> Result<(), AllocError> {
     for option in OPTIONS.iter() {
         add_exact(text, option)?;
     }

@@ -1,11 +1,12 @@
 //! Answers `rev-parse` (git-rev-parse).
+#![tactic(auto)]
 
 mod asked;
 mod show;
 
-pub(crate) use crate::rev_parse::asked::add_options;
-use crate::rev_parse::asked::{Asked, Place};
-use crate::rev_parse::show::{show_default, show_text, show_tip};
+pub use crate::asked::add_options;
+use crate::asked::{Asked, Place};
+use crate::show::{show_default, show_text, show_tip};
 use git_session::forms::{asks_sibling, is_counted};
 use git_session::paths::{Turn, verify_file};
 use git_session::ranges::{Tip, several_tips, single_tip};
@@ -160,7 +161,7 @@ fn finish(session: &mut Session<'_>, asked: &mut Asked<'_>) -> Result<u8, Stop> 
 }
 
 /// Answers `rev-parse`, and returns the status.
-pub(crate) fn rev_parse(session: &mut Session<'_>, words: &[&[u8]]) -> Result<u8, Stop> {
+pub fn rev_parse(session: &mut Session<'_>, words: &[&[u8]]) -> Result<u8, Stop> {
     let mut asked = Asked::new(words);
     for _ in 0..usize::MAX {
         let Some(word) = asked.take() else {

@@ -1,6 +1,6 @@
 //! Prints revisions and other words.
 
-use crate::rev_parse::asked::{Asked, Digits, Symbolic};
+use crate::asked::{Asked, Digits, Symbolic};
 use git_session::ranges::{Name, Tip, revision};
 use git_session::session::Session;
 use git_session::stop::{Stop, not_supported};

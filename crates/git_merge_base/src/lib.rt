@@ -1,4 +1,5 @@
 //! Answers `merge-base` (git-merge-base).
+#![tactic(auto)]
 
 use git_session::bases::{bases_in_order, merge_bases, octopus_in_order};
 use git_session::forms::asks_entry;
@@ -71,7 +72,7 @@ static CHOICES: [Choice<Key>; 5] = [
 ];
 
 /// Adds the options to a text, each on a line.
-pub(crate) fn add_options(text: &mut Vec<u8>) -> Result<(), AllocError> {
+pub fn add_options(text: &mut Vec<u8>) -> Result<(), AllocError> {
     for choice in CHOICES.iter() {
         add_choice(text, choice, choice.has_no)?;
     }
@@ -274,7 +275,7 @@ fn fork_point(session: &mut Session<'_>, asked: &Asked<'_>) -> Result<u8, Stop> 
 }
 
 /// Answers `merge-base`, and returns the status.
-pub(crate) fn merge_base(session: &mut Session<'_>, words: &[&[u8]]) -> Result<u8, Stop> {
+pub fn merge_base(session: &mut Session<'_>, words: &[&[u8]]) -> Result<u8, Stop> {
     let asked = Asked::read(session.alloc, words)?;
     match asked.mode {
         Mode::Bases => bases(session, &asked),
