@@ -1,5 +1,5 @@
 -- A history that comes before another one.
-use Rattle.std.proofs.Common.{◌≡◌, suc, List, [], ◌∷◌, ◌++◌, Option, Some, is_some, inl, inr, IsTrue, refl, sym, ap, ◌∙◌, subst, arith}
+use Rattle.std.proofs.Common.{◌≡◌, suc, List, [], ◌∷◌, ◌++◌, Option, Some, is_some, inl, inr, IsTrue, sym, ap, ◌∙◌, subst, arith}
 use Rattle.std.specs.List.{All}
 use Rattle.gix_base.specs.declared.hash.ObjectId.{ObjectId}
 use Rattle.gix_revwalk.specs.History.{History, Entry, Has, IsEdge, IsAncestor, IsAncestorOfOne, entry_at, generation_in, is_one_of, parents_in}
@@ -20,8 +20,8 @@ of-member : (P : ObjectId → Type 0) (xs : List ObjectId) (q : ObjectId) → Al
 of-member P [] q all is = cc
 of-member P (x ∷ xs) q all is =
     elim (one_of-cons_cases x xs q is) as (λ _. P q) [
-      | inl e ↦ subst P (sym e) (all 0 x refl)
-      | inr member ↦ of-member P xs q (λ i y at. all (suc i) y at) member
+      | inl e ↦ subst P (sym e) (all 0 x (omega arith))
+      | inr member ↦ of-member P xs q (λ i d within. all (suc i) d (omega arith)) member
     ]
 
 ends : (h : History) (a c : ObjectId) → IsAncestor h a c → Has h c
