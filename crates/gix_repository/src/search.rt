@@ -50,8 +50,10 @@ impl<F: Folders + Drop, A: Allocator + Copy> Repository<F, A> {
                 tips.push(commit)?;
             }
         }
-        if let Some(reference) = self.references.follow(b"HEAD")? {
-            tips.push(reference.id)?;
+        if let Some(head) = self.references.follow(b"HEAD")? {
+            if let Some(commit) = self.commit_of_reference(head.id)? {
+                tips.push(commit)?;
+            }
         }
         tips.reverse();
         Ok(tips)
