@@ -166,12 +166,13 @@ impl<F: Folders + Drop, A: Allocator + Copy> Repository<F, A> {
         }
     }
 
-    /// Returns why a commit was not read: what the object database says of it, unless the commit is
-    /// missing.
+    /// Returns why a commit was not read: what the object database says of it, if it is there.
     fn cause_of(&self, error: ReadError) -> Refusal {
         match (error, self.history.reader.error) {
-            (ReadError::Altered(_) | ReadError::Malformed(_) | ReadError::Failed(_), Some(cause))
-                if !matches!(cause, gix_odb::Error::Missing(_)) => Refusal::Object(cause),
+            (ReadError::Failed(id), None | Some(gix_odb::Error::Missing(_))) if self.is_changed() =>
+                Refusal::Replaced(id),
+            (ReadError::Altered(_) | ReadError::Malformed(_) | ReadError::Failed(_), Some(cause)) =>
+                Refusal::Object(cause),
             (error, _) => Refusal::from(error),
         }
     }
