@@ -655,6 +655,14 @@ def changed(room: Room, base: Repository) -> list[Command]:
     commands = common(grafted, *WHOLE) + common(replaced, *WHOLE)
     commands += common(replaced, environment={b"GIT_NO_REPLACE_OBJECTS": b"1"})
     commands += common(replaced, before=(b"--no-replace-objects",))[:4]
+    circle = room.copy(base, "replaced in a circle")
+    circle.git("update-ref", f"refs/replace/{head}", base.ids[3])
+    circle.git("update-ref", f"refs/replace/{base.ids[3]}", head)
+    # git meets other objects of the circle first than `git proved` in lists and walks.
+    commands += rows(circle, "rev-parse HEAD", "rev-parse HEAD^0", "rev-parse -q --verify HEAD^0",
+                     "rev-parse HEAD~1", "rev-parse HEAD^{tree}", "rev-parse HEAD..HEAD~1",
+                     "rev-list -1 HEAD", "rev-list HEAD", "merge-base HEAD HEAD~1", "describe",
+                     "rev-parse :/nosuch", "rev-parse --short HEAD", is_strict=True)
     other = room.copy(replaced, "replaced otherwise")
     other.git("config", "core.useReplaceRefs", "false")
     return commands + common(other)

@@ -29,11 +29,22 @@ fn not_read(id: ObjectId, by: ObjectId, error: gix_odb::Error) -> Refusal {
 
 impl<F: Folders + Drop, A: Allocator + Copy> Repository<F, A> {
     /// Returns the object that stands for `id`.
-    fn stand_in(&self, id: ObjectId) -> Result<ObjectId, Refusal> {
-        match self.history.reader.changes.stand_in(id) {
-            Some(by) => Ok(by),
-            None => Err(Refusal::NotSupported),
+    ///
+    /// # Errors
+    ///
+    /// `Fatal`, with git's message, if it is replaced too many times in turn.
+    fn stand_in(&mut self, id: ObjectId) -> Result<ObjectId, Refusal> {
+        if let Some(by) = self.history.reader.changes.stand_in(id) {
+            return Ok(by);
         }
+        let mut digits = [0u8; 40];
+        let written = id.write_hex(40, &mut digits);
+        self.say_even_quietly(
+            b"fatal: replace depth too high for object ",
+            &digits[..written],
+            b"",
+        )?;
+        Err(Refusal::Fatal)
     }
 
     /// Returns whether another object stands for `id` (git-replace).
@@ -49,7 +60,8 @@ impl<F: Folders + Drop, A: Allocator + Copy> Repository<F, A> {
     /// # Errors
     ///
     /// - `Object` if the object was not read.
-    /// - `NotSupported` if it is replaced by an object that is missing, or too many times in turn.
+    /// - `NotSupported` if it is replaced by an object that is missing.
+    /// - `Fatal` if it is replaced too many times in turn. The message is among the messages.
     /// - `OutOfMemory` if an allocation failed.
     pub fn kind(&mut self, id: ObjectId) -> Result<Kind, Refusal> {
         // A commit that was read is one.
@@ -104,7 +116,7 @@ impl<F: Folders + Drop, A: Allocator + Copy> Repository<F, A> {
     /// # Errors
     ///
     /// - `Object` if the tag was not read, or if the object is no tag.
-    /// - `NotSupported` as for [`Repository::kind`].
+    /// - `NotSupported` and `Fatal` as for [`Repository::kind`].
     /// - `OutOfMemory` if an allocation failed.
     pub fn tag(&mut self, id: ObjectId) -> Result<Tag<A>, Refusal> {
         let alloc = self.alloc;
@@ -120,7 +132,7 @@ impl<F: Folders + Drop, A: Allocator + Copy> Repository<F, A> {
     /// # Errors
     ///
     /// - `Object` if the object was not read.
-    /// - `NotSupported` as for [`Repository::kind`].
+    /// - `NotSupported` and `Fatal` as for [`Repository::kind`].
     /// - `OutOfMemory` if an allocation failed.
     pub fn read_object(&mut self, id: ObjectId) -> Result<Object<A>, Refusal> {
         let alloc = self.alloc;

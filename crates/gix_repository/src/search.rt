@@ -49,7 +49,7 @@ impl<F: Folders + Drop, A: Allocator + Copy> Repository<F, A> {
             // git passes over what leads to no commit.
             match self.commit(listed.id) {
                 Ok(Some(commit)) => tips.push(commit)?,
-                Err(Refusal::OutOfMemory) => return Err(Refusal::OutOfMemory),
+                Err(refusal @ (Refusal::Fatal | Refusal::OutOfMemory)) => return Err(refusal),
                 _ => {}
             }
         }
