@@ -1051,6 +1051,12 @@ def deceived(room: Room) -> list[Command]:
     for id in map(lambda text: written("commit", text), commits):
         for mark in ("^{tree}", "^{commit}", "^{}", "^0", "^{object}"):
             commands += each(made, "rev-parse --verify -q", id + mark)
+    # The line of the tree may name any object.
+    for other in (head, made.git("hash-object", "-w", "--stdin", data=b"file\n"), "12" * 20):
+        id = written("commit", f"tree {other}\nauthor {who}\ncommitter {who}\n\nx\n")
+        commands += each(made, "rev-parse --verify -q", id, id + "^0", id + "^{tree}", id + "^{commit}",
+                         id + "^{tree}^{}", id + "^{tree}^{blob}", id + "^{tree}~1", is_strict=True)
+        commands += each(made, "rev-list", id, id + "^{tree}", is_strict=True)
     for id in (written("tag", ""), written("tag", f"object {head}\n")):
         commands += each(made, "rev-parse --verify -q", id + "^{tag}", id + "^{}")
     plain = one_line(room, "deceived plain", 4)

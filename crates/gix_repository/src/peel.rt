@@ -147,14 +147,21 @@ impl<F: Folders + Drop, A: Allocator + Copy> Repository<F, A> {
     ///
     /// # Errors
     ///
-    /// - `Object` if the commit was not read.
-    /// - `Unknown` if it does not begin with the line of a tree.
+    /// - `Object` if the commit or the tree was not read.
+    /// - `Unknown` if the commit does not begin with the line of a tree, or if the object that the
+    ///   line names is no tree. In the latter case git's message says so.
     /// - `OutOfMemory` if an allocation failed.
     pub fn tree(&mut self, commit: ObjectId) -> Result<ObjectId, Refusal> {
         let object = self.read_object(commit)?;
-        match tree_line(&object.content) {
-            Some(id) => Ok(id),
-            None => Err(Refusal::Unknown),
+        let Some(tree) = tree_line(&object.content) else {
+            return Err(Refusal::Unknown);
+        };
+        match self.kind(tree)? {
+            Kind::Tree => Ok(tree),
+            kind => {
+                self.say_no_tree(tree, kind)?;
+                Err(Refusal::Unknown)
+            }
         }
     }
 
