@@ -280,6 +280,18 @@ def texts(odd: Repository) -> list[Command]:
                      "rev-parse --abbrev-ref HEAD ^light",
                      "rev-parse --symbolic-full-name HEAD^0", "rev-parse --abbrev-ref link",
                      "rev-parse --abbrev-ref=x HEAD")
+    # To rev-list, a mark is the one at the end of a word, whatever other marks the word has.
+    for word in ("^@~1^-", "^@^-", "^@^-2", "^@^!", "^@^@", "^HEAD^-", "^^@^-", "^@^-0", "@^@^-",
+                 "^@..^-"):
+        commands += rows(odd, f"rev-list --count {word} HEAD", f"rev-list {word}",
+                         f"rev-list --not {word} --not HEAD", f"rev-parse {word}", is_strict=True)
+    # Such a step names nothing, and git does not look up what is before it.
+    for word in ("nosuch@{u}~4294967296", "^nosuch@{u}~4294967296", "nosuch@{u}^2147483648",
+                 "nosuch@{u}~2147483648~1", "nosuch@{u}~1~2147483648", "nosuch@{u}~2147483647",
+                 "HEAD@{99}~2147483648", "nosuch@{u}~00000000001"):
+        commands += rows(odd, f"rev-parse --flags {word}", f"rev-parse {word}",
+                         f"rev-parse --verify -q {word}", f"rev-list {word}",
+                         f"merge-base HEAD {word}", is_strict=True)
     return commands
 
 
