@@ -242,7 +242,7 @@ fn is_nothing(session: &Session<'_>, text: &[u8]) -> Result<bool, Stop> {
     if text.starts_with(b":") {
         return Err(not_read(alloc, &[b"the path '", text, b"' is not supported"]));
     }
-    match form_of(before_path(text)) {
+    match form_of(text) {
         Form::Usual => Ok(false),
         Form::Nothing => {
             unless_date(alloc, text)?;
