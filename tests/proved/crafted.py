@@ -652,6 +652,13 @@ def unusual(room: Room) -> list[Command]:
                            "merge-base --octopus", "rev-list --all", "rev-list --branches -n 2")
     commands += rows(unborn, "describe --all --dirty", "rev-parse @", "rev-parse --abbrev-ref @",
                      "rev-list --count HEAD --")
+    # The current branch is then what the short name `HEAD` stands for.
+    for of in (base, unborn):
+        tagged = room.copy(of, os.path.basename(of.path).decode() + " with a tag HEAD")
+        tagged.git("update-ref", "refs/tags/HEAD", base.ids[3])
+        for word in ("@{0}", "@{1}", "@{now}", "HEAD@{0}", "@{u}", "@{0}~1"):
+            commands += rows(tagged, f"rev-parse {word}", f"rev-parse -q --verify {word}",
+                             f"rev-list --count {word}", is_strict=True)
     return commands + changed(room, base) + separate(room, base)
 
 
