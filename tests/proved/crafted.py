@@ -760,7 +760,12 @@ def variables(room: Room, base: Repository) -> list[Command]:
         commands += common(place, environment=environment)[::3]
         commands += rows(place, "rev-parse only-other", "rev-list --all --count",
                          environment=environment)
-    return commands
+    for path in (b"..", b"a", b"a/b", b"a//b", b"/a", b"a/", b"/", b"", b"a b", b"x.lock", b"x.lock/a",
+                 b"@", b"a@{", b"*", b".a", b"a./b", b"a/b.", b"caf\xe9"):
+        commands += rows(other, "rev-parse HEAD", "for-each-ref --format=%(refname)",
+                         environment={b"GIT_NAMESPACE": path}, is_strict=True)
+    return commands + rows(Repository(room.folder), "rev-parse HEAD",
+                           environment={b"GIT_NAMESPACE": b".."}, is_strict=True)
 
 
 def gitfiles(room: Room, base: Repository) -> list[Command]:

@@ -91,6 +91,7 @@ fn undiscovered(alloc: Global, error: &DiscoverError) -> Stop {
                 b"'",
             ],
         ),
+        Reason::BadNamespace => fatal(alloc, &[b"bad git namespace path \"", subject, b"\""]),
         _ => refused(alloc, error),
     }
 }

@@ -8,6 +8,7 @@ use crate::layout::Layout;
 use crate::owner::{check_bare, check_named, is_own};
 use crate::paths::{absolute, folder_of, is_absolute, resolved, within};
 use crate::places::{PathKind, Places};
+use crate::refspec::is_namespace;
 use crate::source::{is_folder, is_known, place, reason_of};
 use memchr::memrchr;
 use std::alloc::Allocator;
@@ -399,6 +400,16 @@ impl<'a, F: Places, A: Allocator + Copy> Search<'a, F, A> {
         }
     }
 
+    /// Fails if `GIT_NAMESPACE` is no namespace (gitnamespaces).
+    fn check_namespace(&self) -> Result<(), DiscoverError<A>> {
+        match self.environment.get(Variable::Namespace) {
+            Some(path) if !is_namespace(path) => {
+                Err(about(self.alloc, Reason::BadNamespace, path))
+            }
+            _ => Ok(()),
+        }
+    }
+
     /// Returns the layout of the repository that was found.
     fn layout(&self, found: &Found<A>) -> Result<Layout<A>, DiscoverError<A>> {
         let Common { path, is_named } = common_dir(
@@ -414,6 +425,11 @@ impl<'a, F: Places, A: Allocator + Copy> Search<'a, F, A> {
             Some(top) => self.prefix(found, top)?,
             None => None,
         };
+        let is_in_git_dir = match &prefix {
+            Some(prefix) => self.is_in_git_dir(found, &format, prefix)?,
+            None => false,
+        };
+        self.check_namespace()?;
         let top = inside(&work_tree, prefix.is_some());
         Ok(Layout {
             git_dir: found.git_dir.as_slice().to_vec(self.alloc)?,
@@ -442,6 +458,7 @@ impl<'a, F: Places, A: Allocator + Copy> Search<'a, F, A> {
 ///   `EmptyCommonDir` if `GIT_DIR` or a file does not lead to one.
 /// - `OtherCommonDir` if `GIT_COMMON_DIR` names another folder than the repository.
 /// - `NoWorkTree` if `GIT_WORK_TREE` or `core.worktree` does not lead to a work tree.
+/// - `BadNamespace` if `GIT_NAMESPACE` is no namespace.
 /// - `DubiousOwnership` if it belongs to another user.
 /// - `BareRepositoryRefused` or `BadBareRepository`, by `safe.bareRepository`.
 /// - `FormatVersion`, `UnknownExtension`, `ExtensionNeedsVersion1`, `ObjectFormat` or `RefStorage` if
