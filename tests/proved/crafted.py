@@ -712,6 +712,7 @@ def separate(room: Room, base: Repository) -> list[Command]:
         ((b"--no-pager",), {}), ((b"--bare",), {}), ((b"--nosuch",), {}), ((b"-p",), {}),
     ):
         commands += common(base, before=before, **more)[:12:2]
+    commands += inside(base)
     # Objects of another repository, and a repository whose folder is elsewhere.
     borrowed = room.clone(base, "borrowed", "--shared")
     moved = room.clone(base, "moved", b"--separate-git-dir=" + room.path("moved git"))
@@ -731,6 +732,21 @@ def separate(room: Room, base: Repository) -> list[Command]:
                          "describe --match v* --always", "merge-base HEAD HEAD~1",
                          "rev-list -n 2 HEAD", "rev-parse --abbrev-ref HEAD")
     return commands + variables(room, base) + gitfiles(room, base)
+
+
+def inside(base: Repository) -> list[Command]:
+    """A current folder inside of the git folder, where the files HEAD and refs are."""
+    commands = []
+    git_folder = base.path + b"/.git"
+    for folder in (git_folder, git_folder + b"/refs", git_folder + b"/refs/heads"):
+        for before in ((), (b"--git-dir=" + git_folder,), (b"--git-dir=" + git_folder + b"/",),
+                       (b"--git-dir=" + os.path.relpath(git_folder, folder),),
+                       (b"--git-dir=" + git_folder + b"/.",)):
+            for work_tree in (None, b".", b"..", base.path, git_folder):
+                more = {} if work_tree is None else {b"GIT_WORK_TREE": work_tree}
+                commands += rows(base, "rev-list -1 HEAD", "rev-list -1 main", before=before,
+                                 folder=folder, environment=more, is_strict=True)
+    return commands
 
 
 def variables(room: Room, base: Repository) -> list[Command]:
