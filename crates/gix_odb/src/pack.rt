@@ -63,7 +63,8 @@ impl<F: Folders, A: Allocator + Copy> Pack<F, A> {
         }
     }
 
-    /// Opens the pack itself, unless it is open. Returns whether it is there.
+    /// Opens the pack itself, unless it is open. Returns whether it is there. Fails if it is not that
+    /// of the index.
     fn open_body(
         &mut self,
         alloc: A,
@@ -81,6 +82,9 @@ impl<F: Folders, A: Allocator + Copy> Pack<F, A> {
         let path = joined(alloc, folder, b"/pack/", &self.name, b".pack")?;
         match open(files, &path, name)? {
             Some(source) => {
+                if let Some(index) = &self.index {
+                    index.check_pack(&source)?;
+                }
                 self.body = Some(Body::new(alloc, source, chains.next_number()));
                 Ok(true)
             }
