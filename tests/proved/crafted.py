@@ -858,6 +858,14 @@ def late(room: Room) -> list[Command]:
             commands += rows(place, "rev-list a..b", "rev-list --count a..b", "rev-list b..a",
                              "rev-list a", "merge-base a b", "describe --tags a",
                              "merge-base --is-ancestor b a", "rev-list --left-right --count a...b")
+        # By corrected dates git may list a parent before its child.
+        old = room.copy(made, f"late {power} with an old file")
+        old.git("-c", "commitGraph.generationVersion=1", "commit-graph", "write", "--reachable")
+        new = filed(room, made, f"late {power} with a new file")
+        new.twin = old.path
+        for place in (made, old, new):
+            commands += rows(place, "rev-list --date-order a b", "rev-list --topo-order b a",
+                             "rev-list --reverse --date-order b a", is_strict=True)
     return commands
 
 
