@@ -4,6 +4,7 @@ use crate::answer::ended;
 use crate::front::{Asked, Front};
 use crate::help::{HELP, VERSION};
 use crate::program::{Streams, print_text, run};
+use crate::streams::fill_streams;
 use git_session::stop::{NOT_READ, Stop, fatal, not_read};
 use gix_discover::{Environment, Variable};
 use gix_files::System;
@@ -218,6 +219,10 @@ fn end(rt: &HostRuntime, stop: &Stop) -> u8 {
 
 /// Answers the command line of the process, and returns the status.
 pub(crate) fn answered(rt: &HostRuntime) -> u8 {
+    if fill_streams(rt).is_err() {
+        let stop = not_read(rt.alloc(), &[b"/dev/null cannot be opened"]);
+        return end(rt, &stop);
+    }
     match read_words(rt) {
         Ok(words) => match answer(rt, &words) {
             Ok(status) => status,

@@ -12,6 +12,7 @@
 //! - `command_line` reads the command line, and `front` the options before the word, which say
 //!   where the repository is.
 //! - `program` opens the repository, answers, and returns the status.
+//! - `streams` opens `/dev/null` in the place of closed standard streams.
 //!
 //! The status is git's: 0, 1 or 128. What is not read here, and what fails here, ends with the
 //! status 129 and prints nothing on standard output, so that a script can ask git then.
@@ -26,6 +27,7 @@ mod merge_base;
 mod program;
 mod quoted;
 mod rev_parse;
+mod streams;
 
 use crate::command_line::answered;
 use std::process::ExitCode;
