@@ -280,6 +280,18 @@ def texts(odd: Repository) -> list[Command]:
                      "rev-parse --abbrev-ref HEAD ^light",
                      "rev-parse --symbolic-full-name HEAD^0", "rev-parse --abbrev-ref link",
                      "rev-parse --abbrev-ref=x HEAD")
+    # To rev-list, a mark is the one at the end of a word, whatever other marks the word has.
+    for word in ("^@~1^-", "^@^-", "^@^-2", "^@^!", "^@^@", "^HEAD^-", "^^@^-", "^@^-0", "@^@^-",
+                 "^@..^-"):
+        commands += rows(odd, f"rev-list --count {word} HEAD", f"rev-list {word}",
+                         f"rev-list --not {word} --not HEAD", f"rev-parse {word}", is_strict=True)
+    # Such a step names nothing, and git does not look up what is before it.
+    for word in ("nosuch@{u}~4294967296", "^nosuch@{u}~4294967296", "nosuch@{u}^2147483648",
+                 "nosuch@{u}~2147483648~1", "nosuch@{u}~1~2147483648", "nosuch@{u}~2147483647",
+                 "HEAD@{99}~2147483648", "nosuch@{u}~00000000001"):
+        commands += rows(odd, f"rev-parse --flags {word}", f"rev-parse {word}",
+                         f"rev-parse --verify -q {word}", f"rev-list {word}",
+                         f"merge-base HEAD {word}", is_strict=True)
     return commands
 
 
@@ -640,6 +652,13 @@ def unusual(room: Room) -> list[Command]:
                            "merge-base --octopus", "rev-list --all", "rev-list --branches -n 2")
     commands += rows(unborn, "describe --all --dirty", "rev-parse @", "rev-parse --abbrev-ref @",
                      "rev-list --count HEAD --")
+    # The current branch is then what the short name `HEAD` stands for.
+    for of in (base, unborn):
+        tagged = room.copy(of, os.path.basename(of.path).decode() + " with a tag HEAD")
+        tagged.git("update-ref", "refs/tags/HEAD", base.ids[3])
+        for word in ("@{0}", "@{1}", "@{now}", "HEAD@{0}", "@{u}", "@{0}~1"):
+            commands += rows(tagged, f"rev-parse {word}", f"rev-parse -q --verify {word}",
+                             f"rev-list --count {word}", is_strict=True)
     return commands + changed(room, base) + separate(room, base)
 
 
@@ -655,6 +674,14 @@ def changed(room: Room, base: Repository) -> list[Command]:
     commands = common(grafted, *WHOLE) + common(replaced, *WHOLE)
     commands += common(replaced, environment={b"GIT_NO_REPLACE_OBJECTS": b"1"})
     commands += common(replaced, before=(b"--no-replace-objects",))[:4]
+    circle = room.copy(base, "replaced in a circle")
+    circle.git("update-ref", f"refs/replace/{head}", base.ids[3])
+    circle.git("update-ref", f"refs/replace/{base.ids[3]}", head)
+    # git meets other objects of the circle first than `git proved` in lists and walks.
+    commands += rows(circle, "rev-parse HEAD", "rev-parse HEAD^0", "rev-parse -q --verify HEAD^0",
+                     "rev-parse HEAD~1", "rev-parse HEAD^{tree}", "rev-parse HEAD..HEAD~1",
+                     "rev-list -1 HEAD", "rev-list HEAD", "merge-base HEAD HEAD~1", "describe",
+                     "rev-parse :/nosuch", "rev-parse --short HEAD", is_strict=True)
     other = room.copy(replaced, "replaced otherwise")
     other.git("config", "core.useReplaceRefs", "false")
     return commands + common(other)
@@ -685,6 +712,7 @@ def separate(room: Room, base: Repository) -> list[Command]:
         ((b"--no-pager",), {}), ((b"--bare",), {}), ((b"--nosuch",), {}), ((b"-p",), {}),
     ):
         commands += common(base, before=before, **more)[:12:2]
+    commands += inside(base)
     # Objects of another repository, and a repository whose folder is elsewhere.
     borrowed = room.clone(base, "borrowed", "--shared")
     moved = room.clone(base, "moved", b"--separate-git-dir=" + room.path("moved git"))
@@ -704,6 +732,21 @@ def separate(room: Room, base: Repository) -> list[Command]:
                          "describe --match v* --always", "merge-base HEAD HEAD~1",
                          "rev-list -n 2 HEAD", "rev-parse --abbrev-ref HEAD")
     return commands + variables(room, base) + gitfiles(room, base)
+
+
+def inside(base: Repository) -> list[Command]:
+    """A current folder inside of the git folder, where the files HEAD and refs are."""
+    commands = []
+    git_folder = base.path + b"/.git"
+    for folder in (git_folder, git_folder + b"/refs", git_folder + b"/refs/heads"):
+        for before in ((), (b"--git-dir=" + git_folder,), (b"--git-dir=" + git_folder + b"/",),
+                       (b"--git-dir=" + os.path.relpath(git_folder, folder),),
+                       (b"--git-dir=" + git_folder + b"/.",)):
+            for work_tree in (None, b".", b"..", base.path, git_folder):
+                more = {} if work_tree is None else {b"GIT_WORK_TREE": work_tree}
+                commands += rows(base, "rev-list -1 HEAD", "rev-list -1 main", before=before,
+                                 folder=folder, environment=more, is_strict=True)
+    return commands
 
 
 def variables(room: Room, base: Repository) -> list[Command]:
@@ -733,7 +776,12 @@ def variables(room: Room, base: Repository) -> list[Command]:
         commands += common(place, environment=environment)[::3]
         commands += rows(place, "rev-parse only-other", "rev-list --all --count",
                          environment=environment)
-    return commands
+    for path in (b"..", b"a", b"a/b", b"a//b", b"/a", b"a/", b"/", b"", b"a b", b"x.lock", b"x.lock/a",
+                 b"@", b"a@{", b"*", b".a", b"a./b", b"a/b.", b"caf\xe9"):
+        commands += rows(other, "rev-parse HEAD", "for-each-ref --format=%(refname)",
+                         environment={b"GIT_NAMESPACE": path}, is_strict=True)
+    return commands + rows(Repository(room.folder), "rev-parse HEAD",
+                           environment={b"GIT_NAMESPACE": b".."}, is_strict=True)
 
 
 def gitfiles(room: Room, base: Repository) -> list[Command]:
@@ -810,6 +858,14 @@ def late(room: Room) -> list[Command]:
             commands += rows(place, "rev-list a..b", "rev-list --count a..b", "rev-list b..a",
                              "rev-list a", "merge-base a b", "describe --tags a",
                              "merge-base --is-ancestor b a", "rev-list --left-right --count a...b")
+        # By corrected dates git may list a parent before its child.
+        old = room.copy(made, f"late {power} with an old file")
+        old.git("-c", "commitGraph.generationVersion=1", "commit-graph", "write", "--reachable")
+        new = filed(room, made, f"late {power} with a new file")
+        new.twin = old.path
+        for place in (made, old, new):
+            commands += rows(place, "rev-list --date-order a b", "rev-list --topo-order b a",
+                             "rev-list --reverse --date-order b a", is_strict=True)
     return commands
 
 
@@ -1043,6 +1099,12 @@ def deceived(room: Room) -> list[Command]:
     for id in map(lambda text: written("commit", text), commits):
         for mark in ("^{tree}", "^{commit}", "^{}", "^0", "^{object}"):
             commands += each(made, "rev-parse --verify -q", id + mark)
+    # The line of the tree may name any object.
+    for other in (head, made.git("hash-object", "-w", "--stdin", data=b"file\n"), "12" * 20):
+        id = written("commit", f"tree {other}\nauthor {who}\ncommitter {who}\n\nx\n")
+        commands += each(made, "rev-parse --verify -q", id, id + "^0", id + "^{tree}", id + "^{commit}",
+                         id + "^{tree}^{}", id + "^{tree}^{blob}", id + "^{tree}~1", is_strict=True)
+        commands += each(made, "rev-list", id, id + "^{tree}", is_strict=True)
     for id in (written("tag", ""), written("tag", f"object {head}\n")):
         commands += each(made, "rev-parse --verify -q", id + "^{tag}", id + "^{}")
     plain = one_line(room, "deceived plain", 4)

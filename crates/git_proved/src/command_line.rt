@@ -4,6 +4,7 @@ use crate::answer::ended;
 use crate::front::{Asked, Front};
 use crate::help::{HELP, VERSION};
 use crate::program::{OUT_OF_MEMORY, Streams, run, write_answer};
+use crate::streams::fill_streams;
 use git_session::stop::{Cause, Stop, failed, fatal, no_question, not_supported, refused, unread};
 use gix_discover::{Environment, Variable};
 use gix_files::{FileError, System};
@@ -238,6 +239,10 @@ fn end(rt: &HostRuntime, stop: &Stop) -> u8 {
 
 /// Answers the command line of the process, and returns the status.
 pub(crate) fn answered(rt: &HostRuntime) -> u8 {
+    if fill_streams(rt).is_err() {
+        let stop = failed(rt.alloc(), &[b"/dev/null cannot be opened"]);
+        return end(rt, &stop);
+    }
     match read_words(rt) {
         Ok(words) => match answer(rt, &words) {
             Ok(status) => status,

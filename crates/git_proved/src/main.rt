@@ -12,6 +12,7 @@
 //! - `command_line` reads the command line, and `front` the options before the word, which say
 //!   where the repository is.
 //! - `program` opens the repository, answers, and returns the status.
+//! - `streams` opens `/dev/null` in the place of closed standard streams.
 //!
 //! The status is git's: 0, 1 or 128. What is not supported here ends with the status 129, so that a
 //! script can ask git then. Damage, and a failure of the program, end with 125. Both print nothing on
@@ -25,6 +26,7 @@ mod front;
 mod help;
 mod program;
 mod quoted;
+mod streams;
 mod usage;
 
 use crate::command_line::answered;

@@ -156,6 +156,7 @@ fn undiscovered(alloc: Global, error: &DiscoverError) -> Stop {
                 b"' (safe.bareRepository is 'explicit')",
             ],
         ),
+        Reason::BadNamespace => fatal(alloc, &[b"bad git namespace path \"", subject, b"\""]),
         _ => refused(alloc, error),
     }
 }

@@ -6,7 +6,8 @@ use git_session::stop::{Stop, not_supported};
 
 /// Ends if a revision is the name of a file, too.
 pub(crate) fn refuse_file(session: &Session<'_>, word: &[u8]) -> Result<(), Stop> {
-    if session.repository.layout().prefix.is_none() || word.starts_with(b"-") {
+    let layout = session.repository.layout();
+    if layout.prefix.is_none() || layout.is_in_git_dir || word.starts_with(b"-") {
         return Ok(());
     }
     if is_file(session, word)? {

@@ -4,7 +4,8 @@ use crate::files::{no_revision, refuse_file};
 use crate::starts::{Starts, bad_object, is_there};
 use git_session::bases::{bases_in_order, merge_bases};
 use git_session::ranges::{
-    Ends, Marked, commit_reference, committish, ends_of, revision, shorthand_of, shorthand_tips,
+    Ends, Marked, Shorthand, commit_reference, committish, ends_of, revision, shorthand_of,
+    shorthand_tips,
 };
 use git_session::session::Session;
 use git_session::stop::{Stop, fatal, not_supported};
@@ -112,20 +113,22 @@ fn leads_to_commit(session: &mut Session<'_>, text: &[u8]) -> Result<bool, Stop>
     }
 }
 
-/// Adds the commits of `A^@`, `A^!` and `A^-n`. Returns whether the word is one of these.
+/// Adds the commits of `A^@`, `A^!` and `A^-n`. Returns whether there are such commits.
 fn add_marked(
     session: &mut Session<'_>,
     flags: Flags,
-    word: &[u8],
+    shorthand: &Shorthand<'_>,
     starts: &mut Starts,
 ) -> Result<bool, Stop> {
-    let Some(shorthand) = shorthand_of(session.alloc, word)? else {
-        return Ok(false);
+    let (flags, text) = excluded(flags, shorthand.text);
+    let shorthand = Shorthand {
+        text,
+        marked: shorthand.marked,
     };
     if !leads_to_commit(session, shorthand.text)? {
         return Ok(false);
     }
-    let Some(tips) = shorthand_tips(session, word)? else {
+    let Some(tips) = shorthand_tips(session, &shorthand)? else {
         return Ok(false);
     };
     if !matches!(shorthand.marked, Marked::Parents) {
@@ -137,13 +140,18 @@ fn add_marked(
     Ok(true)
 }
 
-/// Returns whether a text has `^-` with a number behind it that git does not read: then it names
-/// nothing.
-fn has_bad_number(session: &Session<'_>, text: &[u8]) -> Result<bool, Stop> {
-    if !text.windows(2).any(|two| two == b"^-".as_slice()) {
-        return Ok(false);
+/// Returns a text without a `^` before it, and how the text is read.
+fn excluded(flags: Flags, text: &[u8]) -> (Flags, &[u8]) {
+    match text.strip_prefix(b"^") {
+        Some(text) => (
+            Flags {
+                is_turned: !flags.is_turned,
+                is_no_file: flags.is_no_file,
+            },
+            text,
+        ),
+        None => (flags, text),
     }
-    Ok(shorthand_of(session.alloc, text)?.is_none())
 }
 
 /// Adds the object that a text names. Returns whether it names one.
@@ -184,23 +192,15 @@ fn add_word(
     if add_range(session, flags, word, starts)? {
         return Ok(true);
     }
-    let (text, is_turned) = match word.strip_prefix(b"^") {
-        Some(text) => (text, !flags.is_turned),
-        None => (word, flags.is_turned),
-    };
-    let flags = Flags {
-        is_turned,
-        is_no_file: flags.is_no_file,
-    };
-    // As in git, the first mark of the whole word counts: `^@^@` has none at its end, and `^-x` has
-    // one.
-    let is_marked = shorthand_of(session.alloc, word)?.is_some();
-    if is_marked && add_marked(session, flags, text, starts)? {
-        return Ok(true);
-    }
-    if has_bad_number(session, word)? {
+    if let Some(shorthand) = shorthand_of(session.alloc, word)? {
+        if add_marked(session, flags, &shorthand, starts)? {
+            return Ok(true);
+        }
+    } else if word.windows(2).any(|two| two == b"^-".as_slice()) {
+        // What is behind `^-` is no number that git reads. Then the word names nothing.
         return Ok(false);
     }
+    let (flags, text) = excluded(flags, word);
     add_single(session, flags, text, starts)
 }
 

@@ -25,6 +25,8 @@ enum Left<'t> {
     Text(&'t [u8]),
     /// git may read the step in a way of its own.
     Odd,
+    /// git takes no step of this number, whatever is before it.
+    TooFar,
     /// There is no step.
     NoStep,
 }
@@ -79,19 +81,32 @@ fn is_step(inner: &[u8]) -> bool {
     inner.starts_with(b"/") || kinds.contains(&inner)
 }
 
-/// Returns a text without the `~n` or `^n` at its end; `None` if there is none.
-fn without_count(text: &[u8]) -> Option<&[u8]> {
+/// Returns a text without the `~n` or `^n` at its end, and the digits of the number; `None` if there
+/// is none.
+fn without_count(text: &[u8]) -> Option<(&[u8], &[u8])> {
     let at = text.iter().rposition(|b| !b.is_ascii_digit())?;
     match text.get(at) {
-        Some(b'~' | b'^') => text.get(..at),
+        Some(b'~' | b'^') => Some((text.get(..at)?, text.get(at.saturating_add(1)..)?)),
         _ => None,
     }
 }
 
+/// Returns whether a number in decimal digits fits 31 bits. No digits are a number that does.
+fn is_small(digits: &[u8]) -> bool {
+    let zeros = digits.iter().take_while(|b| **b == b'0').count();
+    let number = digits.get(zeros..).unwrap_or(&[]);
+    let most = b"2147483647".as_slice();
+    number.len() < most.len() || number.len() == most.len() && number <= most
+}
+
 /// Returns a text without the step at its end.
 fn without_step(text: &[u8]) -> Left<'_> {
-    if let Some(left) = without_count(text) {
-        return Left::Text(left);
+    if let Some((left, digits)) = without_count(text) {
+        return if is_small(digits) {
+            Left::Text(left)
+        } else {
+            Left::TooFar
+        };
     }
     match braced(text, b"^{") {
         Some((_, inner)) if inner.contains(&b'}') => Left::Odd,
@@ -159,24 +174,34 @@ fn name_form(name: &[u8]) -> Form<'_> {
     }
 }
 
-/// Returns the name before the steps of a text; `None` if git may read a step in a way of its own.
-fn name_of(text: &[u8]) -> Option<&[u8]> {
+/// Returns the name before the steps of a text, or the form of the text if a step decides it.
+fn name_of(text: &[u8]) -> Result<&[u8], Form<'_>> {
     let mut left = text;
+    let mut is_braced = false;
     for _ in 0..text.len() {
         match without_step(left) {
-            Left::Text(text) => left = text,
-            Left::Odd => return None,
+            Left::Text(text) => {
+                is_braced |= left.ends_with(b"}");
+                left = text;
+            }
+            // git looks a text up whole, too, whose step in braces leads nowhere.
+            Left::TooFar if is_braced && has_inner_mark(left) => return Err(Form::Odd),
+            Left::TooFar => return Err(Form::Nothing),
+            Left::Odd => return Err(Form::Odd),
             Left::NoStep => break,
         }
     }
-    Some(left)
+    Ok(left)
 }
 
-/// Returns the form of a text that is no range.
+/// Returns the form of a text that is no range, without the path behind it.
 pub fn form_of(text: &[u8]) -> Form<'_> {
-    match name_of(text) {
-        Some(name) => name_form(name),
-        None => Form::Odd,
+    let front = before_path(text);
+    match name_of(front) {
+        Ok(name) => name_form(name),
+        // git looks up a text with a path whole first.
+        Err(Form::Nothing) if front.len() < text.len() && has_inner_mark(front) => Form::Odd,
+        Err(form) => form,
     }
 }
 
@@ -197,7 +222,7 @@ pub fn is_counted(text: &[u8]) -> bool {
 
 /// Returns whether a text asks for the upstream or the push branch of a branch.
 pub fn asks_sibling(text: &[u8]) -> bool {
-    let Some(name) = name_of(text) else {
+    let Ok(name) = name_of(text) else {
         return false;
     };
     match braced(name, b"@{") {
@@ -208,7 +233,7 @@ pub fn asks_sibling(text: &[u8]) -> bool {
 
 /// Returns whether a text asks for an entry of a reflog. Then it names no reference.
 pub fn asks_entry(text: &[u8]) -> bool {
-    let Some(name) = name_of(text) else {
+    let Ok(name) = name_of(text) else {
         return false;
     };
     match braced(name, b"@{") {

@@ -124,39 +124,52 @@ fn parent_number(alloc: Global, text: &[u8]) -> Result<Option<usize>, Stop> {
     })
 }
 
-/// Returns the text and the mark of a word that ends in `^@`, `^!`, `^-` or `^-n`.
-pub fn shorthand_of<'w>(alloc: Global, word: &'w [u8]) -> Result<Option<Shorthand<'w>>, Stop> {
-    // As in git, the first of these marks counts.
-    let (text, rest, marked) = if let Some((text, rest)) = cut(word, b"^!") {
-        (text, rest, Marked::Itself)
-    } else if let Some((text, rest)) = cut(word, b"^@") {
-        (text, rest, Marked::Parents)
-    } else if let Some((text, rest)) = cut(word, b"^-") {
-        return Ok(match parent_number(alloc, rest)? {
-            Some(number) => Some(Shorthand {
-                text,
-                marked: Marked::Without(number),
-            }),
-            None => None,
-        });
-    } else {
+/// Returns the text before a mark at the end of a word; `None` if the mark is not there, or if it
+/// stands in the word before.
+fn before_mark<'w>(word: &'w [u8], mark: &[u8]) -> Option<&'w [u8]> {
+    match cut(word, mark) {
+        Some((text, [])) => Some(text),
+        _ => None,
+    }
+}
+
+/// Returns the text of a word that ends in `^-` or `^-n`, and the number.
+fn without_parent<'w>(alloc: Global, word: &'w [u8]) -> Result<Option<Shorthand<'w>>, Stop> {
+    let Some((text, rest)) = cut(word, b"^-") else {
         return Ok(None);
     };
-    Ok(if rest.is_empty() {
-        Some(Shorthand { text, marked })
-    } else {
-        None
+    Ok(match parent_number(alloc, rest)? {
+        Some(number) => Some(Shorthand {
+            text,
+            marked: Marked::Without(number),
+        }),
+        None => None,
     })
 }
 
-/// Returns an object if it is there; `None` if it is missing, and no remote has promised it.
-fn existing(session: &mut Session<'_>, id: ObjectId) -> Result<Option<ObjectId>, Stop> {
-    match session.repository.kind(id) {
-        Ok(_) => Ok(Some(id)),
-        Err(Refusal::Object(gix_odb::Error::Missing(_))) if !session.repository.is_partial() => {
-            Ok(None)
-        }
-        Err(refusal) => Err(Stop::from(refusal)),
+/// Returns the text and the mark of a word that ends in `^@`, `^!`, `^-` or `^-n`, as `rev-list`
+/// reads it: each mark by itself, in this order.
+///
+/// # Errors
+///
+/// `NotRead` for a number that is not read.
+pub fn shorthand_of<'w>(alloc: Global, word: &'w [u8]) -> Result<Option<Shorthand<'w>>, Stop> {
+    let (text, marked) = if let Some(text) = before_mark(word, b"^@") {
+        (text, Marked::Parents)
+    } else if let Some(text) = before_mark(word, b"^!") {
+        (text, Marked::Itself)
+    } else {
+        return without_parent(alloc, word);
+    };
+    Ok(Some(Shorthand { text, marked }))
+}
+
+/// Returns whether `rev-parse` reads the mark at the end of a word. It looks for `^!`, then for
+/// `^@`, and takes no other mark if the one that it finds is not at the end.
+fn is_mark_read(word: &[u8]) -> bool {
+    match cut(word, b"^!").or(cut(word, b"^@")) {
+        Some((_, rest)) => rest.is_empty(),
+        None => true,
     }
 }
 
@@ -184,8 +197,6 @@ fn found(
     looked_up: Result<ObjectId, Refusal>,
 ) -> Result<Option<ObjectId>, Stop> {
     match looked_up {
-        // git reads the tree of a commit, too.
-        Ok(id) if text.ends_with(b"^{tree}") => existing(session, id),
         Ok(id) => Ok(Some(id)),
         Err(Refusal::Unknown) => {
             say_unpeeled(session, before_path(text))?;
@@ -244,7 +255,7 @@ fn is_nothing(session: &Session<'_>, text: &[u8]) -> Result<bool, Stop> {
     if text.starts_with(b":") {
         return Err(not_supported(alloc, &[b"'", text, b"': paths are not supported"]));
     }
-    match form_of(before_path(text)) {
+    match form_of(text) {
         Form::Usual => Ok(false),
         Form::Nothing => {
             unless_date(alloc, text)?;
@@ -394,19 +405,16 @@ fn marked_tips<'w>(
     Ok(Some(tips))
 }
 
-/// Returns the tips of `A^@`, `A^!` and `A^-n`; `None` if a word has another form, if its text
-/// names no commit, or if the commit lacks the parent.
+/// Returns the tips of `A^@`, `A^!` and `A^-n`; `None` if the text names no commit, or if the commit
+/// lacks the parent.
 ///
 /// # Errors
 ///
 /// Those of [`revision`].
 pub fn shorthand_tips<'w>(
     session: &mut Session<'_>,
-    word: &'w [u8],
+    shorthand: &Shorthand<'w>,
 ) -> Result<Option<Vec<Tip<'w>>>, Stop> {
-    let Some(shorthand) = shorthand_of(session.alloc, word)? else {
-        return Ok(None);
-    };
     let Some(id) = committish(session, shorthand.text)? else {
         return Ok(None);
     };
@@ -414,10 +422,11 @@ pub fn shorthand_tips<'w>(
         return Ok(None);
     };
     let entry = session.repository.entry(commit)?;
-    marked_tips(session.alloc, id, &entry.parents, &shorthand)
+    marked_tips(session.alloc, id, &entry.parents, shorthand)
 }
 
-/// Returns the tips of a word that means several objects; `None` if it is no such word.
+/// Returns the tips of a word that means several objects to `rev-parse`; `None` if it is no such
+/// word.
 ///
 /// # Errors
 ///
@@ -426,9 +435,15 @@ pub fn several_tips<'w>(
     session: &mut Session<'_>,
     word: &'w [u8],
 ) -> Result<Option<Vec<Tip<'w>>>, Stop> {
-    match range_tips(session, word)? {
-        Some(tips) => Ok(Some(tips)),
-        None => shorthand_tips(session, word),
+    if let Some(tips) = range_tips(session, word)? {
+        return Ok(Some(tips));
+    }
+    if !is_mark_read(word) {
+        return Ok(None);
+    }
+    match shorthand_of(session.alloc, word)? {
+        Some(shorthand) => shorthand_tips(session, &shorthand),
+        None => Ok(None),
     }
 }
 

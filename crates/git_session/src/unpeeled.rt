@@ -2,19 +2,10 @@
 
 use crate::session::Session;
 use crate::stop::{Stop, joined};
+use gix_repository::kind_name;
 use gix_revision::hash::ObjectId;
 use gix_revision::object::Kind;
 use std::alloc::Global;
-
-/// Returns the name of a kind.
-fn kind_name(kind: Kind) -> &'static [u8] {
-    match kind {
-        Kind::Tag => b"tag",
-        Kind::Commit => b"commit",
-        Kind::Tree => b"tree",
-        Kind::Blob => b"blob",
-    }
-}
 
 /// Says that an object is no commit.
 pub fn say_no_commit(session: &mut Session<'_>, id: ObjectId, kind: Kind) -> Result<(), Stop> {

@@ -28,6 +28,7 @@ pub enum Variable {
     ShallowFile,
     GraftFile,
     IndexFile,
+    Namespace,
     SuperPrefix,
     RefParanoia,
     SudoUid,
@@ -40,7 +41,7 @@ struct Named {
 }
 
 /// The names of all variables.
-static NAMES: [Named; 23] = [
+static NAMES: [Named; 24] = [
     Named {
         variable: Variable::GitDir,
         name: "GIT_DIR",
@@ -120,6 +121,10 @@ static NAMES: [Named; 23] = [
     Named {
         variable: Variable::IndexFile,
         name: "GIT_INDEX_FILE",
+    },
+    Named {
+        variable: Variable::Namespace,
+        name: "GIT_NAMESPACE",
     },
     Named {
         variable: Variable::SuperPrefix,

@@ -28,6 +28,8 @@ pub enum Reason {
     OtherCommonDir,
     /// `core.worktree` or `GIT_WORK_TREE` names a path that does not lead to a work tree.
     NoWorkTree,
+    /// `GIT_NAMESPACE` is not the name of a namespace.
+    BadNamespace,
     /// The repository belongs to another user, and `safe.directory` does not name it.
     DubiousOwnership,
     /// The repository is bare, and `safe.bareRepository` is `explicit`.
@@ -225,6 +227,7 @@ fn reason_text(reason: Reason) -> &'static str {
         Reason::EmptyCommonDir => "failed to read",
         Reason::OtherCommonDir => "this value of GIT_COMMON_DIR is not supported:",
         Reason::NoWorkTree => "cannot enter the work tree",
+        Reason::BadNamespace => "bad git namespace path",
         Reason::DubiousOwnership => "detected dubious ownership in repository at",
         Reason::BareRepositoryRefused => "cannot use bare repository",
         Reason::BadBareRepository => "bad value of a setting",

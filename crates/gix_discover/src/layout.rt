@@ -22,6 +22,9 @@ pub struct Layout<A: Allocator = Global> {
     /// The path of the current folder in the work tree, with a slash at its end, or empty at the
     /// top. `None` if the current folder is outside of the work tree.
     pub prefix: Option<Vec<u8, A>>,
+    /// Says whether the current folder, or the top of the work tree if git goes there, is inside of
+    /// the git folder. git then takes no revision for the name of a file.
+    pub is_in_git_dir: bool,
     /// The file `shallow`.
     pub shallow: Vec<u8, A>,
     /// The file `info/grafts`.

@@ -1,4 +1,5 @@
-//! Decides what is a refspec (git-fetch, "<refspec>"; git-push, "<refspec>...").
+//! Decides what is a refspec (git-fetch, "<refspec>"; git-push, "<refspec>..."), or a namespace
+//! (gitnamespaces).
 
 use memchr::memrchr;
 
@@ -28,25 +29,32 @@ fn are_plain(name: &[u8]) -> bool {
     true
 }
 
-/// Tells whether all parts between slashes have a good beginning and end.
+/// Tells whether all parts between slashes have a good beginning and end. They may be empty.
 fn are_parts(name: &[u8]) -> bool {
     for part in name.split(|b| *b == b'/') {
-        if part.is_empty() || part.starts_with(b".") || part.ends_with(b".lock") {
+        if part.starts_with(b".") || part.ends_with(b".lock") {
             return false;
         }
     }
-    true
+    !name.ends_with(b"/")
+        && !name.ends_with(b".")
+        && !has_pair(name, b'.', b'.')
+        && !has_pair(name, b'@', b'{')
 }
 
 /// Tells whether a text is the name of a reference, or a pattern with one star
 /// (git-check-ref-format, `--allow-onelevel --refspec-pattern`).
 fn is_name(name: &[u8]) -> bool {
-    name != b"@".as_slice()
-        && !name.ends_with(b".")
-        && !has_pair(name, b'.', b'.')
-        && !has_pair(name, b'@', b'{')
+    !matches!(name, [] | [b'@'] | [b'/', ..])
+        && !has_pair(name, b'/', b'/')
         && are_plain(name)
         && are_parts(name)
+}
+
+/// Tells whether a text is a path of namespaces, or empty. Slashes may be beside each other, or begin
+/// it, as in git.
+pub(crate) fn is_namespace(path: &[u8]) -> bool {
+    !path.contains(&b'*') && are_plain(path) && are_parts(path)
 }
 
 /// Tells whether the left side of a refspec is a name. `@` is `HEAD` there.

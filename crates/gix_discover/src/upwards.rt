@@ -8,6 +8,7 @@ use crate::layout::Layout;
 use crate::owner::{check_bare, check_named, is_own};
 use crate::paths::{absolute, folder_of, is_absolute, resolved, within};
 use crate::places::{PathKind, Places};
+use crate::refspec::is_namespace;
 use crate::source::{is_folder, is_known, place, reason_of};
 use memchr::memrchr;
 use std::alloc::Allocator;
@@ -65,6 +66,17 @@ fn inside<A: Allocator>(work_tree: &Option<Vec<u8, A>>, is_inside: bool) -> &[u8
     match work_tree {
         Some(top) if is_inside => top.as_slice(),
         _ => &[],
+    }
+}
+
+/// Returns what follows the path of a folder in the path of one that it is or has; `None` if it is
+/// another one.
+fn rest_below<'p>(path: &'p [u8], folder: &[u8]) -> Option<&'p [u8]> {
+    match path.strip_prefix(folder)? {
+        [] => Some(&[]),
+        [b'/', rest @ ..] => Some(rest),
+        rest if folder.ends_with(b"/") => Some(rest),
+        _ => None,
     }
 }
 
@@ -312,6 +324,11 @@ impl<'a, F: Places, A: Allocator + Copy> Search<'a, F, A> {
         }
     }
 
+    /// Tells whether a variable or the setting names a work tree.
+    fn names_work_tree(&self, format: &Format<A>) -> bool {
+        self.environment.get(Variable::WorkTree).is_some() || format.work_tree.is_some()
+    }
+
     /// Returns the top folder of the work tree; `None` if there is none.
     fn work_tree(
         &self,
@@ -319,9 +336,7 @@ impl<'a, F: Places, A: Allocator + Copy> Search<'a, F, A> {
         format: &Format<A>,
         is_bare: bool,
     ) -> Result<Option<Vec<u8, A>>, DiscoverError<A>> {
-        let is_named = self.environment.get(Variable::WorkTree).is_some()
-            || format.work_tree.is_some();
-        if is_named || found.way == Way::Explicit {
+        if self.names_work_tree(format) || found.way == Way::Explicit {
             return self.explicit_work_tree(&found.git_dir, format, is_bare);
         }
         if found.way == Way::InFolder && !is_bare {
@@ -335,19 +350,40 @@ impl<'a, F: Places, A: Allocator + Copy> Search<'a, F, A> {
     ///
     /// Returns `None` if it is not below that folder.
     fn below(&self, folder: &[u8]) -> Result<Option<Vec<u8, A>>, DiscoverError<A>> {
-        let rest = match self.environment.folder().strip_prefix(folder) {
-            Some(rest) => rest,
-            None => return Ok(None),
+        let Some(rest) = rest_below(self.environment.folder(), folder) else {
+            return Ok(None);
         };
-        let mut prefix = Vec::new(self.alloc);
-        match rest {
-            [] => return Ok(Some(prefix)),
-            [b'/', rest @ ..] => prefix.extend_from_slice(rest)?,
-            rest if folder.ends_with(b"/") => prefix.extend_from_slice(rest)?,
-            _ => return Ok(None),
+        let mut prefix = rest.to_vec(self.alloc)?;
+        if !rest.is_empty() {
+            prefix.push(b'/')?;
         }
-        prefix.push(b'/')?;
         Ok(Some(prefix))
+    }
+
+    /// Tells whether the current folder, or the top of the work tree if the current folder is below
+    /// it, is inside of the git folder. `prefix` is the path from that top to the current folder.
+    ///
+    /// As git does, it compares the path that was given if git goes nowhere, and the path without
+    /// symbolic links if git goes to the top of the work tree, or has gone up to find the git folder.
+    fn is_in_git_dir(
+        &self,
+        found: &Found<A>,
+        format: &Format<A>,
+        prefix: &[u8],
+    ) -> Result<bool, DiscoverError<A>> {
+        if found.way == Way::InFolder && !self.names_work_tree(format) {
+            return Ok(false);
+        }
+        let folder = self.environment.folder();
+        if prefix.is_empty() && found.top.is_empty() {
+            return Ok(rest_below(folder, &found.git_dir).is_some());
+        }
+        let top = folder.get(..folder.len().saturating_sub(prefix.len()));
+        let mut real = Vec::new(self.alloc);
+        match self.files.real_path(&found.git_dir, &mut real) {
+            Ok(is_there) => Ok(is_there && rest_below(top.unwrap_or(&[]), &real).is_some()),
+            Err(error) => Err(about(self.alloc, reason_of(error), &found.git_dir)),
+        }
     }
 
     /// Returns the path of the current folder in a work tree.
@@ -399,6 +435,16 @@ impl<'a, F: Places, A: Allocator + Copy> Search<'a, F, A> {
         }
     }
 
+    /// Fails if `GIT_NAMESPACE` is no namespace (gitnamespaces).
+    fn check_namespace(&self) -> Result<(), DiscoverError<A>> {
+        match self.environment.get(Variable::Namespace) {
+            Some(path) if !is_namespace(path) => {
+                Err(about(self.alloc, Reason::BadNamespace, path))
+            }
+            _ => Ok(()),
+        }
+    }
+
     /// Returns the layout of the repository that was found.
     fn layout(&self, found: &Found<A>) -> Result<Layout<A>, DiscoverError<A>> {
         let Common { path, is_named } = common_dir(
@@ -414,6 +460,11 @@ impl<'a, F: Places, A: Allocator + Copy> Search<'a, F, A> {
             Some(top) => self.prefix(found, top)?,
             None => None,
         };
+        let is_in_git_dir = match &prefix {
+            Some(prefix) => self.is_in_git_dir(found, &format, prefix)?,
+            None => false,
+        };
+        self.check_namespace()?;
         let top = inside(&work_tree, prefix.is_some());
         Ok(Layout {
             git_dir: found.git_dir.as_slice().to_vec(self.alloc)?,
@@ -426,6 +477,7 @@ impl<'a, F: Places, A: Allocator + Copy> Search<'a, F, A> {
             common_dir: path,
             work_tree,
             prefix,
+            is_in_git_dir,
         })
     }
 }
@@ -442,6 +494,7 @@ impl<'a, F: Places, A: Allocator + Copy> Search<'a, F, A> {
 ///   `EmptyCommonDir` if `GIT_DIR` or a file does not lead to one.
 /// - `OtherCommonDir` if `GIT_COMMON_DIR` names another folder than the repository.
 /// - `NoWorkTree` if `GIT_WORK_TREE` or `core.worktree` does not lead to a work tree.
+/// - `BadNamespace` if `GIT_NAMESPACE` is no namespace.
 /// - `DubiousOwnership` if it belongs to another user.
 /// - `BareRepositoryRefused` or `BadBareRepository`, by `safe.bareRepository`.
 /// - `FormatVersion`, `UnknownExtension`, `ExtensionNeedsVersion1`, `ObjectFormat` or `RefStorage` if

@@ -12,13 +12,15 @@ use Rattle.gix_odb.specs.declared.error.FileName.{FileName}
 use Rattle.gix_odb.specs.declared.error.Error.{Error}
 use Rattle.gix_odb.specs.declared.error.Error.TheVariants.{Missing, Altered, NotACommit, Malformed, NotATag, MalformedTag, Damaged, Unsupported, Failed, OutOfMemory}
 use Rattle.gix_odb.specs.declared.error.Damage.{Damage}
-use Rattle.gix_odb.specs.declared.error.Damage.TheVariants.{CutOff, Fanout, Header, Stream, Delta, Base, Circle}
+use Rattle.gix_odb.specs.declared.error.Damage.TheVariants.{CutOff, TooLong, OtherPack, Fanout, Header, Stream, Delta, Base, Circle}
 use Rattle.gix_odb.specs.declared.error.Feature.{Feature}
 use Rattle.gix_odb.specs.declared.error.Feature.TheVariants.{IndexVersion, LargeObject, NotUtf8}
 
 -- The text that says how a file is damaged.
 abbrev pub damage_text : Damage → List ℕ
 damage_text CutOff = codes "file is too short for its tables"
+damage_text TooLong = codes "file is longer than its tables can be"
+damage_text OtherPack = codes "pack does not match its index"
 damage_text Fanout = codes "fanout table falls"
 damage_text Header = codes "no object begins here"
 damage_text Stream = codes "zlib stream is malformed, cut off or of another size"

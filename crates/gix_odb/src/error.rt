@@ -76,6 +76,10 @@ pub struct FileName {
 pub enum Damage {
     /// The file is too short for its tables.
     CutOff,
+    /// The file is longer than its tables can be.
+    TooLong,
+    /// The pack is another one than that of the index.
+    OtherPack,
     /// The fanout table of an index falls.
     Fanout,
     /// No object begins at this offset.
@@ -183,6 +187,8 @@ impl fmt::Display for Damage {
     fn fmt<W: fmt::Write>(&self, f: &mut fmt::Formatter<W>) -> fmt::Result {
         match self {
             Damage::CutOff => f.write_str("file is too short for its tables"),
+            Damage::TooLong => f.write_str("file is longer than its tables can be"),
+            Damage::OtherPack => f.write_str("pack does not match its index"),
             Damage::Fanout => f.write_str("fanout table falls"),
             Damage::Header => f.write_str("no object begins here"),
             Damage::Stream => f.write_str("zlib stream is malformed, cut off or of another size"),

@@ -60,21 +60,71 @@ fn refused<O: Opened>(source: &Source<O>, fault: OpenFault) -> Fault {
     }
 }
 
+/// Returns what is wrong with the size of an index of so many objects; `None` if nothing is. As to
+/// git, all objects but one may have offsets of eight bytes.
+fn misfit(size: u64, count: u64) -> Option<Damage> {
+    let least = count
+        .saturating_mul(28)
+        .saturating_add(HEAD_LEN as u64 + 40);
+    let most = least.saturating_add(count.saturating_sub(1).saturating_mul(8));
+    if size < least {
+        Some(Damage::CutOff)
+    } else if size > most {
+        Some(Damage::TooLong)
+    } else {
+        None
+    }
+}
+
+/// Reads the hash at a place.
+fn hash_at<O: Opened>(source: &Source<O>, at: u64) -> Result<ObjectId, Fault> {
+    let mut bytes = [0u8; 20];
+    source.fill(at, bytes.as_mut_slice())?;
+    Ok(ObjectId(bytes))
+}
+
 impl<O: Opened, A: Allocator + Copy> Index<O, A> {
     /// Reads the head of an index.
     pub(crate) fn new(alloc: A, source: Source<O>) -> Result<Index<O, A>, Fault> {
         let mut bytes = Vec::new(alloc);
         source.read_into(0, HEAD_LEN, &mut bytes)?;
-        match Head::open(bytes) {
-            Ok(head) => Ok(Index {
-                size: source.size()?,
+        let head = match Head::open(bytes) {
+            Ok(head) => head,
+            Err(error) => return Err(refused(&source, error.fault)),
+        };
+        let size = source.size()?;
+        match misfit(size, head.len() as u64) {
+            Some(damage) => Err(source.damaged(size, damage)),
+            None => Ok(Index {
+                size,
                 source,
                 head,
                 buckets: empty_buckets(alloc)?,
                 kept: 0,
                 few: Vec::new(alloc),
             }),
-            Err(error) => Err(refused(&source, error.fault)),
+        }
+    }
+
+    /// Fails if a pack is not that of the index: by its signature and version, by the number of its
+    /// objects, or by the hash at its end, which the index has, too.
+    pub(crate) fn check_pack(&self, pack: &Source<O>) -> Result<(), Fault> {
+        let mut head = [0u8; 12];
+        pack.fill(0, head.as_mut_slice())?;
+        let is_own = match head {
+            [b'P', b'A', b'C', b'K', 0, 0, 0, 2 | 3, a, b, c, d] => {
+                u32::from_be_bytes([a, b, c, d]) as usize == self.count()
+            }
+            _ => false,
+        };
+        if !is_own {
+            return Err(pack.damaged(0, Damage::OtherPack));
+        }
+        let end = pack.size()?.saturating_sub(20);
+        if hash_at(pack, end)? == hash_at(&self.source, self.size.saturating_sub(40))? {
+            Ok(())
+        } else {
+            Err(pack.damaged(end, Damage::OtherPack))
         }
     }
 

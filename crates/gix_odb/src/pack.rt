@@ -59,7 +59,8 @@ impl<F: Folders, A: Allocator + Copy> Pack<F, A> {
         Ok(())
     }
 
-    /// Opens the pack itself, unless it is open. Fails if it is gone since it was listed.
+    /// Opens the pack itself, unless it is open. Fails if it is gone since it was listed, or is not that
+    /// of the index.
     fn open_body(
         &mut self,
         alloc: A,
@@ -76,6 +77,9 @@ impl<F: Folders, A: Allocator + Copy> Pack<F, A> {
         };
         let path = joined(alloc, folder, b"/pack/", &self.name, b".pack")?;
         let source = open_listed(files, &path, name)?;
+        if let Some(index) = &self.index {
+            index.check_pack(&source)?;
+        }
         self.body = Some(Body::new(alloc, source, chains.next_number()));
         Ok(())
     }

@@ -31,5 +31,6 @@ mod search;
 mod siblings;
 
 pub use error::{Refusal, Unsupported};
+pub use messages::kind_name;
 pub use open::{Mode, OpenError, Opening};
 pub use repository::Repository;

@@ -3,6 +3,8 @@
 use crate::repository::Repository;
 use gix_files::Folders;
 use gix_ref::Why;
+use gix_revision::hash::ObjectId;
+use gix_revision::object::Kind;
 use std::alloc::{AllocError, Allocator};
 
 /// Adds a line of three parts.
@@ -17,6 +19,16 @@ fn add_line<A: Allocator>(
     to.extend_from_slice(behind)?;
     to.push(b'\n')?;
     Ok(())
+}
+
+/// Returns git's name of a kind.
+pub fn kind_name(kind: Kind) -> &'static [u8] {
+    match kind {
+        Kind::Tag => b"tag",
+        Kind::Commit => b"commit",
+        Kind::Tree => b"tree",
+        Kind::Blob => b"blob",
+    }
 }
 
 /// Returns what git says before the name of a reference that it passes over, if it says something.
@@ -56,6 +68,16 @@ impl<F: Folders + Drop, A: Allocator + Copy> Repository<F, A> {
             return Ok(());
         }
         add_line(&mut self.messages, before, name, behind)
+    }
+
+    /// Says that a commit names an object as its tree that is none. git prints it even if it is to be
+    /// quiet.
+    pub(crate) fn say_no_tree(&mut self, id: ObjectId, kind: Kind) -> Result<(), AllocError> {
+        let mut digits = [0u8; 40];
+        let written = id.write_hex(40, &mut digits);
+        let mut behind = b" is a tree, not a ".to_vec(self.alloc)?;
+        behind.extend_from_slice(kind_name(kind))?;
+        self.say_even_quietly(b"error: object ", &digits[..written], &behind)
     }
 
     /// Warns of each reference that was passed over, even if nothing is to be said, as git does.

@@ -127,13 +127,18 @@ impl<F: Folders + Drop, A: Allocator + Copy> Repository<F, A> {
         Ok(())
     }
 
-    /// Returns the reference with a short name, and warns if the name is ambiguous.
-    fn reference(&mut self, name: &[u8]) -> Result<Option<Named<A>>, Refusal> {
-        let found = self.references.short(unabbreviated(name))?;
+    /// Returns the reference with a short name, and warns of those that are passed over.
+    pub(crate) fn short(&mut self, name: &[u8]) -> Result<Option<gix_ref::Named<A>>, Refusal> {
+        let found = self.references.short(name)?;
         if self.warns || found.is_none() {
             self.warn_of_passed()?;
         }
-        let Some(named) = found else {
+        Ok(found)
+    }
+
+    /// Returns the reference with a short name, and warns if the name is ambiguous.
+    fn reference(&mut self, name: &[u8]) -> Result<Option<Named<A>>, Refusal> {
+        let Some(named) = self.short(unabbreviated(name))? else {
             return Ok(None);
         };
         if named.is_ambiguous || self.is_one_id(name)? {

@@ -30,11 +30,22 @@ fn not_read(id: ObjectId, by: ObjectId, error: gix_odb::Error) -> Refusal {
 
 impl<F: Folders + Drop, A: Allocator + Copy> Repository<F, A> {
     /// Returns the object that stands for `id`.
-    fn stand_in(&self, id: ObjectId) -> Result<ObjectId, Refusal> {
-        match self.history.reader.changes.stand_in(id) {
-            Some(by) => Ok(by),
-            None => Err(Refusal::Replaced(id)),
+    ///
+    /// # Errors
+    ///
+    /// `Fatal`, with git's message, if it is replaced too many times in turn.
+    fn stand_in(&mut self, id: ObjectId) -> Result<ObjectId, Refusal> {
+        if let Some(by) = self.history.reader.changes.stand_in(id) {
+            return Ok(by);
         }
+        let mut digits = [0u8; 40];
+        let written = id.write_hex(40, &mut digits);
+        self.say_even_quietly(
+            b"fatal: replace depth too high for object ",
+            &digits[..written],
+            b"",
+        )?;
+        Err(Refusal::Fatal)
     }
 
     /// Returns whether another object stands for `id` (git-replace).
@@ -47,7 +58,8 @@ impl<F: Folders + Drop, A: Allocator + Copy> Repository<F, A> {
     /// # Errors
     ///
     /// - `Object` if the object was not read.
-    /// - `Replaced` if it is replaced by an object that is missing, or too many times in turn.
+    /// - `Replaced` if it is replaced by an object that is missing.
+    /// - `Fatal` if it is replaced too many times in turn. The message is among the messages.
     /// - `OutOfMemory` if an allocation failed.
     pub fn kind(&mut self, id: ObjectId) -> Result<Kind, Refusal> {
         let alloc = self.alloc;
@@ -70,7 +82,7 @@ impl<F: Folders + Drop, A: Allocator + Copy> Repository<F, A> {
     ///
     /// - `Object` if the object was not read, or is no well-formed commit.
     /// - `Differs` if the commit-graph says something else of the commit.
-    /// - `NotSupported` as for [`Repository::kind`].
+    /// - `Replaced` and `Fatal` as for [`Repository::kind`].
     /// - `OutOfMemory` if an allocation failed.
     pub fn check(&mut self, id: ObjectId) -> Result<(), Refusal> {
         let by = self.stand_in(id)?;
@@ -89,7 +101,7 @@ impl<F: Folders + Drop, A: Allocator + Copy> Repository<F, A> {
     /// # Errors
     ///
     /// - `Object` if the tag was not read, or if the object is no tag.
-    /// - `Replaced` as for [`Repository::kind`].
+    /// - `Replaced` and `Fatal` as for [`Repository::kind`].
     /// - `OutOfMemory` if an allocation failed.
     pub fn tag(&mut self, id: ObjectId) -> Result<Tag<A>, Refusal> {
         let alloc = self.alloc;
@@ -105,7 +117,7 @@ impl<F: Folders + Drop, A: Allocator + Copy> Repository<F, A> {
     /// # Errors
     ///
     /// - `Object` if the object was not read.
-    /// - `Replaced` as for [`Repository::kind`].
+    /// - `Replaced` and `Fatal` as for [`Repository::kind`].
     /// - `OutOfMemory` if an allocation failed.
     pub fn read_object(&mut self, id: ObjectId) -> Result<Object<A>, Refusal> {
         let alloc = self.alloc;
@@ -120,14 +132,21 @@ impl<F: Folders + Drop, A: Allocator + Copy> Repository<F, A> {
     ///
     /// # Errors
     ///
-    /// - `Object` if the commit was not read.
-    /// - `Unknown` if it does not begin with the line of a tree.
+    /// - `Object` if the commit or the tree was not read.
+    /// - `Unknown` if the commit does not begin with the line of a tree, or if the object that the
+    ///   line names is no tree. In the latter case git's message says so.
     /// - `OutOfMemory` if an allocation failed.
     pub fn tree(&mut self, commit: ObjectId) -> Result<ObjectId, Refusal> {
         let object = self.read_object(commit)?;
-        match tree_line(&object.content) {
-            Some(id) => Ok(id),
-            None => Err(Refusal::Unknown),
+        let Some(tree) = tree_line(&object.content) else {
+            return Err(Refusal::Unknown);
+        };
+        match self.kind(tree)? {
+            Kind::Tree => Ok(tree),
+            kind => {
+                self.say_no_tree(tree, kind)?;
+                Err(Refusal::Unknown)
+            }
         }
     }
 

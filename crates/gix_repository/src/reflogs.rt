@@ -44,15 +44,24 @@ impl<F: Folders + Drop, A: Allocator + Copy> Repository<F, A> {
         self.entry_of(&logged, written, query, doubt)
     }
 
-    /// Returns the object that an entry of the current branch's reflog names.
+    /// Returns the object that an entry of the current branch's reflog names. As in git, the branch
+    /// is what the short name `HEAD` stands for: a tag of this name, say, if there are no commits yet.
     pub(crate) fn logged_here(
         &mut self,
         query: ReflogLookup,
         doubt: Doubt,
     ) -> Result<ObjectId, Refusal> {
-        let Some(reference) = self.references.follow(b"HEAD")? else {
+        let Some(named) = self.short(b"HEAD")? else {
             return Err(Refusal::Unknown);
         };
+        let gix_ref::Named {
+            name: _,
+            reference,
+            is_ambiguous,
+        } = named;
+        if is_ambiguous {
+            self.warn_ambiguous(b"")?;
+        }
         let reflog = match self.references.reflog(&reference.name)? {
             Some(reflog) => reflog,
             None => Reflog {

@@ -90,7 +90,8 @@ impl<F: Folders + Drop, A: Allocator + Copy> Repository<F, A> {
         self.is_silent = is_silent;
     }
 
-    /// Lists the references whose full names begin with a text.
+    /// Lists the references whose full names begin with a text. In authentic mode it tells of no
+    /// reference where its tag leads: `packed-refs` says it, and nothing vouches for this file.
     ///
     /// # Errors
     ///
@@ -98,12 +99,16 @@ impl<F: Folders + Drop, A: Allocator + Copy> Repository<F, A> {
     /// - `Reference` if a file or a folder was not read.
     /// - `OutOfMemory` if an allocation failed.
     pub fn list_references(&mut self, front: &[u8]) -> Result<Listing<A>, Refusal> {
-        let listing = self.references.all(front)?;
+        let mut listing = self.references.all(front)?;
         if has_unopened(&listing.skipped) {
-            Err(Refusal::NotUtf8)
-        } else {
-            Ok(listing)
+            return Err(Refusal::NotUtf8);
         }
+        if self.loaded.is_some() {
+            for listed in listing.references.iter_mut() {
+                listed.peeled = None;
+            }
+        }
+        Ok(listing)
     }
 
     /// Returns the shortest name that the rules read as a reference (git-rev-parse,
