@@ -163,6 +163,7 @@ impl<F: Folders + Drop, A: Allocator + Copy> Repository<F, A> {
         self.is_quiet = false;
         self.is_silent = false;
         self.history.reader.checked.clear();
+        self.history.reader.error = None;
         self.references.refresh();
         // What was read without the commit-graph is not for the next question, which uses it.
         if self.history.reader.is_without_rows {
