@@ -1,9 +1,9 @@
 """Compares `git proved WORD ..` with `git WORD ..`: compare.py PROGRAM FOLDER COMMANDS SEED
 
 Makes repositories in the folder, and asks both the same: fixed commands, and as many random ones as
-COMMANDS says. The answers are the same if the statuses and standard output are. With status 128 or
-129 the program prints nothing on standard output, nor with 125. With 129 the message ends with `; ask git`. With 0, 1 and 128 the errors and warnings on
-standard error are git's, but each once.
+COMMANDS says. The answers are the same if the statuses and standard output are. With status 125,
+128 or 129 the program prints nothing on standard output. With 129 the message ends with `; ask git`.
+With 0, 1 and 128 the errors and warnings on standard error are git's, but each once.
 """
 
 from __future__ import annotations
@@ -79,6 +79,13 @@ def is_of_damage(said: Said) -> bool:
     return re.search(rb"(corrupt loose object|object file \S+ is empty)", said.err) is not None
 
 
+def message_fault(found: Said) -> str | None:
+    """Returns what is wrong with the message of what is not supported, or is damaged."""
+    if (found.status == 129) != found.err.endswith(b"; ask git\n"):
+        return f"status {found.status} with the message {found.err[-120:]!r}"
+    return None
+
+
 class Comparison:
     """Asks git and the program, and counts how they agree."""
 
@@ -108,6 +115,8 @@ class Comparison:
             self.asked[word] += 1
             self.known[command] = wanted
         why = self.difference(command, wanted, found)
+        if found.status in (125, 129) and wanted.status != 129:
+            why = why or message_fault(found)
         if why:
             self.differs(f"{command.text()}: {why}")
 
@@ -143,8 +152,6 @@ class Comparison:
         """Notes a command that is refused, or returns that it has to be answered."""
         if found.out:
             return f"status {found.status} with output {found.out[:60]!r}"
-        if (found.status == 129) != found.err.endswith(b"; ask git\n"):
-            return f"status {found.status} with the message {found.err[-120:]!r}"
         why = refused_variable(command.environment)
         if found.status == 129:
             why = why or refusal(command.before, command.words, command.data, command.cwd)

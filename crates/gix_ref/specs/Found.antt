@@ -6,7 +6,7 @@ use Rattle.gix_ref_text.specs.Leads.{Leads, Nowhere, ToGarbage, TooFar}
 use Rattle.gix_ref_text.specs.Found.{ends_at}
 use Rattle.gix_ref_text.specs.declared.leads.Reference.{Reference}
 use Rattle.gix_ref.specs.declared.error.Error.{Error}
-use Rattle.gix_ref.specs.declared.error.Error.TheVariants.{Failed, NotUtf8, Damaged, Broken, TooDeep, OutOfMemory}
+use Rattle.gix_ref.specs.declared.error.Error.TheVariants.{Failed, NotUtf8, Damaged, Unexpected, Broken, TooDeep, OutOfMemory}
 use Rattle.gix_ref.specs.declared.find.Target.{Target}
 use Rattle.gix_ref.specs.declared.find.Target.TheVariants as target
 
@@ -23,6 +23,7 @@ answer_says (Err (TooDeep name)) = None
 answer_says (Err (Failed name kind)) = None
 answer_says (Err (NotUtf8 name)) = None
 answer_says (Err (Damaged name)) = None
+answer_says (Err (Unexpected name)) = None
 answer_says (Err OutOfMemory) = None
 
 -- Where an answer says that a reference leads; nothing if files or memory failed.
@@ -34,4 +35,5 @@ answer_leads (Err (TooDeep name)) = Some TooFar
 answer_leads (Err (Failed name kind)) = None
 answer_leads (Err (NotUtf8 name)) = None
 answer_leads (Err (Damaged name)) = None
+answer_leads (Err (Unexpected name)) = None
 answer_leads (Err OutOfMemory) = None

@@ -51,9 +51,11 @@ pub enum Error {
     Failed(ErrorName, ErrorKind),
     /// The path of the reference is not UTF-8, and `std` opens no such path.
     NotUtf8(ErrorName),
-    /// The file with this name is not as git writes it: `packed-refs` has a line of another form or
-    /// a name twice, or there is another `commondir`.
+    /// The file with this name is not as git writes it: `packed-refs` has a name twice, or there is
+    /// another `commondir`.
     Damaged(ErrorName),
+    /// A line of `packed-refs` has another form than git writes: the path, a colon, and the line.
+    Unexpected(ErrorName),
     /// The file of this reference says neither an id nor the name of a reference.
     Broken(ErrorName),
     /// The reference is symbolic, and no id is found among the first five references.
@@ -70,6 +72,7 @@ impl fmt::Display for Error {
                 write!(f, "unsupported: name '{}' is not UTF-8", name.as_str())
             }
             Error::Damaged(name) => write!(f, "'{}' is damaged", name.as_str()),
+            Error::Unexpected(name) => write!(f, "unexpected line in {}", name.as_str()),
             Error::Broken(name) => write!(f, "broken reference '{}'", name.as_str()),
             Error::TooDeep(name) => {
                 write!(
@@ -89,6 +92,7 @@ pub(crate) enum Fault {
     Failed(ErrorName, ErrorKind),
     NotUtf8(ErrorName),
     Damaged(ErrorName),
+    Unexpected(ErrorName),
     OutOfMemory,
 }
 
@@ -113,6 +117,7 @@ impl Fault {
             Fault::Failed(name, kind) => Error::Failed(name, kind),
             Fault::NotUtf8(name) => Error::NotUtf8(name),
             Fault::Damaged(name) => Error::Damaged(name),
+            Fault::Unexpected(name) => Error::Unexpected(name),
             Fault::OutOfMemory => Error::OutOfMemory,
         }
     }

@@ -12,7 +12,7 @@ use crate::place::located;
 use gix_files::{FileError, Folders, Limit, read_file};
 use gix_ref_text::loose::is_untrimmed;
 use gix_ref_text::name::is_full_name;
-use gix_ref_text::snapshot::Snapshot;
+use gix_ref_text::snapshot::{Snapshot, odd_line};
 use std::alloc::{Allocator, Global};
 use std::io::ErrorKind;
 
@@ -246,17 +246,34 @@ impl<F: Folders + Drop, A: Allocator + Copy> References<F, A> {
         Ok(())
     }
 
+    /// Returns the bytes of `packed-refs`, which has this path; none if there is no such file.
+    fn read_packed_file(&self, path: &[u8]) -> Result<Vec<u8, A>, Fault> {
+        let mut bytes = Vec::new(self.alloc);
+        match read_file(&self.files, path, Limit::Table, &mut bytes) {
+            Ok(_) => Ok(bytes),
+            Err(error) => Err(fault_of(path, error)),
+        }
+    }
+
+    /// Returns why `packed-refs`, which has this path, counts as damaged.
+    fn packed_fault(&self, path: &[u8]) -> Result<Fault, Fault> {
+        let bytes = self.read_packed_file(path)?;
+        let Some(line) = odd_line(&bytes) else {
+            return Ok(Fault::Damaged(ErrorName::new(path)));
+        };
+        let mut name = path.to_vec(self.alloc)?;
+        name.extend_from_slice(b": ")?;
+        name.extend_from_slice(line)?;
+        Ok(Fault::Unexpected(ErrorName::new(&name)))
+    }
+
     /// Reads the file `packed-refs`. It has no bytes if there is no such file.
     fn packed_file(&self) -> Result<Snapshot<A>, Fault> {
         let mut path = self.common_dir.to_vec(self.alloc)?;
         path.extend_from_slice(b"/packed-refs")?;
-        let mut bytes = Vec::new(self.alloc);
-        if let Err(error) = read_file(&self.files, &path, Limit::Table, &mut bytes) {
-            return Err(fault_of(&path, error));
-        }
-        match Snapshot::new(self.alloc, bytes)? {
+        match Snapshot::new(self.alloc, self.read_packed_file(&path)?)? {
             Some(snapshot) => Ok(snapshot),
-            None => Err(Fault::Damaged(ErrorName::new(&path))),
+            None => Err(self.packed_fault(&path)?),
         }
     }
 

@@ -76,6 +76,22 @@ fn places_in<A: Allocator>(alloc: A, bytes: &[u8]) -> Result<Option<Places<A>>, 
     Ok(Some(Places { places, is_sorted }))
 }
 
+/// Returns the first line of a file that has another form than those that git writes.
+pub fn odd_line(bytes: &[u8]) -> Option<&[u8]> {
+    let (mut rest, _) = without_header(bytes)?;
+    for _ in 0..bytes.len() {
+        let Some((_, after)) = first_record(rest) else {
+            break;
+        };
+        rest = after;
+    }
+    if rest.is_empty() {
+        None
+    } else {
+        Some(cut(rest, b'\n').0)
+    }
+}
+
 /// Tests whether two of the lines at some places have the same name.
 fn is_one_twice<A: Allocator>(
     alloc: A,

@@ -238,7 +238,7 @@ fn error_text(error: Error) -> &'static str {
         Error::Broken(_) => "broken",
         Error::TooDeep(_) => "too deep",
         Error::NotUtf8(_) => "not UTF-8",
-        Error::Damaged(_) => "damaged",
+        Error::Damaged(_) | Error::Unexpected(_) => "damaged",
         Error::Failed(..) | Error::OutOfMemory => "failed",
     }
 }

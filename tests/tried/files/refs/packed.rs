@@ -58,7 +58,7 @@ fn found_in(alloc: Global, bytes: &[u8]) -> Option<bool> {
     };
     match references.find(b"refs/heads/a") {
         Ok(found) => Some(found.is_some()),
-        Err(Error::Damaged(_)) => None,
+        Err(Error::Damaged(_) | Error::Unexpected(_)) => None,
         Err(_) => Some(false),
     }
 }
@@ -67,7 +67,7 @@ fn found_in(alloc: Global, bytes: &[u8]) -> Option<bool> {
 /// damaged.
 fn is_unlisted(alloc: Global, bytes: &[u8], prefix: &[u8]) -> bool {
     match References::open(alloc, OnlyPacked(bytes), b"r", b"r") {
-        Ok(mut references) => matches!(references.all(prefix), Err(Error::Damaged(_))),
+        Ok(mut references) => matches!(references.all(prefix), Err(Error::Damaged(_) | Error::Unexpected(_))),
         Err(_) => false,
     }
 }
