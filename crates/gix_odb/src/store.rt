@@ -99,7 +99,13 @@ impl<F: Folders + Drop, A: Allocator + Copy> Store<F, A> {
         more: &[&[u8]],
     ) -> Result<Store<F, A>, Error> {
         match folders(alloc, &files, path, more) {
-            Ok(Found { folders, fault }) => Store {
+            Ok(
+                Found {
+                    folders,
+                    paths: _,
+                    fault,
+                },
+            ) => Store {
                 files,
                 folders,
                 folders_fault: fault,
