@@ -3,7 +3,9 @@
 //! The pattern becomes a list of parts. The parts that may come next are a set, which each byte of
 //! the text moves on, so that no pattern makes the comparison slow.
 
-use memchr::memmem;
+mod class;
+
+use class::{Class, read_class};
 use std::alloc::{AllocError, Allocator};
 use std::mem::swap;
 
@@ -23,117 +25,30 @@ enum Part {
     Byte(u8),
     /// Any byte; of a path, any but a slash.
     One,
-    /// A byte of the class whose text is between these places of the pattern.
-    Class(usize, usize),
+    /// A byte of a class; of a path, no slash.
+    Class(Class),
     /// Any bytes; of a path, any but slashes.
     Star,
     /// Any bytes.
     Any,
     /// The next two parts, or neither.
     Optional,
-    /// No byte, as an unclosed class.
-    Never,
 }
 
-/// Returns the end of the class that begins at a place of a pattern, after its bracket.
-fn class_end(pattern: &[u8], from: usize) -> Option<usize> {
-    let mut at = match pattern.get(from) {
-        Some(b'!' | b'^') => from.saturating_add(1),
-        _ => from,
-    };
-    let mut is_first = true;
-    for _ in 0..pattern.len() {
-        let step = match pattern.get(at..)? {
-            [] => return None,
-            [b']', ..] if !is_first => return Some(at),
-            [b'\\', _, ..] => 2,
-            [b'[', b':', rest @ ..] => match memmem::find(rest, b":]") {
-                Some(len) => len.saturating_add(4),
-                None => 1,
-            },
-            _ => 1,
-        };
-        is_first = false;
-        at = at.saturating_add(step);
+impl Rules {
+    /// Returns a byte as it is compared.
+    fn folded(self, byte: u8) -> u8 {
+        if self.ignores_case {
+            byte.to_ascii_lowercase()
+        } else {
+            byte
+        }
     }
-    None
-}
 
-/// Tells whether a byte is in a named class, such as `alpha`.
-fn is_in_named(name: &[u8], byte: u8) -> bool {
-    if name == b"alnum".as_slice() {
-        byte.is_ascii_alphanumeric()
-    } else if name == b"alpha".as_slice() {
-        byte.is_ascii_alphabetic()
-    } else if name == b"digit".as_slice() {
-        byte.is_ascii_digit()
-    } else if name == b"upper".as_slice() {
-        byte.is_ascii_uppercase()
-    } else if name == b"lower".as_slice() {
-        byte.is_ascii_lowercase()
-    } else if name == b"xdigit".as_slice() {
-        byte.is_ascii_hexdigit()
-    } else if name == b"punct".as_slice() {
-        byte.is_ascii_punctuation()
-    } else {
-        is_in_spaces(name, byte)
+    /// Tells whether a byte may stand for a part that is no single byte.
+    fn is_free(self, byte: u8) -> bool {
+        byte != b'/' || !self.is_path
     }
-}
-
-/// Tells whether a byte is in one of the named classes of blanks and signs.
-fn is_in_spaces(name: &[u8], byte: u8) -> bool {
-    if name == b"blank".as_slice() {
-        byte == b' ' || byte == b'\t'
-    } else if name == b"space".as_slice() {
-        byte.is_ascii_whitespace() || byte == 11
-    } else if name == b"cntrl".as_slice() {
-        byte.is_ascii_control()
-    } else if name == b"graph".as_slice() {
-        byte.is_ascii_graphic()
-    } else {
-        name == b"print".as_slice() && (byte.is_ascii_graphic() || byte == b' ')
-    }
-}
-
-/// Tells whether a byte is in a range. As in git, its first byte always is, also if it is greater
-/// than the last one.
-fn is_in_range(from: u8, to: u8, byte: u8) -> bool {
-    byte == from || (from <= byte && byte <= to)
-}
-
-/// Tells whether a byte is in the first member of a class, and returns what follows the member.
-fn first_member(class: &[u8], byte: u8) -> (bool, &[u8]) {
-    match class {
-        [] => (false, class),
-        [b'[', b':', rest @ ..] => match memmem::find(rest, b":]") {
-            Some(len) => {
-                let (name, after) = rest.split_at(len.min(rest.len()));
-                (is_in_named(name, byte), after.get(2..).unwrap_or(&[]))
-            }
-            None => (byte == b'[', class.get(1..).unwrap_or(&[])),
-        },
-        [b'\\', from, b'-', b'\\', to, rest @ ..] => (is_in_range(*from, *to, byte), rest),
-        [b'\\', from, b'-', to, rest @ ..] => (is_in_range(*from, *to, byte), rest),
-        [b'\\', only, rest @ ..] => (*only == byte, rest),
-        [from, b'-', b'\\', to, rest @ ..] => (is_in_range(*from, *to, byte), rest),
-        [from, b'-', to, rest @ ..] => (is_in_range(*from, *to, byte), rest),
-        [only, rest @ ..] => (*only == byte, rest),
-    }
-}
-
-/// Tells whether a byte is in a class, whose text may begin with `!` or `^`.
-fn is_in_class(class: &[u8], byte: u8) -> bool {
-    let (negated, mut rest) = match class {
-        [b'!' | b'^', rest @ ..] => (true, rest),
-        _ => (false, class),
-    };
-    let mut found = false;
-    for _ in 0..class.len() {
-        let (is_in, after) = first_member(rest, byte);
-        found = found || is_in;
-        rest = after;
-    }
-    found != negated
 }
 
 /// Adds the parts of stars at a place of a pattern. Returns how many bytes they have.
@@ -152,12 +67,10 @@ fn add_stars<A: Allocator>(
     let begins = rules.is_path && (before.is_empty() || before.ends_with(b"/"));
     let after = rest.get(count..).unwrap_or(&[]);
     if count > 1 && begins && after.starts_with(b"/") {
-        parts.push(Part::Optional)?;
-        parts.push(Part::Any)?;
-        parts.push(Part::Byte(b'/'))?;
+        add_folders(parts)?;
         return Ok(count.saturating_add(1));
     }
-    if count > 1 && begins && after.is_empty() {
+    if count > 1 && begins && (after.is_empty() || after.starts_with(b"\\/")) {
         parts.push(Part::Any)?;
     } else {
         parts.push(Part::Star)?;
@@ -165,137 +78,156 @@ fn add_stars<A: Allocator>(
     Ok(count.max(1))
 }
 
-/// Adds the part at a place of a pattern. Returns how many bytes it has.
-fn add_part<A: Allocator>(
-    pattern: &[u8],
-    at: usize,
-    rules: Rules,
-    parts: &mut Vec<Part, A>,
-) -> Result<usize, AllocError> {
-    let (part, len) = match pattern.get(at..).unwrap_or(&[]) {
-        [b'*', ..] => return add_stars(pattern, at, rules, parts),
-        [b'?', ..] => (Part::One, 1),
-        [b'\\', byte, ..] => (Part::Byte(*byte), 2),
-        [b'\\'] => (Part::Never, 1),
-        [b'[', ..] => {
-            let from = at.saturating_add(1);
-            match class_end(pattern, from) {
-                Some(to) => (
-                    Part::Class(from, to),
-                    to.saturating_sub(at).saturating_add(1),
-                ),
-                None => (Part::Never, 1),
-            }
-        }
-        [byte, ..] => (Part::Byte(*byte), 1),
-        [] => (Part::Never, 1),
-    };
-    parts.push(part)?;
-    Ok(len)
+/// Adds the parts of any folders, unless they are the last ones: `**/**/` is `**/`.
+fn add_folders<A: Allocator>(parts: &mut Vec<Part, A>) -> Result<(), AllocError> {
+    if !matches!(
+        parts.as_slice(),
+        [.., Part::Optional, Part::Any, Part::Byte(b'/')]
+    ) {
+        parts.push(Part::Optional)?;
+        parts.push(Part::Any)?;
+        parts.push(Part::Byte(b'/'))?;
+    }
+    Ok(())
 }
 
-/// Returns the parts of a pattern.
+/// Returns the part at a place of a pattern, other than stars, and the place after it; `None` if git
+/// takes no text for the pattern.
+fn next_part(pattern: &[u8], at: usize, rules: Rules) -> Option<(Part, usize)> {
+    let after = at.saturating_add(1);
+    match pattern.get(at..)? {
+        [b'?', ..] => Some((Part::One, after)),
+        [b'\\', rest @ ..] => Some((Part::Byte(*rest.first()?), after.saturating_add(1))),
+        [b'[', ..] => {
+            let (class, end) = read_class(pattern, after, rules.ignores_case)?;
+            Some((Part::Class(class), end))
+        }
+        [byte, ..] => Some((Part::Byte(rules.folded(*byte)), after)),
+        [] => None,
+    }
+}
+
+/// Returns the parts of a pattern; `None` if it matches no text of `len` bytes.
 fn parts_of<A: Allocator>(
     alloc: A,
     pattern: &[u8],
+    len: usize,
     rules: Rules,
-) -> Result<Vec<Part, A>, AllocError> {
+) -> Result<Option<Vec<Part, A>>, AllocError> {
     let mut parts = Vec::new(alloc);
     let mut at = 0usize;
+    let mut bytes = 0usize;
     for _ in 0..pattern.len() {
         if at >= pattern.len() {
             break;
         }
-        at = at.saturating_add(add_part(pattern, at, rules, &mut parts)?);
-    }
-    Ok(parts)
-}
-
-/// Marks a place, if there is one with this number.
-fn mark(places: &mut [bool], at: usize) {
-    if let Some(place) = places.get_mut(at) {
-        *place = true;
-    }
-}
-
-/// Marks the places that need no further byte.
-fn mark_ahead(parts: &[Part], places: &mut [bool]) {
-    for (at, part) in parts.iter().enumerate() {
-        if places.get(at) != Some(&true) {
+        if pattern.get(at) == Some(&b'*') {
+            at = at.saturating_add(add_stars(pattern, at, rules, &mut parts)?);
             continue;
         }
-        match part {
-            Part::Star | Part::Any => mark(places, at.saturating_add(1)),
-            Part::Optional => {
-                mark(places, at.saturating_add(1));
-                mark(places, at.saturating_add(3));
+        match next_part(pattern, at, rules) {
+            Some((part, end)) if bytes < len => {
+                parts.push(part)?;
+                at = end;
             }
+            _ => return Ok(None),
+        }
+        bytes = bytes.saturating_add(1);
+    }
+    Ok(Some(parts))
+}
+
+/// The parts that may come next, by their numbers. All are from `low` on, and before `high`.
+#[derive(Drop)]
+struct Places<A: Allocator> {
+    marks: Vec<bool, A>,
+    low: usize,
+    high: usize,
+}
+
+impl<A: Allocator> Places<A> {
+    /// Returns no places, for this many parts. The end of the pattern is a place as well.
+    fn new(alloc: A, parts: usize) -> Result<Places<A>, AllocError> {
+        let mut marks = Vec::new(alloc);
+        marks.resize(parts.saturating_add(1), false)?;
+        Ok(Places {
+            marks,
+            low: usize::MAX,
+            high: 0,
+        })
+    }
+
+    /// Tells whether a place is among them.
+    fn has(&self, at: usize) -> bool {
+        self.marks.get(at) == Some(&true)
+    }
+
+    /// Tells whether there are none.
+    fn is_empty(&self) -> bool {
+        self.low >= self.high
+    }
+
+    /// Adds a place, if there is one with this number.
+    fn add(&mut self, at: usize) {
+        if let Some(place) = self.marks.get_mut(at) {
+            *place = true;
+            self.low = self.low.min(at);
+            self.high = self.high.max(at.saturating_add(1));
+        }
+    }
+
+    /// Takes all places away.
+    fn clear(&mut self) {
+        if let Some(marks) = self.marks.as_mut_slice().get_mut(self.low..self.high) {
+            marks.fill(false);
+        }
+        self.low = usize::MAX;
+        self.high = 0;
+    }
+
+    /// Adds the places that need no further byte.
+    fn add_ahead(&mut self, parts: &[Part]) {
+        for at in self.low..parts.len() {
+            if at >= self.high {
+                break;
+            }
+            let next = at.saturating_add(1);
+            match parts.get(at) {
+                _ if !self.has(at) => {}
+                Some(Part::Star | Part::Any) => self.add(next),
+                Some(Part::Optional) => {
+                    self.add(next);
+                    self.add(at.saturating_add(3));
+                }
+                _ => {}
+            }
+        }
+    }
+
+    /// Adds the place to which a byte leads from one with this part.
+    fn add_next(&mut self, part: Part, at: usize, byte: u8, rules: Rules) {
+        let next = at.saturating_add(1);
+        match part {
+            Part::Byte(own) if own == byte => self.add(next),
+            Part::One if rules.is_free(byte) => self.add(next),
+            Part::Class(class) if rules.is_free(byte) && class.has(byte) => self.add(next),
+            Part::Star if rules.is_free(byte) => self.add(at),
+            Part::Any => self.add(at),
             _ => {}
         }
     }
-}
 
-/// Is a pattern, with its rules.
-#[derive(Clone, Copy)]
-struct Pattern<'a> {
-    text: &'a [u8],
-    rules: Rules,
-}
-
-impl<'a> Pattern<'a> {
-    /// Tells whether two bytes are the same.
-    fn is_same(&self, one: u8, other: u8) -> bool {
-        one == other || (self.rules.ignores_case && one.eq_ignore_ascii_case(&other))
-    }
-
-    /// Tells whether a byte is in the class between two places.
-    fn is_in(&self, from: usize, to: usize, byte: u8) -> bool {
-        let class = self.text.get(from..to).unwrap_or(&[]);
-        if self.rules.ignores_case {
-            is_in_class(class, byte.to_ascii_lowercase())
-                || is_in_class(class, byte.to_ascii_uppercase())
-        } else {
-            is_in_class(class, byte)
-        }
-    }
-
-    /// Tells whether a byte may stand for a part that is no single byte.
-    fn is_free(&self, byte: u8) -> bool {
-        byte != b'/' || !self.rules.is_path
-    }
-
-    /// Marks the places to which a byte leads from a place with this part.
-    fn mark_next(&self, part: Part, at: usize, byte: u8, next: &mut [bool]) {
-        let after = at.saturating_add(1);
-        match part {
-            Part::Byte(own) if self.is_same(own, byte) => mark(next, after),
-            Part::One if self.is_free(byte) => mark(next, after),
-            Part::Class(from, to) if self.is_free(byte) && self.is_in(from, to, byte) => {
-                mark(next, after)
-            }
-            Part::Star if self.is_free(byte) => mark(next, at),
-            Part::Any => mark(next, at),
-            _ => {}
-        }
-    }
-
-    /// Marks in `next` the places to which a byte leads from those in `places`.
-    fn step(&self, parts: &[Part], places: &[bool], byte: u8, next: &mut [bool]) {
-        next.fill(false);
-        for (at, part) in parts.iter().enumerate() {
-            if places.get(at) == Some(&true) {
-                self.mark_next(*part, at, byte, next);
+    /// Becomes the places to which a byte leads from those of `from`.
+    fn step(&mut self, parts: &[Part], from: &Places<A>, byte: u8, rules: Rules) {
+        self.clear();
+        for at in from.low..from.high {
+            match parts.get(at) {
+                Some(part) if from.has(at) => self.add_next(*part, at, byte, rules),
+                _ => {}
             }
         }
-        mark_ahead(parts, next);
+        self.add_ahead(parts);
     }
-}
-
-/// Returns no marks, for this many parts.
-fn unmarked<A: Allocator>(alloc: A, parts: usize) -> Result<Vec<bool, A>, AllocError> {
-    let mut places = Vec::new(alloc);
-    places.resize(parts.saturating_add(1), false)?;
-    Ok(places)
 }
 
 /// Tells whether a text matches a pattern as a whole.
@@ -309,18 +241,19 @@ pub fn is_match<A: Allocator + Copy>(
     text: &[u8],
     rules: Rules,
 ) -> Result<bool, AllocError> {
-    let parts = parts_of(alloc, pattern, rules)?;
-    let pattern = Pattern {
-        text: pattern,
-        rules,
+    let Some(parts) = parts_of(alloc, pattern, text.len(), rules)? else {
+        return Ok(false);
     };
-    let mut places = unmarked(alloc, parts.len())?;
-    let mut next = unmarked(alloc, parts.len())?;
-    mark(&mut places, 0);
-    mark_ahead(&parts, &mut places);
+    let mut places = Places::new(alloc, parts.len())?;
+    let mut next = Places::new(alloc, parts.len())?;
+    places.add(0);
+    places.add_ahead(&parts);
     for byte in text {
-        pattern.step(&parts, &places, *byte, &mut next);
+        if places.is_empty() {
+            break;
+        }
+        next.step(&parts, &places, rules.folded(*byte), rules);
         swap(&mut places, &mut next);
     }
-    Ok(places.get(parts.len()) == Some(&true))
+    Ok(places.has(parts.len()))
 }

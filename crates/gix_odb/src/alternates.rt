@@ -8,6 +8,7 @@ use crate::paths::joined;
 use crate::source::fault_of;
 use gix_files::{Folders, Limit, read_file};
 use std::alloc::Allocator;
+use std::collections::BTreeSet;
 use text::next_path;
 
 /// How many times an alternate's own alternates are followed, as in git.
@@ -26,6 +27,8 @@ pub(crate) struct Folder<A: Allocator> {
 #[derive(Drop)]
 pub(crate) struct Found<A: Allocator> {
     pub(crate) folders: Vec<Folder<A>, A>,
+    /// The paths of the alternates that are reached.
+    pub(crate) paths: BTreeSet<Vec<u8, A>, A>,
     pub(crate) fault: Option<Fault>,
 }
 
@@ -54,11 +57,9 @@ impl<A: Allocator + Copy> Found<A> {
         Ok(())
     }
 
-    /// Tells whether a folder has this path.
-    fn has(&self, path: &[u8]) -> bool {
-        self.folders
-            .iter()
-            .any(|folder| folder.path.as_slice() == path)
+    /// Tells whether a path is new, and notes it.
+    fn note(&mut self, alloc: A, path: &[u8]) -> Result<bool, Fault> {
+        Ok(self.paths.insert(path.to_vec(alloc)?)?)
     }
 
     /// Returns the name of the folder that is added next.
@@ -73,7 +74,10 @@ impl<A: Allocator + Copy> Found<A> {
     fn add_first<F: Folders>(&mut self, alloc: A, files: &F, path: &[u8]) -> Result<(), Fault> {
         let mut real = Vec::new(alloc);
         match files.real_path(path, &mut real) {
-            Ok(true) => self.push(real, 0, true),
+            Ok(true) => {
+                self.note(alloc, &real)?;
+                self.push(real, 0, true)
+            }
             Ok(false) => self.push(path.to_vec(alloc)?, 0, true),
             Err(error) => Err(fault_of(self.next_name(), error)),
         }
@@ -91,8 +95,12 @@ impl<A: Allocator + Copy> Found<A> {
     ) -> Result<(), Fault> {
         let mut real = Vec::new(alloc);
         match files.real_path(path, &mut real) {
-            Ok(true) if self.has(&real) => Ok(()),
-            Ok(true) => self.push(real, level, true),
+            Ok(true) => {
+                if self.note(alloc, &real)? {
+                    self.push(real, level, true)?;
+                }
+                Ok(())
+            }
             Ok(false) => Ok(()),
             Err(error) => {
                 let fault = fault_of(self.next_name(), error);
@@ -186,6 +194,7 @@ pub(crate) fn folders<F: Folders, A: Allocator + Copy>(
 ) -> Result<Found<A>, Fault> {
     let mut found = Found {
         folders: Vec::new(alloc),
+        paths: BTreeSet::new(alloc),
         fault: None,
     };
     found.add_first(alloc, files, path)?;

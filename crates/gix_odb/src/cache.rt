@@ -1,45 +1,35 @@
 //! Keeps the objects that were just read from packs, since others may be deltas to them.
 
 use gix_base::object::Kind;
-use std::alloc::{AllocError, AllocFailed, Allocator};
+use std::alloc::{AllocError, Allocator};
+use std::collections::BTreeMap;
 
-/// How many objects are kept at most.
-const SLOTS: u64 = 1024;
+/// How many bytes are kept in all. If an object has no room, all others are dropped.
+const MOST_KEPT: usize = 1 << 26;
 
-/// How many bytes the content of an object that is kept has at most.
-const LONGEST: usize = 1 << 16;
+/// How many bytes an object takes besides its content.
+const OWN_SIZE: usize = 128;
 
-/// How many bytes are kept in all.
-const MOST_KEPT: usize = 1 << 24;
-
-/// An object with the number of its pack and its offset there.
+/// An object as it is kept.
 #[derive(Drop)]
-struct Slot<A: Allocator> {
-    pack: u64,
-    at: u64,
+struct Kept<A: Allocator> {
     kind: Kind,
     content: Vec<u8, A>,
 }
 
-/// Keeps objects, each in the slot that its offset says.
+/// Keeps objects by the number of their pack and their offset there.
 #[derive(Drop)]
 pub(crate) struct Cache<A: Allocator + Copy> {
-    slots: Vec<Slot<A>, A>,
-    kept: usize,
-}
-
-/// Returns the slot of an offset.
-fn slot_of(pack: u64, at: u64) -> usize {
-    let mixed = (at ^ pack.rotate_left(40)).wrapping_mul(0x9e37_79b9_7f4a_7c15);
-    ((mixed >> 32) % SLOTS) as usize
+    objects: BTreeMap<(u64, u64), Kept<A>, A>,
+    size: usize,
 }
 
 impl<A: Allocator + Copy> Cache<A> {
     /// Returns a cache without objects.
     pub(crate) fn new(alloc: A) -> Cache<A> {
         Cache {
-            slots: Vec::new(alloc),
-            kept: 0,
+            objects: BTreeMap::new(alloc),
+            size: 0,
         }
     }
 
@@ -50,30 +40,34 @@ impl<A: Allocator + Copy> Cache<A> {
         pack: u64,
         at: u64,
     ) -> Result<Option<(Kind, Vec<u8, A>)>, AllocError> {
-        match self.slots.get(slot_of(pack, at)) {
-            Some(slot) if slot.pack == pack && slot.at == at => {
-                Ok(Some((slot.kind, slot.content.to_vec(alloc)?)))
-            }
-            _ => Ok(None),
+        match self.objects.get(&(pack, at)) {
+            Some(kept) => Ok(Some((kept.kind, kept.content.to_vec(alloc)?))),
+            None => Ok(None),
         }
     }
 
-    /// Drops all objects, and makes room for as many as are kept at most.
-    fn reset(&mut self, alloc: A) -> Result<(), AllocFailed<Slot<A>>> {
-        self.slots.clear();
-        self.kept = 0;
-        for _ in 0..SLOTS {
-            self.slots.push(Slot {
-                pack: u64::MAX,
-                at: 0,
-                kind: Kind::Blob,
-                content: Vec::new(alloc),
-            })?;
+    /// Returns the kind of an object, if it is kept.
+    pub(crate) fn kind(&self, pack: u64, at: u64) -> Option<Kind> {
+        match self.objects.get(&(pack, at)) {
+            Some(kept) => Some(kept.kind),
+            None => None,
         }
-        Ok(())
     }
 
-    /// Keeps a copy of an object in place of the one in its slot, unless it is too long.
+    /// Makes room for an object of this size. Returns `false` if there is none for so large a one.
+    fn make_room(&mut self, size: usize) -> bool {
+        if size > MOST_KEPT {
+            return false;
+        }
+        if self.size > MOST_KEPT - size {
+            self.objects.clear();
+            self.size = 0;
+        }
+        self.size = self.size.saturating_add(size);
+        true
+    }
+
+    /// Keeps a copy of an object, unless it is too large.
     pub(crate) fn put(
         &mut self,
         alloc: A,
@@ -82,26 +76,10 @@ impl<A: Allocator + Copy> Cache<A> {
         kind: Kind,
         content: &[u8],
     ) -> Result<(), AllocError> {
-        if content.len() > LONGEST {
-            return Ok(());
+        if self.make_room(content.len().saturating_add(OWN_SIZE)) {
+            let content = content.to_vec(alloc)?;
+            self.objects.insert((pack, at), Kept { kind, content })?;
         }
-        if self.slots.is_empty() || self.kept > MOST_KEPT {
-            self.reset(alloc)?;
-        }
-        let Some(slot) = self.slots.get_mut(slot_of(pack, at)) else {
-            return Ok(());
-        };
-        let before = slot.content.len();
-        slot.pack = u64::MAX;
-        slot.content.clear();
-        slot.content.extend_from_slice(content)?;
-        slot.pack = pack;
-        slot.at = at;
-        slot.kind = kind;
-        self.kept = self
-            .kept
-            .saturating_sub(before)
-            .saturating_add(content.len());
         Ok(())
     }
 }

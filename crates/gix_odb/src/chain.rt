@@ -194,4 +194,27 @@ impl<A: Allocator + Copy> Chains<A> {
         }
         Ok((kind, content))
     }
+
+    /// Returns the kind of the object that begins at an offset: the one that the header at the end of
+    /// its chain says.
+    pub(crate) fn kind<O: Opened>(
+        &self,
+        alloc: A,
+        index: &mut Index<O, A>,
+        body: &mut Body<O, A>,
+        at: u64,
+    ) -> Result<Kind, Fault> {
+        let mut at = at;
+        for _ in 0..=index.count() {
+            if let Some(kind) = self.cache.kind(body.number, at) {
+                return Ok(kind);
+            }
+            let entry = body.entry(alloc, at)?;
+            if let Form::Whole(kind) = entry.body {
+                return Ok(kind);
+            }
+            at = base_of(alloc, index, body, at, entry.body)?;
+        }
+        Err(body.source.damaged(at, Damage::Circle))
+    }
 }

@@ -12,6 +12,7 @@ use crate::paths::{id_of_name, loose_folder, loose_path};
 use crate::source::{Source, fault_of, open};
 use crate::stream::inflated;
 use gix_base::hash::ObjectId;
+use gix_base::object::Kind;
 use gix_files::{FileError, Folders, Opened};
 use gix_object::loose::{self, Header, MOST_HEADER, parse_header};
 use gix_zlib::{InflateError, inflate_front};
@@ -47,20 +48,34 @@ fn front<O: Opened, A: Allocator + Copy>(
     Err(source.damaged(0, Damage::Stream))
 }
 
+/// Reads the header of a file, and its first bytes into `first`.
+fn header<O: Opened, A: Allocator + Copy>(
+    alloc: A,
+    source: &Source<O>,
+    first: &mut Vec<u8, A>,
+) -> Result<Header, Fault> {
+    source.read_into(0, FIRST, first)?;
+    let front = front(alloc, source, first)?;
+    match parse_header(&front) {
+        Some(header) => Ok(header),
+        None => Err(source.damaged(0, Damage::Header)),
+    }
+}
+
 /// Returns how many bytes the header and the content have, if the header says a size in the limit.
+///
+/// Reads the first bytes of the file into `first`.
 fn whole_size<O: Opened, A: Allocator + Copy>(
     alloc: A,
     source: &Source<O>,
     first: &mut Vec<u8, A>,
     limit: usize,
 ) -> Result<usize, Fault> {
-    let front = front(alloc, source, first)?;
-    match parse_header(&front) {
-        Some(Header { size, len, .. }) if size <= limit as u64 => {
-            Ok(len.saturating_add(size as usize))
-        }
-        Some(_) => Err(source.unsupported(Feature::LargeObject)),
-        None => Err(source.damaged(0, Damage::Header)),
+    let Header { size, len, .. } = header(alloc, source, first)?;
+    if size <= limit as u64 {
+        Ok(len.saturating_add(size as usize))
+    } else {
+        Err(source.unsupported(Feature::LargeObject))
     }
 }
 
@@ -75,7 +90,6 @@ fn read_from<O: Opened, A: Allocator + Copy>(
     ensures failed { IfErr result (IsFailure id) }
 {
     let mut first = Vec::new(alloc);
-    source.read_into(0, FIRST, &mut first)?;
     let size = whole_size(alloc, source, &mut first, limit)?;
     let bytes = inflated(alloc, source, 0, &first, size)?;
     match loose::parse(&bytes) {
@@ -127,6 +141,25 @@ pub(crate) fn read<F: Folders, A: Allocator + Copy>(
     let path = loose_path(alloc, folder, id)?;
     match open(files, &path, name(number, id))? {
         Some(source) => read_from(alloc, &source, id, limit),
+        None => Err(absent(alloc, files, number, &path, id)),
+    }
+}
+
+/// Returns the kind that the header of the loose file for this id says. Fails with `Missing` if there
+/// is none.
+pub(crate) fn kind<F: Folders, A: Allocator + Copy>(
+    alloc: A,
+    files: &F,
+    number: usize,
+    folder: &[u8],
+    id: ObjectId,
+) -> Result<Kind, Failure> {
+    let path = loose_path(alloc, folder, id)?;
+    match open(files, &path, name(number, id))? {
+        Some(source) => {
+            let mut first = Vec::new(alloc);
+            Ok(header(alloc, &source, &mut first)?.kind)
+        }
         None => Err(absent(alloc, files, number, &path, id)),
     }
 }

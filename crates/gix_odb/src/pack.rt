@@ -13,6 +13,7 @@ use crate::object::{Object, accepted};
 use crate::paths::joined;
 use crate::source::open_listed;
 use gix_base::hash::ObjectId;
+use gix_base::object::Kind;
 use gix_files::Folders;
 use std::alloc::Allocator;
 
@@ -137,6 +138,25 @@ impl<F: Folders, A: Allocator + Copy> Pack<F, A> {
         match self.find(alloc, files, folder, id, chains)? {
             Some(at) => self.take(alloc, id, at, chains),
             None => Err(Failure::Missing),
+        }
+    }
+
+    /// Returns the kind that the pack says of the object with this id. Fails with `Missing` if the pack
+    /// does not have it.
+    pub(crate) fn kind(
+        &mut self,
+        alloc: A,
+        files: &F,
+        folder: &[u8],
+        id: ObjectId,
+        chains: &mut Chains<A>,
+    ) -> Result<Kind, Failure> {
+        let Some(at) = self.find(alloc, files, folder, id, chains)? else {
+            return Err(Failure::Missing);
+        };
+        match (&mut self.index, &mut self.body) {
+            (Some(index), Some(body)) => Ok(chains.kind(alloc, index, body, at)?),
+            _ => Err(Failure::Missing),
         }
     }
 

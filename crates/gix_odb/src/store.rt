@@ -10,6 +10,7 @@ ghost use Rattle.gix_odb.specs.Refusals.{IsRefused, IsNoCommit, IsNoTag};
 
 mod copies;
 mod finds;
+mod kinds;
 
 use crate::alternates::{Folder, Found, folders};
 use crate::chain::Chains;
@@ -99,7 +100,13 @@ impl<F: Folders + Drop, A: Allocator + Copy> Store<F, A> {
         more: &[&[u8]],
     ) -> Result<Store<F, A>, Error> {
         match folders(alloc, &files, path, more) {
-            Ok(Found { folders, fault }) => Store {
+            Ok(
+                Found {
+                    folders,
+                    paths: _,
+                    fault,
+                },
+            ) => Store {
                 files,
                 folders,
                 folders_fault: fault,
@@ -219,6 +226,26 @@ impl<F: Folders + Drop, A: Allocator + Copy> Store<F, A> {
         match self.read(alloc, id) {
             Ok(object) => Ok(object.kind),
             Err(error) => Err(error),
+        }
+    }
+
+    /// Returns the kind of the object with this id, as the header of a copy says it.
+    ///
+    /// The content is not read, so the copy may be damaged, or that of another object.
+    ///
+    /// # Errors
+    ///
+    /// Those of [`Store::read`], except `Altered`.
+    pub fn told_kind(&mut self, alloc: A, id: ObjectId) -> Result<Kind, Error>
+        // `Missing` names this id. None is about what the object says.
+        ensures refused { IfErr result (IsRefused id) }
+    {
+        match self.kind_settled(alloc, id) {
+            Ok(kind) => Ok(kind),
+            Err(failure) => match self.unfound(failure) {
+                Some(fault) => Err(fault.error()),
+                None => Err(Error::Missing(id)),
+            },
         }
     }
 

@@ -57,7 +57,7 @@ impl<F: Folders + Drop, A: Allocator + Copy> Store<F, A> {
     }
 
     /// Moves a pack to the front, since the next object is likely to be in it.
-    fn move_to_front(&mut self, place: usize) {
+    pub(super) fn move_to_front(&mut self, place: usize) {
         if place < self.packs.len() {
             self.packs.swap(0, place);
         }
@@ -65,7 +65,7 @@ impl<F: Folders + Drop, A: Allocator + Copy> Store<F, A> {
 
     /// Closes a pack whose copy failed, so that the next try opens it anew. One that does not have the
     /// object stays open.
-    fn close_failed(&mut self, place: usize, failure: Failure) {
+    pub(super) fn close_failed(&mut self, place: usize, failure: Failure) {
         match (failure, self.packs.get_mut(place)) {
             (Failure::Missing, _) | (_, None) => {}
             (_, Some(pack)) => pack.close(),

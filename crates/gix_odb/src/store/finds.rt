@@ -9,14 +9,17 @@ use gix_base::hash::ObjectId;
 use gix_files::Folders;
 use std::alloc::{AllocError, Allocator};
 
-/// Tells whether a look-up found a copy. Remembers its failure if it is another one than `Missing`.
-fn is_found(failure: &mut Failure, looked: Result<(), Failure>) -> Result<bool, Fault> {
+/// Returns what a look-up found. Remembers its failure if it is another one than `Missing`.
+pub(super) fn taken<T: Drop>(
+    failure: &mut Failure,
+    looked: Result<T, Failure>,
+) -> Result<Option<T>, Fault> {
     match looked {
-        Ok(()) => Ok(true),
+        Ok(found) => Ok(Some(found)),
         Err(Failure::InFile(Fault::OutOfMemory)) => Err(Fault::OutOfMemory),
         Err(next) => {
             *failure = failure.or(next);
-            Ok(false)
+            Ok(None)
         }
     }
 }
@@ -48,13 +51,13 @@ impl<F: Folders + Drop, A: Allocator + Copy> Store<F, A> {
         let mut failure = Failure::Missing;
         for place in 0..self.packs.len() {
             let looked = self.has_in_pack(alloc, place, id);
-            if is_found(&mut failure, looked)? {
+            if taken(&mut failure, looked)?.is_some() {
                 return Ok(());
             }
         }
         for number in 0..self.folders.len() {
             let looked = self.has_loose_in(alloc, number, id);
-            if is_found(&mut failure, looked)? {
+            if taken(&mut failure, looked)?.is_some() {
                 return Ok(());
             }
         }
@@ -114,11 +117,11 @@ impl<F: Folders + Drop, A: Allocator + Copy> Store<F, A> {
         let mut failure = Failure::Missing;
         for place in 0..self.packs.len() {
             let looked = self.complete_in_pack(alloc, place, found);
-            is_found(&mut failure, looked)?;
+            taken(&mut failure, looked)?;
         }
         for number in 0..self.folders.len() {
             let looked = self.complete_loose_in(alloc, number, found);
-            is_found(&mut failure, looked)?;
+            taken(&mut failure, looked)?;
         }
         Ok(failure)
     }
