@@ -148,6 +148,16 @@ fn target(
 
 /// Returns the commit to which an object leads through tags; `None` for another kind of object.
 fn peeled(session: &mut Session<'_>, start: Start) -> Result<Option<ObjectId>, Stop> {
+    match session.repository.peeled(start.id) {
+        Ok((id, Kind::Commit)) => Ok(Some(id)),
+        Ok(_) => Ok(None),
+        Err(_) => followed(session, start),
+    }
+}
+
+/// Returns what [`peeled`] does. Follows the tags one by one, and so finds git's end for one that leads
+/// nowhere.
+fn followed(session: &mut Session<'_>, start: Start) -> Result<Option<ObjectId>, Stop> {
     let mut id = start.id;
     for _ in 0..u32::MAX {
         match session.repository.kind(id)? {

@@ -15,7 +15,7 @@ use gix_revision::Seed;
 use gix_revision::date::Time;
 use gix_revision::hash::ObjectId;
 use std::alloc::{AllocError, AllocFailed, Allocator, Global};
-use std::collections::BTreeSet;
+use std::collections::{BTreeMap, BTreeSet};
 
 /// The id with zeros only, which no object has.
 const ZEROS: ObjectId = ObjectId([0u8; 20]);
@@ -344,6 +344,8 @@ impl<F: Places + Copy + Drop, A: Allocator + Copy> Repository<F, A> {
                 Mode::Authentic => Some(Loaded::new(alloc, opening.seed)),
                 Mode::Usual => None,
             },
+            tags: BTreeMap::new(alloc),
+            peeled: BTreeMap::new(alloc),
             messages: Vec::new(alloc),
         })
     }

@@ -7,16 +7,35 @@ use gix_history::ReadError;
 use gix_odb::{Object, Tag};
 use gix_revision::hash::ObjectId;
 use gix_revision::object::Kind;
-use std::alloc::Allocator;
+use std::alloc::{AllocError, Allocator};
 
 /// How many tags are followed from one object. git follows any number, also in a circle that
 /// replacements make.
 const MOST_TAGS: u32 = 1024;
 
+/// The object to which a tag leads through all tags.
+#[derive(Clone, Copy)]
+pub(crate) struct Peeled {
+    id: ObjectId,
+    kind: Kind,
+    /// How many tags lead to it, with this one.
+    tags: u32,
+}
+
 /// Returns the id in the line `tree ID` with which the content of a commit begins.
 fn tree_line(content: &[u8]) -> Option<ObjectId> {
     let rest = content.strip_prefix(b"tree ".as_slice())?;
     ObjectId::from_hex(rest.get(..40)?).ok()
+}
+
+/// Returns a copy of what a tag says.
+fn copied<A: Allocator + Copy>(alloc: A, tag: &Tag<A>) -> Result<Tag<A>, AllocError> {
+    Ok(Tag {
+        target: tag.target,
+        kind: tag.kind,
+        name: tag.name.to_vec(alloc)?,
+        date: tag.date,
+    })
 }
 
 /// Returns why the object `by` was not read, which stands for `id`.
@@ -53,6 +72,17 @@ impl<F: Folders + Drop, A: Allocator + Copy> Repository<F, A> {
         self.history.reader.changes.stand_in(id) != Some(id)
     }
 
+    /// Returns the kind that an object has. Its header says it, as in git; in authentic mode the whole
+    /// object is read.
+    fn stored_kind(&mut self, id: ObjectId) -> Result<Kind, gix_odb::Error> {
+        let alloc = self.alloc;
+        if self.loaded.is_some() {
+            self.history.reader.store.kind(alloc, id)
+        } else {
+            self.history.reader.store.told_kind(alloc, id)
+        }
+    }
+
     /// Returns the kind of an object, of the one that stands for it if it is replaced.
     ///
     /// # Errors
@@ -62,12 +92,11 @@ impl<F: Folders + Drop, A: Allocator + Copy> Repository<F, A> {
     /// - `Fatal` if it is replaced too many times in turn. The message is among the messages.
     /// - `OutOfMemory` if an allocation failed.
     pub fn kind(&mut self, id: ObjectId) -> Result<Kind, Refusal> {
-        let alloc = self.alloc;
         let by = self.stand_in(id)?;
         if self.history.reader.checked.contains(&by) {
             return Ok(Kind::Commit);
         }
-        match self.history.reader.store.kind(alloc, by) {
+        match self.stored_kind(by) {
             Ok(kind) => Ok(kind),
             Err(error) => Err(not_read(id, by, error)),
         }
@@ -96,7 +125,7 @@ impl<F: Folders + Drop, A: Allocator + Copy> Repository<F, A> {
         }
     }
 
-    /// Returns what an annotated tag says.
+    /// Returns what an annotated tag says. Its object is read once.
     ///
     /// # Errors
     ///
@@ -104,10 +133,16 @@ impl<F: Folders + Drop, A: Allocator + Copy> Repository<F, A> {
     /// - `Replaced` and `Fatal` as for [`Repository::kind`].
     /// - `OutOfMemory` if an allocation failed.
     pub fn tag(&mut self, id: ObjectId) -> Result<Tag<A>, Refusal> {
+        if let Some(tag) = self.tags.get(&id) {
+            return Ok(copied(self.alloc, tag)?);
+        }
         let alloc = self.alloc;
         let by = self.stand_in(id)?;
         match self.history.reader.store.tag(alloc, by) {
-            Ok(tag) => Ok(tag),
+            Ok(tag) => {
+                self.tags.insert(id, copied(alloc, &tag)?)?;
+                Ok(tag)
+            }
             Err(error) => Err(not_read(id, by, error)),
         }
     }
@@ -165,6 +200,39 @@ impl<F: Folders + Drop, A: Allocator + Copy> Repository<F, A> {
         }
     }
 
+    /// Returns where an object leads, through tags until one of which this is known. Adds the tags on
+    /// the way to `passed`.
+    fn end_of(&mut self, id: ObjectId, passed: &mut Vec<ObjectId, A>) -> Result<Peeled, Refusal> {
+        let mut at = (id, self.kind(id)?);
+        for _ in 0..=MOST_TAGS {
+            if let Some(known) = self.peeled.get(&at.0) {
+                return Ok(*known);
+            }
+            match at {
+                (tag, Kind::Tag) => {
+                    at = self.tagged(tag)?;
+                    passed.push(tag)?;
+                }
+                (id, kind) => return Ok(Peeled { id, kind, tags: 0 }),
+            }
+        }
+        Err(Refusal::NotSupported(Unsupported::Tags))
+    }
+
+    /// Returns where an object leads, and notes it of each tag on the way.
+    fn followed(&mut self, id: ObjectId) -> Result<Peeled, Refusal> {
+        let mut passed = Vec::new(self.alloc);
+        let mut end = self.end_of(id, &mut passed)?;
+        for tag in passed.iter().rev() {
+            if end.tags >= MOST_TAGS {
+                return Err(Refusal::NotSupported(Unsupported::Tags));
+            }
+            end.tags = end.tags.saturating_add(1);
+            self.peeled.insert(*tag, end)?;
+        }
+        Ok(end)
+    }
+
     /// Returns the object to which `id` leads through all tags, and its kind (gitrevisions,
     /// `<rev>^{}`). A commit is read as by [`Repository::check`].
     ///
@@ -176,18 +244,11 @@ impl<F: Folders + Drop, A: Allocator + Copy> Repository<F, A> {
     /// - `NotSupported` if there are more than 1,024 tags on the way.
     /// - `OutOfMemory` if an allocation failed.
     pub fn peeled(&mut self, id: ObjectId) -> Result<(ObjectId, Kind), Refusal> {
-        let mut at = (id, self.kind(id)?);
-        for _ in 0..MOST_TAGS {
-            match at {
-                (tag, Kind::Tag) => at = self.tagged(tag)?,
-                (commit, Kind::Commit) => {
-                    self.check(commit)?;
-                    return Ok(at);
-                }
-                _ => return Ok(at),
-            }
+        let Peeled { id, kind, tags: _ } = self.followed(id)?;
+        if kind == Kind::Commit {
+            self.check(id)?;
         }
-        Err(Refusal::NotSupported(Unsupported::Tags))
+        Ok((id, kind))
     }
 
     /// Returns the commit to which an object leads through tags; `None` if it is another kind of

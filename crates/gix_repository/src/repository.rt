@@ -5,15 +5,18 @@ ghost use Rattle.gix_repository.specs.Answers.{answered_over};
 
 use crate::commits::Commits;
 use crate::error::{Refusal, Unsupported};
+use crate::peel::Peeled;
 use gix_discover::{Abbrev, Layout, Settings};
 use gix_files::Folders;
 use gix_history::{Beyond, History, Loaded, Question, ReadError};
+use gix_odb::Tag;
 use gix_ref::{Listing, References, Skipped, Why};
 use gix_revision::Seed;
 use gix_revision::date::Time;
 use gix_revision::graph::SourceCommit;
 use gix_revision::hash::ObjectId;
 use std::alloc::{Allocator, Global};
+use std::collections::BTreeMap;
 
 /// Reads a repository, and answers questions about it.
 ///
@@ -39,6 +42,10 @@ pub struct Repository<F: Folders + Drop, A: Allocator + Copy = Global> {
     pub(crate) history: History<Commits<F, A>, A>,
     /// In authentic mode, the commits that were loaded.
     pub(crate) loaded: Option<Loaded<A>>,
+    /// What the tags say that were read.
+    pub(crate) tags: BTreeMap<ObjectId, Tag<A>, A>,
+    /// Where the tags lead that were followed.
+    pub(crate) peeled: BTreeMap<ObjectId, Peeled, A>,
     /// What git would print on standard error.
     pub(crate) messages: Vec<u8, A>,
 }

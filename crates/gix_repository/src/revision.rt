@@ -379,18 +379,18 @@ impl<F: Folders + Drop, A: Allocator + Copy> Repository<F, A> {
         }
     }
 
-    /// Fails if an object is a commit or a tag, and is malformed.
+    /// Fails if an object is damaged, or is a commit or a tag and is malformed.
     pub(crate) fn expect_sound(&mut self, id: ObjectId, kind: object::Kind) -> Result<(), Refusal> {
         match kind {
-            object::Kind::Commit => {
-                self.entry(id)?;
-                Ok(())
-            }
+            object::Kind::Commit => self.check(id),
             object::Kind::Tag => {
                 self.tag(id)?;
                 Ok(())
             }
-            _ => Ok(()),
+            object::Kind::Tree | object::Kind::Blob => {
+                self.read_object(id)?;
+                Ok(())
+            }
         }
     }
 

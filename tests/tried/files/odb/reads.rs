@@ -38,6 +38,8 @@ enum Ask {
     Read(ObjectId),
     /// Whether the store has the object.
     Has(ObjectId),
+    /// Whether a header says the kind of the object.
+    Tells(ObjectId),
     /// Whether the id is the only one that begins with a prefix.
     Completes(ObjectId, Prefix),
     /// Whether a missing object is reported.
@@ -88,6 +90,7 @@ fn asked<F: Folders + Drop, A: Allocator + Copy>(
     match ask {
         Ask::Read(id) => reads(alloc, store, id),
         Ask::Has(id) => store.has(alloc, id),
+        Ask::Tells(id) => Ok(store.told_kind(alloc, id)? == store.kind(alloc, id)?),
         Ask::Completes(id, prefix) => completes(alloc, store, id, prefix),
         Ask::Misses => misses(alloc, store),
     }
@@ -139,6 +142,7 @@ fn is_found<F: Folders + Drop, A: Allocator + Copy>(
     };
     holds(alloc, store, Ask::Completes(id, prefix), is_whole)
         && holds(alloc, store, Ask::Has(id), is_whole)
+        && holds(alloc, store, Ask::Tells(id), is_whole)
         && holds(alloc, store, Ask::Read(id), is_whole)
 }
 
