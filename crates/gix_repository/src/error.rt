@@ -155,7 +155,10 @@ impl fmt::Display for Refusal {
             Refusal::Reference(error) => write!(f, "{error}"),
             Refusal::Graph(error) => write!(f, "{error}"),
             Refusal::Differs(id) => {
-                write!(f, "the commit-graph says something else of commit {id} than its object")
+                write!(
+                    f,
+                    "the commit-graph says something else of commit {id} than its object"
+                )
             }
             Refusal::OutOfMemory => f.write_str("out of memory"),
         }
