@@ -18,10 +18,13 @@ check: ## run the full check: all proofs, mutants and tests
 	tools/test
 
 install: ## build, then install below PREFIX (DESTDIR is put in front)
-	DESTDIR='$(DESTDIR)' tools/install '$(PREFIX)'
+	DESTDIR='$(DESTDIR)' FROM='$(FROM)' tools/install '$(PREFIX)'
 
-package: ## build, then put packages that need no toolchain into dist/
-	tools/package
+package: ## build, then put the link kit and packages that need no toolchain into dist/
+	FROM='$(FROM)' tools/package
+
+release: ## put the link kit into releases/, after a full check of this commit
+	tools/release
 
 uninstall: ## remove what install has put below PREFIX
 	DESTDIR='$(DESTDIR)' tools/install --uninstall '$(PREFIX)'
@@ -38,4 +41,4 @@ clean: ## remove what was proved and built, the packages and the reference
 help: ## print the targets
 	@sed -nE 's/^([a-z-]+): ## (.*)/make \1\t\2/p' Makefile | expand -t 17
 
-.PHONY: all revtool git-proved try check install package uninstall doc bench clean help
+.PHONY: all revtool git-proved try check install package release uninstall doc bench clean help

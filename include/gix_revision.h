@@ -105,8 +105,8 @@ extern "C" {
 #endif
 
 /* The version of this header, as a text and as a number. */
-#define GIX_VERSION "1.0.0"
-#define GIX_VERSION_NUMBER 10000
+#define GIX_VERSION "0.9.0"
+#define GIX_VERSION_NUMBER 900
 
 /* A function whose result must not be ignored. */
 #if defined(__GNUC__) || defined(__clang__)

@@ -1,8 +1,10 @@
-# Says whether this version fits the one that find_package wants: the first number is the same, and
-# this version is not an earlier one.
+# Says whether this version fits the one that find_package wants: the soname is the same, which ends
+# with the first number of the version, or the first two while the first is 0, and this version is
+# not an earlier one.
 set(PACKAGE_VERSION "@VERSION@")
-string(REGEX MATCH "^[0-9]+" _gix_revision_major "${PACKAGE_VERSION}")
-if(PACKAGE_FIND_VERSION_MAJOR AND NOT PACKAGE_FIND_VERSION_MAJOR EQUAL _gix_revision_major)
+string(REGEX MATCH "^(0\\.)?[0-9]+" _gix_revision_this "${PACKAGE_VERSION}")
+string(REGEX MATCH "^(0\\.)?[0-9]+" _gix_revision_wanted "${PACKAGE_FIND_VERSION}")
+if(PACKAGE_FIND_VERSION AND NOT _gix_revision_wanted STREQUAL _gix_revision_this)
     set(PACKAGE_VERSION_COMPATIBLE FALSE)
 elseif(PACKAGE_VERSION VERSION_LESS PACKAGE_FIND_VERSION)
     set(PACKAGE_VERSION_COMPATIBLE FALSE)
@@ -12,4 +14,5 @@ else()
         set(PACKAGE_VERSION_EXACT TRUE)
     endif()
 endif()
-unset(_gix_revision_major)
+unset(_gix_revision_this)
+unset(_gix_revision_wanted)

@@ -1,4 +1,4 @@
-# Finds gix_revision for CMake: find_package(gix_revision 1.0), with these targets to link:
+# Finds gix_revision for CMake: find_package(gix_revision 0.9), with these targets to link:
 #
 #   gix_revision::gix_revision   the shared library
 #   gix_revision::static         the archive, which needs nothing when the program runs

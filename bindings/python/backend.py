@@ -1,6 +1,6 @@
 """Builds the package for pip, without any other package: the two hooks of PEP 517 that are mandatory.
 
-The shared library and git-proved are not inside; tools/package.d/wheel.py makes the wheel that has them.
+The shared library and git-proved are not inside; kit/tools/package.d/wheel.py makes the wheel that has them.
 """
 
 from __future__ import annotations

@@ -60,7 +60,7 @@ from ._history import Commit, Description, History, Kind, Names, Span
 from ._library import File, Id, Text, graph_fault, library_version
 from ._repository import Reference, Repository
 
-__version__ = "1.0.0"
+__version__ = "0.9.0"
 
 __all__ = [
     "AlreadyThere",

@@ -89,7 +89,7 @@ _PARAMETERS: dict[str, tuple[object, ...]] = {
     "count": (Handle, _Span, _Count),
 }
 
-_NAME = "libgix_revision.so.1"
+_NAME = "libgix_revision.so.0.9"
 
 
 def _path() -> str:

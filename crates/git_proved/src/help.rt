@@ -37,4 +37,4 @@ lists the options of a command. The manual page git-proved(1) explains them.
 ";
 
 /// The version: what `git proved --version` prints.
-pub(crate) const VERSION: &[u8] = b"git-proved 1.0.0\n";
+pub(crate) const VERSION: &[u8] = b"git-proved 0.9.0\n";

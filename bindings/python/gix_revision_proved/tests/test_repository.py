@@ -80,13 +80,13 @@ class Programs(unittest.TestCase):
         return path
 
     def test_places(self) -> None:
-        library = f"{self.folder}/lib/libgix_revision.so.1"
+        library = f"{self.folder}/lib/libgix_revision.so.0.9"
         with self.assertRaises(FileNotFoundError):
             _program(library)
         on_path = self.put("path")
         self.assertEqual(_program(library), on_path)
         in_package = self.put("package")
-        self.assertEqual(_program("libgix_revision.so.1"), in_package)
+        self.assertEqual(_program("libgix_revision.so.0.9"), in_package)
         in_bin = self.put("bin")
         self.assertEqual(_program(library), in_bin)
         beside = self.put("lib")

@@ -1,3 +1,4 @@
+#!/usr/bin/env -S python3 -B
 """Writes the tarball, all that is installed under one prefix: tarball.py PREFIX FOLDER
 
 It may be unpacked anywhere: pkg-config finds the prefix from the place of its own file.

@@ -1,7 +1,8 @@
+#!/usr/bin/env -S python3 -B
 """Writes the three packages for Debian and its kin: debs.py PREFIX FOLDER
 
 - gix-revision-proved has the programs, their manual pages, the completion, and documents.
-- libgix-revision1 has the shared library; the number is that of its soname.
+- libgix-revisionN has the shared library; N is the end of its soname.
 - libgix-revision-dev has the header, the archive, the files for pkg-config and CMake, and documents.
 
 No package has a script that runs when it is installed.
@@ -21,9 +22,9 @@ from archives import EPOCH, PROGRAMS, File, ar_of, bytes_of, files_below, folder
 from documents import OF_PROGRAMS, documents, origin, pages
 
 VERSION = os.environ["VERSION"]
-MAJOR = VERSION.split(".")[0]
-SONAME = f"libgix_revision.so.{MAJOR}"
-LIBRARY = f"libgix-revision{MAJOR}"
+SONAME = os.environ["SONAME"]
+NUMBER = SONAME.removeprefix("libgix_revision.so.")
+LIBRARY = f"libgix-revision{NUMBER}"
 MAINTAINER = "The gix_revision developers <maintainers@users.noreply.baeftolk.example>"
 # Where Debian has libraries, so that several architectures can be installed.
 FOLDER = "usr/lib/x86_64-linux-gnu"
@@ -39,9 +40,7 @@ WHAT = """\
 # What lintian reports and is wanted so, by package, with the reason.
 OVERRIDES = {
     "gix-revision-proved": """\
-# The programs are byte for byte those that were proved and built.
-gix-revision-proved: unstripped-binary-or-object [usr/libexec/gix_revision/bin/*]
-# They are not compiled from C.
+# The programs are not compiled from C.
 gix-revision-proved: hardening-no-fortify-functions [usr/libexec/gix_revision/bin/*]
 """,
 }
@@ -78,7 +77,7 @@ def programs(prefix: str) -> Package:
 def exported() -> list[tuple[str, str]]:
     """Returns the symbols of the shared library, and the first two numbers of the version that had each first."""
     found = []
-    for node, since, names in re.findall(r"^(GIX_REVISION_([\d.]+)) \{(.*?)^\}", bytes_of("tools/library.map").decode(), re.M | re.S):
+    for node, since, names in re.findall(r"^(GIX_REVISION_([\d.]+)) \{(.*?)^\}", bytes_of("library.map").decode(), re.M | re.S):
         found += [(f"{it}@{node}", since) for it in [node, *re.findall(r"\bgix_\w+(?=;)", names)]]
     return sorted(found)
 
@@ -88,7 +87,7 @@ def library(prefix: str) -> Package:
     symbols = f"{SONAME} {LIBRARY} #MINVER#\n* Build-Depends-Package: libgix-revision-dev\n"
     symbols += "".join(f" {it} {since}.0\n" for it, since in exported())
     control = [
-        File("shlibs", f"libgix_revision {MAJOR} {LIBRARY} (>= {VERSION})\n".encode()),
+        File("shlibs", f"libgix_revision {NUMBER} {LIBRARY} (>= {VERSION})\n".encode()),
         File("symbols", symbols.encode()),
         File("triggers", b"activate-noawait ldconfig\n"),
     ]
@@ -119,20 +118,31 @@ def depends_of(*paths: str) -> str:
     return ", ".join([libc, *(it for it in needs.packages if it != "libc6")])
 
 
+def field(text: str) -> str:
+    """Returns a text as the lines of a field after its first one."""
+    return "".join(f" {it or '.'}\n" for it in text.rstrip("\n").split("\n"))
+
+
 def copyright_of(prefix: str) -> bytes:
     """Returns the file `copyright`, with the license of this project and those of the toolchain's crates."""
-    mit = bytes_of("LICENSE-MIT").decode()
+    holder, mit = re.fullmatch(r".*^Copyright \(c\) (.*?)\n+(.*)", bytes_of("LICENSE-MIT").decode(), re.M | re.S).groups()
     third = bytes_of(f"{prefix}/share/licenses/gix_revision/THIRD-PARTY").decode()
-    return f"""The programs and the library gix_revision are licensed under the MIT license or
-the Apache license, version 2.0, at your choice. On Debian systems, the file
-/usr/share/common-licenses/Apache-2.0 has the latter.
+    return f"""Format: https://www.debian.org/doc/packaging-manuals/copyright-format/1.0/
+Upstream-Name: gix_revision
+Comment:
+ The compiled code also contains parts of crates of the Rattle toolchain. These
+ are their licenses.
+ .
+{field(third)}
+Files: *
+Copyright: {holder}
+License: MIT or Apache-2.0
 
-{mit}
-
-The compiled code also contains parts of crates of the Rattle toolchain. These
-are their licenses.
-
-{third}""".encode()
+License: MIT
+{field(mit)}
+License: Apache-2.0
+ On Debian systems, /usr/share/common-licenses/Apache-2.0 has this license.
+""".encode()
 
 
 def changelog() -> bytes:

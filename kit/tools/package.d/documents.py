@@ -4,8 +4,6 @@ from __future__ import annotations
 
 import os
 import re
-import subprocess
-import tempfile
 
 from archives import File, bytes_of, files_below
 
@@ -33,14 +31,8 @@ def pages(folder: str, names: tuple[str, ...]) -> list[File]:
 def documents(folder: str) -> list[File]:
     """Returns the pages for users of the library, the examples in C, and the reference in HTML."""
     examples = [File(f"{folder}/examples/{it}.c", bytes_of(f"examples/c/{it}.c")) for it in ("bases", "libgit2")]
-    return [*pages(folder, OF_LIBRARY), *examples, *reference(f"{folder}/reference")]
-
-
-def reference(folder: str) -> list[File]:
-    """Returns the pages that tools/doc makes."""
-    with tempfile.TemporaryDirectory() as room:
-        subprocess.run(["tools/doc", f"{room}/doc"], check=True, stdout=subprocess.DEVNULL)
-        return [it.at(f"{folder}/{it.path}") for it in files_below(f"{room}/doc")]
+    reference = [it.at(f"{folder}/reference/{it.path}") for it in files_below("docs/reference")]
+    return [*pages(folder, OF_LIBRARY), *examples, *reference]
 
 
 def origin() -> str:

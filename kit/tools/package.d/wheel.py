@@ -1,3 +1,4 @@
+#!/usr/bin/env -S python3 -B
 """Writes the wheel, the Python package with the shared library and git-proved inside: wheel.py PREFIX FOLDER
 
 It is tagged for the oldest glibc that both run on.
@@ -14,7 +15,7 @@ from archives import PROGRAMS, File, bytes_of, needs_of, python_package, write, 
 from documents import origin
 
 VERSION = os.environ["VERSION"]
-SONAME = f"libgix_revision.so.{VERSION.split('.')[0]}"
+SONAME = os.environ["SONAME"]
 NAME = f"gix_revision_proved-{VERSION}"
 
 METADATA = f"""Metadata-Version: 2.1
@@ -42,8 +43,10 @@ def contents(prefix: str, tag: str) -> list[File]:
     described = f"Wheel-Version: 1.0\nGenerator: gix_revision ({VERSION})\nRoot-Is-Purelib: false\nTag: {tag}\n"
     files = python_package()
     files.append(File(f"gix_revision_proved/{SONAME}", bytes_of(f"{prefix}/lib/{SONAME}")))
-    # Repository finds the program beside the library.
-    files.append(File("gix_revision_proved/git-proved", bytes_of(f"{prefix}/{PROGRAMS}/git-proved"), runs=True))
+    # Repository finds the program beside the library, and git finds the one that pip puts into bin/.
+    program = bytes_of(f"{prefix}/{PROGRAMS}/git-proved")
+    for folder in ("gix_revision_proved", f"{NAME}.data/scripts"):
+        files.append(File(f"{folder}/git-proved", program, runs=True))
     for it in ("LICENSE-APACHE", "LICENSE-MIT", "THIRD-PARTY"):
         files.append(File(f"{info}/licenses/{it}", bytes_of(f"{prefix}/share/licenses/gix_revision/{it}")))
     return [*files, File(f"{info}/METADATA", METADATA.encode()), File(f"{info}/WHEEL", described.encode())]
