@@ -319,7 +319,8 @@ def with_parent(graph: bytes, id: str, parent: str) -> bytes:
 
 
 def deceived(asked: Asked, room: Room) -> None:
-    """The commit-graph file leaves a commit out of a line. The one above it is asked for late in a batch."""
+    """The commit-graph file leaves a commit out of a line. The one above it is asked for late in a batch, and refused, since its object has another
+    parent."""
     place = in_line(room, "deceived", 60)
     place.git("commit-graph", "write", "--reachable")
     path = Path(os.fsdecode(place.path), ".git/objects/info/commit-graph")
@@ -328,7 +329,7 @@ def deceived(asked: Asked, room: Room) -> None:
     for before in (place.ids[:30], place.ids[50:]):
         batch = asked.batch(place)
         batch.ask(*(f"rev-list --count {id}" for id in before))
-        asked.expect(place, "a count", batch.ask(f"rev-list --count {place.ids[40]}"), [(0, b"41\n")])
+        asked.expect(place, "a count", batch.ask(f"rev-list --count {place.ids[40]}"), [(125, b"")])
         batch.end()
 
 
