@@ -213,10 +213,26 @@ impl<F: Folders + Drop, A: Allocator + Copy> Repository<F, A> {
                     at = self.tagged(tag)?;
                     passed.push(tag)?;
                 }
-                (id, kind) => return Ok(Peeled { id, kind, tags: 0 }),
+                (id, Kind::Commit) => {
+                    return Ok(Peeled {
+                        id,
+                        kind: Kind::Commit,
+                        tags: 0,
+                    });
+                }
+                (id, _) => return self.read_end(id),
             }
         }
         Err(Refusal::NotSupported(Unsupported::Tags))
+    }
+
+    /// Reads a tree or a blob, once, and returns that it leads to itself. If its pack is damaged, its
+    /// header may be that of another kind of object.
+    fn read_end(&mut self, id: ObjectId) -> Result<Peeled, Refusal> {
+        let Object { kind, content: _ } = self.read_object(id)?;
+        let end = Peeled { id, kind, tags: 0 };
+        self.peeled.insert(id, end)?;
+        Ok(end)
     }
 
     /// Returns where an object leads, and notes it of each tag on the way.

@@ -44,7 +44,7 @@ pub struct Repository<F: Folders + Drop, A: Allocator + Copy = Global> {
     pub(crate) loaded: Option<Loaded<A>>,
     /// What the tags say that were read.
     pub(crate) tags: BTreeMap<ObjectId, Tag<A>, A>,
-    /// Where the tags lead that were followed.
+    /// Where the tags lead that were followed, and the trees and blobs at their ends.
     pub(crate) peeled: BTreeMap<ObjectId, Peeled, A>,
     /// What git would print on standard error.
     pub(crate) messages: Vec<u8, A>,
