@@ -169,7 +169,11 @@ fn followed(session: &mut Session<'_>, start: Start) -> Result<Option<ObjectId>,
                 Some(target) => id = target,
                 None => return Ok(None),
             },
-            _ => return Ok(None),
+            // In a damaged pack its header may be that of another kind of object.
+            _ => {
+                session.repository.read_object(id)?;
+                return Ok(None);
+            }
         }
     }
     Ok(None)
