@@ -152,7 +152,7 @@ fn without_parent<'w>(alloc: Global, word: &'w [u8]) -> Result<Option<Shorthand<
 ///
 /// # Errors
 ///
-/// `NotRead` for a number that is not read.
+/// `NotSupported` for a number that C reads in another form.
 pub fn shorthand_of<'w>(alloc: Global, word: &'w [u8]) -> Result<Option<Shorthand<'w>>, Stop> {
     let (text, marked) = if let Some(text) = before_mark(word, b"^@") {
         (text, Marked::Parents)
