@@ -2,6 +2,6 @@
 
 mod fake;
 mod finds;
-mod settings;
+mod refspecs;
 mod tables;
 mod texts;

@@ -1,6 +1,6 @@
 //! Asks the questions of `describe`.
 
-use crate::table::{Name, Table};
+use crate::table::Table;
 use crate::walk::{Candidate, Found, Search};
 use git_session::session::Session;
 use git_session::stop::{Stop, not_supported};
@@ -88,21 +88,6 @@ fn answer(
         },
         None => Ok(None),
     }
-}
-
-/// Returns whether a commit has a name of its own, by the question.
-pub(crate) fn is_own(
-    session: &mut Session<'_>,
-    commit: ObjectId,
-    name: &Name,
-) -> Result<bool, Stop> {
-    let search = Search {
-        most: 0,
-        first_parent: false,
-    };
-    let mut question = of_none(session, commit, search);
-    give(&mut question, name.object, rank(0))?;
-    Ok(answer(session, &question)? == Some((0, 0)))
 }
 
 /// Returns whether an ancestor of a commit has one of the names of a question.

@@ -6,7 +6,7 @@
 use crate::head::{files_of, head_tree};
 use crate::work_tree::{open_tree, read_index, top_of};
 use git_session::session::Session;
-use git_session::stop::{Stop, failed, not_supported, refused, unread};
+use git_session::stop::{Stop, failed, not_supported, unread};
 use gix_files::{FileError, System};
 use gix_index::{
     Difference, Entry, FileKind, Index, Look, Looked, WorkTree, are_sorted, first_difference,
@@ -133,18 +133,6 @@ fn counts(session: &Session<'_>, difference: Difference<'_>) -> Result<bool, Sto
     }
 }
 
-/// Checks the settings that git reads for `--dirty`. It may refuse one that is malformed.
-fn check_settings(session: &Session<'_>) -> Result<(), Stop> {
-    match session
-        .repository
-        .settings()
-        .check_for_work_tree(session.alloc)
-    {
-        Ok(()) => Ok(()),
-        Err(error) => Err(refused(session.alloc, &error)),
-    }
-}
-
 /// Returns whether the working tree differs from the commit of `HEAD`, as git says it.
 ///
 /// # Errors
@@ -154,7 +142,6 @@ fn check_settings(session: &Session<'_>) -> Result<(), Stop> {
 /// - `OutOfMemory` if an allocation failed.
 pub(crate) fn is_dirty(session: &mut Session<'_>) -> Result<bool, Stop> {
     let top = top_of(session)?;
-    check_settings(session)?;
     let (index, written) = read_index(session, &top)?;
     let head = head_tree(session)?;
     let looked = look_at_tree(session, &index, &top, written)?;

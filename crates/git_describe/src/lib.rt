@@ -14,7 +14,7 @@ mod table;
 mod walk;
 mod work_tree;
 
-use crate::ask::{is_any_reached, is_own, nearest, question};
+use crate::ask::{is_any_reached, nearest, question};
 pub use crate::asked::add_options;
 use crate::asked::{Abbrev, Asked};
 use crate::dirty::is_dirty;
@@ -349,9 +349,7 @@ impl<'w> Describer<'w> {
         // The commit is read alone, and not with its ancestors.
         session.repository.entry(commit)?;
         if let Some(name) = self.table.name_of(commit) {
-            if is_own(session, commit, &name)? {
-                return self.print_own(session, &name, object);
-            }
+            return self.print_own(session, &name, object);
         }
         if self.asked.candidates == 0 {
             return Err(unmatched(session.alloc, commit));

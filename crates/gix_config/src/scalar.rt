@@ -95,43 +95,6 @@ pub fn number(text: &[u8]) -> Option<i64> {
     (number != i64::MIN).then_some(number)
 }
 
-/// Reads digits of a size, and returns their number and what follows them.
-///
-/// Returns `None` if there is no digit, or the number does not fit.
-fn size_digits(text: &[u8], base: u32) -> Option<(u64, &[u8])> {
-    let mut rest = text;
-    let mut value = 0u64;
-    for _ in 0..text.len() {
-        let Some((byte, after)) = rest.split_first() else {
-            break;
-        };
-        let Some(next) = digit(*byte, base) else {
-            break;
-        };
-        value = value
-            .checked_mul(u64::from(base))?
-            .checked_add(next.unsigned_abs())?;
-        rest = after;
-    }
-    if rest.len() == text.len() {
-        return None;
-    }
-    Some((value, rest))
-}
-
-/// Reads a size as git does: a number without a minus sign that fits 64 bits.
-///
-/// Returns `None` if the text is not such a number, or if it does not fit.
-pub fn size(text: &[u8]) -> Option<u64> {
-    if text.contains(&b'-') {
-        return None;
-    }
-    let (_, rest) = signed(text);
-    let (base, rest) = base_of(rest);
-    let (value, rest) = size_digits(rest, base)?;
-    value.checked_mul(unit(rest)?.unsigned_abs())
-}
-
 /// Reads the words for a boolean; `None` if the text is none of them.
 fn boolean_word(text: &[u8]) -> Option<bool> {
     if text.is_empty() || is_word(text, b"false") || is_word(text, b"no") || is_word(text, b"off") {

@@ -56,14 +56,8 @@ pub enum Reason {
     BadNumber,
     /// The length of abbreviated object names is not between 4 and 40.
     BadAbbrev,
-    /// The value of the setting is not one of those that git takes.
-    BadValue,
     /// The value of the variable is not supported.
     UnsupportedValue,
-    /// The value of the setting is malformed, and git fails when it first looks for an object.
-    BadReadSetting,
-    /// The value of the setting is not a refspec.
-    BadRefspec,
     /// The path of the setting begins with `~user`, or with `~`, and `HOME` is not set.
     UnexpandedPath,
     /// Config files include one another more than ten deep.
@@ -241,10 +235,7 @@ fn reason_text(reason: Reason) -> &'static str {
         Reason::BadBoolean => "bad boolean config value",
         Reason::BadNumber => "bad numeric config value",
         Reason::BadAbbrev => "abbrev length out of range",
-        Reason::BadValue => "malformed value",
         Reason::UnsupportedValue => "unsupported value",
-        Reason::BadReadSetting => "malformed value for",
-        Reason::BadRefspec => "invalid refspec",
         Reason::UnexpandedPath => "failed to expand user dir in:",
         Reason::IncludeDepth => "exceeded maximum include depth (10) at",
         Reason::RelativeInclude => "relative config includes must come from files",

@@ -1,6 +1,5 @@
 //! Checks to whom a repository belongs (git-config, "safe.directory").
 
-use crate::checks::is_unexpanded;
 use crate::environment::{Environment, Variable};
 use crate::error::{DiscoverError, Reason, about};
 use crate::include::Reader;
@@ -44,14 +43,11 @@ fn expanded<A: Allocator + Copy>(
     environment: &Environment<A>,
     path: &[u8],
 ) -> Result<Vec<u8, A>, DiscoverError<A>> {
-    let home = environment.get(Variable::Home);
-    if is_unexpanded(path, home.is_some()) {
-        return Err(about(alloc, Reason::UnexpandedPath, path));
-    }
-    match (path, home) {
+    match (path, environment.get(Variable::Home)) {
         ([b'~'] | [b'~', b'/', ..], Some(home)) => {
             Ok(joined(alloc, home, b"", path.get(1..).unwrap_or(&[]))?)
         }
+        ([b'~', ..], _) => Err(about(alloc, Reason::UnexpandedPath, path)),
         _ => Ok(path.to_vec(alloc)?),
     }
 }

@@ -1,5 +1,4 @@
-//! Decides what is a refspec (git-fetch, "<refspec>"; git-push, "<refspec>..."), or a namespace
-//! (gitnamespaces).
+//! Decides what is a refspec, or a namespace (gitnamespaces).
 
 use memchr::memrchr;
 
@@ -73,32 +72,18 @@ fn sides(text: &[u8]) -> (&[u8], Option<&[u8]>) {
     }
 }
 
-/// Tells whether a text is all of an object name, in hexadecimal digits.
-fn is_id(text: &[u8]) -> bool {
-    text.len() == 40 && text.iter().all(|b| b.is_ascii_hexdigit())
-}
-
-/// Tells whether a text, which follows a `^`, excludes references.
-fn is_excluding(name: &[u8]) -> bool {
-    is_source(name) && !is_id(name)
-}
-
-/// Tells whether a text is a refspec of `remote.NAME.fetch`.
-pub(crate) fn is_fetch(text: &[u8]) -> bool {
-    if let Some(name) = text.strip_prefix(b"^") {
-        return is_excluding(name);
-    }
+/// Tells whether a text is a refspec of `remote.NAME.fetch` that does not begin with `^`
+/// (git-fetch, "<refspec>").
+pub fn is_fetch(text: &[u8]) -> bool {
     let (from, to) = sides(text.strip_prefix(b"+").unwrap_or(text));
     let to = to.unwrap_or(&[]);
     let is_paired = from.contains(&b'*') == to.contains(&b'*');
     is_paired && (from.is_empty() || is_source(from)) && (to.is_empty() || is_name(to))
 }
 
-/// Tells whether a text is a refspec of `remote.NAME.push`.
-pub(crate) fn is_push(text: &[u8]) -> bool {
-    if let Some(name) = text.strip_prefix(b"^") {
-        return is_excluding(name);
-    }
+/// Tells whether a text is a refspec of `remote.NAME.push` that does not begin with `^`
+/// (git-push, "<refspec>...").
+pub fn is_push(text: &[u8]) -> bool {
     let text = text.strip_prefix(b"+").unwrap_or(text);
     if text == b":".as_slice() {
         return true;

@@ -6,8 +6,7 @@ ghost use Rattle.gix_config.specs.Names.{name_of};
 ghost use Rattle.gix_config.specs.Values.{shown, all_shown, values_of, last_value};
 ghost use Rattle.gix_discover.specs.Settings.{settings_of};
 
-use crate::checks::{Group, check, check_each, check_index};
-use crate::environment::{Environment, Variable};
+use crate::environment::Environment;
 use crate::error::{DiscoverError, Reason, about, about_value};
 use crate::format::{boolean_of, needed};
 use crate::include::{Known, Reader, Reading};
@@ -37,7 +36,8 @@ pub struct Settings<A: Allocator + Copy = Global> {
 impl<A: Allocator + Copy> Settings<A> {
     /// Reads the settings of a repository: system, user, repository, worktree, environment.
     ///
-    /// Files that they include are read at their place.
+    /// Files that they include are read at their place. A value is not checked here, but by the call
+    /// that reads it.
     ///
     /// # Errors
     ///
@@ -47,9 +47,6 @@ impl<A: Allocator + Copy> Settings<A> {
     /// - `HasConfig` if a condition is `hasconfig:`, which is not supported.
     /// - `BadConfigCount`, `MissingConfigKey`, `MissingConfigValue`, `BadConfigParameters` or
     ///   `BadConfigKey` if git refuses settings from the environment.
-    /// - `MissingValue`, `BadBoolean`, `BadNumber`, `BadAbbrev`, `BadValue` or `UnexpandedPath` if
-    ///   git refuses a value whatever it is asked, as `tru` for `core.fileMode`.
-    /// - `BadReadSetting` if git refuses a value when it first looks for an object.
     /// - `NotUtf8` or `Failed` if a file cannot be read.
     /// - `OutOfMemory` if an allocation failed.
     pub fn read<F: Places>(
@@ -77,9 +74,9 @@ impl<A: Allocator + Copy> Settings<A> {
             )?;
         }
         reader.read_command_line(&mut reading)?;
-        let entries = reading.into_entries();
-        check(alloc, &entries, environment.get(Variable::Home).is_some())?;
-        Ok(Settings { entries })
+        Ok(Settings {
+            entries: reading.into_entries(),
+        })
     }
 
     /// Makes the settings of these entries.
@@ -122,20 +119,6 @@ impl<A: Allocator + Copy> Settings<A> {
         all_values(alloc, &self.entries, section, subsection, key)
     }
 
-    /// Returns the last value of a setting that is a text; `None` if there is none.
-    fn text(
-        &self,
-        alloc: A,
-        section: &[u8],
-        subsection: Option<&[u8]>,
-        key: &[u8],
-    ) -> Result<Option<&[u8]>, DiscoverError<A>> {
-        match self.value(section, subsection, key) {
-            Some(value) => Ok(Some(needed(alloc, key, value)?)),
-            None => Ok(None),
-        }
-    }
-
     /// Returns the last value of a boolean setting; `usual` if there is none.
     ///
     /// # Errors
@@ -164,9 +147,10 @@ impl<A: Allocator + Copy> Settings<A> {
     /// - `BadAbbrev` if it is not between 4 and 40.
     /// - `OutOfMemory` if an allocation failed.
     pub fn abbrev(&self, alloc: A) -> Result<Abbrev, DiscoverError<A>> {
-        let Some(text) = self.text(alloc, b"core", None, b"abbrev")? else {
+        let Some(value) = self.value(b"core", None, b"abbrev") else {
             return Ok(Abbrev::Auto);
         };
+        let text = needed(alloc, b"core.abbrev", value)?;
         if is_word(text, b"auto") {
             return Ok(Abbrev::Auto);
         }
@@ -212,88 +196,5 @@ impl<A: Allocator + Copy> Settings<A> {
     /// - `OutOfMemory` if an allocation failed.
     pub fn uses_replace_refs(&self, alloc: A) -> Result<bool, DiscoverError<A>> {
         self.boolean(alloc, b"core", None, b"usereplacerefs", true)
-    }
-
-    /// Checks the settings that git reads when it compares the index with the working tree.
-    ///
-    /// git looks at some of them only if it writes the index (git-config, "index.threads",
-    /// "core.sharedRepository", "splitIndex.maxPercentChange"), and at those of filters only if it
-    /// reads a file (gitattributes, "filter").
-    ///
-    /// # Errors
-    ///
-    /// - `MissingValue`, `BadBoolean`, `BadNumber` or `BadValue` if git may refuse the last value
-    ///   of one of them, or any value of a filter.
-    /// - `OutOfMemory` if an allocation failed.
-    pub fn check_for_work_tree(&self, alloc: A) -> Result<(), DiscoverError<A>> {
-        check_index(alloc, &self.entries)?;
-        check_each(alloc, &self.entries, Group::Filters)
-    }
-
-    /// Checks the settings of all branches and remotes, as git does before it looks for a sibling.
-    ///
-    /// A sibling is the upstream of a branch, or what it is pushed to (gitrevisions, `@{upstream}`
-    /// and `@{push}`). git checks each value of each of these settings, whatever branch or remote
-    /// it is about (git-config, "branch.<name>.remote", "remote.<name>.url",
-    /// "url.<base>.insteadOf").
-    ///
-    /// # Errors
-    ///
-    /// - `MissingValue` if a setting has no `=`, and needs a value.
-    /// - `BadBoolean` if a value is not a boolean.
-    /// - `BadRefspec` if a value of `fetch` or `push` is not a refspec (git-fetch, "<refspec>").
-    /// - `BadConfigKey` if a branch has an empty name.
-    /// - `OutOfMemory` if an allocation failed.
-    pub fn check_remotes(&self, alloc: A) -> Result<(), DiscoverError<A>> {
-        check_each(alloc, &self.entries, Group::Siblings)
-    }
-
-    /// Returns the last value of `branch.NAME.KEY`, as of `remote`, `merge` or `pushremote`.
-    ///
-    /// # Errors
-    ///
-    /// - `MissingValue` if the setting has no `=`.
-    /// - `OutOfMemory` if an allocation failed.
-    pub fn branch(
-        &self,
-        alloc: A,
-        name: &[u8],
-        key: &[u8],
-    ) -> Result<Option<&[u8]>, DiscoverError<A>> {
-        self.text(alloc, b"branch", Some(name), key)
-    }
-
-    /// Returns all values of `remote.NAME.KEY`, as of `fetch` or `push`.
-    ///
-    /// # Errors
-    ///
-    /// Fails if an allocation failed.
-    pub fn remote(
-        &self,
-        alloc: A,
-        name: &[u8],
-        key: &[u8],
-    ) -> Result<Vec<Option<&[u8]>, A>, AllocError> {
-        self.values(alloc, b"remote", Some(name), key)
-    }
-
-    /// Returns the last value of `push.default`.
-    ///
-    /// # Errors
-    ///
-    /// - `MissingValue` if the setting has no `=`.
-    /// - `OutOfMemory` if an allocation failed.
-    pub fn push_default(&self, alloc: A) -> Result<Option<&[u8]>, DiscoverError<A>> {
-        self.text(alloc, b"push", None, b"default")
-    }
-
-    /// Returns the last value of `remote.pushDefault`.
-    ///
-    /// # Errors
-    ///
-    /// - `MissingValue` if the setting has no `=`.
-    /// - `OutOfMemory` if an allocation failed.
-    pub fn remote_push_default(&self, alloc: A) -> Result<Option<&[u8]>, DiscoverError<A>> {
-        self.text(alloc, b"remote", None, b"pushdefault")
     }
 }

@@ -1,4 +1,3 @@
-pub mod Faults
 pub mod Contained
 pub mod Answered
 pub mod Counted

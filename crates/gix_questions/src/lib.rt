@@ -1,8 +1,8 @@
 //! The questions that can be asked of a history.
 //!
 //! Each is a type with the trait [`Question`](gix_history::Question): merge bases, ancestry,
-//! `describe`, revisions, lists and counts, and which tips reach a commit. The clause `means` of an
-//! answer says what it means in a history.
+//! `describe`, lists and counts, and which tips reach a commit. The clause `means` of an answer says
+//! what it means in a history.
 //!
 //! # Premises
 //!
@@ -15,12 +15,10 @@ mod describe;
 mod lists;
 mod octopus;
 mod reach;
-mod revisions;
 
 pub use ancestry::{Contains, IsAncestor};
 pub use bases::{Independent, MergeBases};
 pub use describe::Describe;
-pub use lists::{CommitsNewestFirst, CountCommits};
+pub use lists::CountCommits;
 pub use octopus::{Octopus, OctopusBases};
 pub use reach::{AheadBehind, CountReachable, ReachableNewestFirst};
-pub use revisions::{Resolve, RevParse};

@@ -79,8 +79,8 @@ pub enum Refusal {
     Replaced(ObjectId),
     /// The tag says another kind than that of its object.
     TagKind(ObjectId),
-    /// git refuses a setting of a branch or a remote.
-    Remotes,
+    /// A setting that says the upstream of a branch, or where it is pushed, is malformed.
+    Sibling,
     /// A reference was not read.
     Reference(gix_ref::Error),
     /// The commit-graph is damaged where it was read.
@@ -151,7 +151,7 @@ impl fmt::Display for Refusal {
                     "tag {id} is malformed: its object is of another kind than it says"
                 )
             }
-            Refusal::Remotes => f.write_str("a setting of a branch or a remote is malformed"),
+            Refusal::Sibling => f.write_str("a setting of a branch, of its remote or of push.default is malformed"),
             Refusal::Reference(error) => write!(f, "{error}"),
             Refusal::Graph(error) => write!(f, "{error}"),
             Refusal::Differs(id) => {

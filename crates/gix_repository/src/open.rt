@@ -137,14 +137,14 @@ impl<A: Allocator + Copy> Changes<A> {
 
     /// Puts an object in the place of the one that the name of a reference below `base` says.
     ///
-    /// A name that is not 40 digits says none. But git reads what follows the last slash, so another
-    /// base than its own, or a further slash, is refused.
+    /// A name that does not begin with 40 digits says none. git reads the 40 bytes behind the last
+    /// slash, so another base than its own, a further slash, or more than 40 digits is refused.
     fn add_named(&mut self, base: &[u8], name: &[u8], by: ObjectId) -> Result<(), OpenError<A>> {
-        let digits = name.get(base.len()..).unwrap_or(&[]);
-        match ObjectId::from_hex(digits) {
-            Ok(id) => Ok(self.replace(id, by)?),
-            Err(_) if base == REPLACEMENTS && !digits.contains(&b'/') => Ok(()),
-            Err(_) => Err(OpenError::Replacements),
+        let name = name.get(base.len()..).unwrap_or(&[]);
+        match ObjectId::from_hex(name.get(..40).unwrap_or(name)) {
+            Ok(id) if name.len() == 40 => Ok(self.replace(id, by)?),
+            Err(_) if base == REPLACEMENTS && !name.contains(&b'/') => Ok(()),
+            _ => Err(OpenError::Replacements),
         }
     }
 

@@ -4,7 +4,7 @@
 use crate::error::{Refusal, Unsupported};
 use crate::names::{Named, read, unabbreviated};
 use crate::repository::Repository;
-use gix_discover::Reason;
+use gix_discover::{is_fetch, is_push};
 use gix_files::Folders;
 use gix_ref::Reference;
 use gix_revision::spec::parse::delegate::SiblingBranch;
@@ -28,6 +28,22 @@ fn mapped<A: Allocator>(
         (None, None) if from == name => Ok(Some(to.to_vec(alloc)?)),
         (Some(from), Some(to)) => map_star(alloc, from, to, name),
         _ => Ok(None),
+    }
+}
+
+/// Returns the refspec that is the value of a remote's setting `fetch` or `push`.
+///
+/// # Errors
+///
+/// Those of [`Repository::mapped_by`].
+fn refspec_of<'a>(value: Option<&'a [u8]>, key: &[u8]) -> Result<&'a [u8], Refusal> {
+    match value {
+        Some(refspec) if refspec.starts_with(b"^") => {
+            Err(Refusal::NotSupported(Unsupported::Refspec))
+        }
+        Some(refspec) if key == b"push".as_slice() && is_push(refspec) => Ok(refspec),
+        Some(refspec) if key != b"push".as_slice() && is_fetch(refspec) => Ok(refspec),
+        _ => Err(Refusal::Sibling),
     }
 }
 
@@ -94,16 +110,31 @@ fn are_same<A: Allocator>(first: &Option<Vec<u8, A>>, second: &Option<Vec<u8, A>
 }
 
 impl<F: Folders + Drop, A: Allocator + Copy> Repository<F, A> {
-    /// Returns the last value of a setting; `None` if there is none, or it has no `=`.
-    fn setting(&self, section: &[u8], subsection: Option<&[u8]>, key: &[u8]) -> Option<&[u8]> {
-        self.settings.value(section, subsection, key).flatten()
+    /// Returns the last value of a setting; `None` if there is none.
+    ///
+    /// # Errors
+    ///
+    /// `Sibling` if it has no `=`.
+    fn setting(
+        &self,
+        section: &[u8],
+        subsection: Option<&[u8]>,
+        key: &[u8],
+    ) -> Result<Option<&[u8]>, Refusal> {
+        match self.settings.value(section, subsection, key) {
+            Some(None) => Err(Refusal::Sibling),
+            value => Ok(value.flatten()),
+        }
     }
 
     /// Returns the first name to which one of a remote's refspecs maps another.
     ///
+    /// git ignores the settings of a remote whose name begins with a slash.
+    ///
     /// # Errors
     ///
-    /// - `NotSupported` if a refspec begins with `^`, and leaves names out.
+    /// - `Sibling` if one of the values is not a refspec.
+    /// - `NotSupported` if one begins with `^`, and leaves names out.
     /// - `OutOfMemory` if an allocation failed.
     fn mapped_by(
         &self,
@@ -111,19 +142,20 @@ impl<F: Folders + Drop, A: Allocator + Copy> Repository<F, A> {
         key: &[u8],
         name: &[u8],
     ) -> Result<Option<Vec<u8, A>>, Refusal> {
-        let refspecs = self.settings.remote(self.alloc, remote, key)?;
-        if refspecs
-            .iter()
-            .any(|one| one.unwrap_or(&[]).starts_with(b"^"))
-        {
-            return Err(Refusal::NotSupported(Unsupported::Refspec));
+        if remote.starts_with(b"/") {
+            return Ok(None);
         }
+        let refspecs = self
+            .settings
+            .values(self.alloc, b"remote", Some(remote), key)?;
+        let mut found = None;
         for refspec in refspecs.iter() {
-            if let Some(mapped) = mapped(self.alloc, refspec.unwrap_or(&[]), name)? {
-                return Ok(Some(mapped));
+            let refspec = refspec_of(*refspec, key)?;
+            if found.is_none() {
+                found = mapped(self.alloc, refspec, name)?;
             }
         }
-        Ok(None)
+        Ok(found)
     }
 
     /// Returns the remote-tracking branch of a remote's branch, by its settings `fetch`. Without one,
@@ -140,10 +172,11 @@ impl<F: Folders + Drop, A: Allocator + Copy> Repository<F, A> {
     ///
     /// # Errors
     ///
+    /// - `Sibling` if a setting has no `=`.
     /// - `NotSupported` if the setting does not name the branch as it is.
     /// - `OutOfMemory` if an allocation failed.
     fn merged_from(&self, short: &[u8]) -> Result<Option<(&[u8], &[u8])>, Refusal> {
-        let Some(remote) = self.setting(b"branch", Some(short), b"remote") else {
+        let Some(remote) = self.setting(b"branch", Some(short), b"remote")? else {
             return Ok(None);
         };
         // Of several branches the first one is the upstream.
@@ -155,7 +188,8 @@ impl<F: Folders + Drop, A: Allocator + Copy> Repository<F, A> {
                 Err(Refusal::NotSupported(Unsupported::Merge))
             }
             Some(Some(name)) => Ok(Some((remote, *name))),
-            _ => Ok(None),
+            Some(None) => Err(Refusal::Sibling),
+            None => Ok(None),
         }
     }
 
@@ -168,23 +202,24 @@ impl<F: Folders + Drop, A: Allocator + Copy> Repository<F, A> {
     }
 
     /// Returns the remote to which a branch is pushed (git-config, `branch.<name>.pushRemote`).
-    fn push_remote(&self, short: &[u8]) -> &[u8] {
-        if let Some(remote) = self.setting(b"branch", Some(short), b"pushremote") {
-            return remote;
+    fn push_remote(&self, short: &[u8]) -> Result<&[u8], Refusal> {
+        if let Some(remote) = self.setting(b"branch", Some(short), b"pushremote")? {
+            return Ok(remote);
         }
-        if let Some(remote) = self.setting(b"remote", None, b"pushdefault") {
-            return remote;
+        if let Some(remote) = self.setting(b"remote", None, b"pushdefault")? {
+            return Ok(remote);
         }
-        match self.setting(b"branch", Some(short), b"remote") {
-            Some(remote) => remote,
-            None => b"origin",
+        match self.setting(b"branch", Some(short), b"remote")? {
+            Some(remote) => Ok(remote),
+            None => Ok(b"origin"),
         }
     }
 
     /// Returns whether a remote says itself what is pushed to it.
     fn says_push(&self, remote: &[u8]) -> Result<bool, Refusal> {
-        let refspecs = self.settings.remote(self.alloc, remote, b"push")?;
-        Ok(!refspecs.is_empty() || self.setting(b"remote", Some(remote), b"mirror").is_some())
+        let settings = &self.settings;
+        let refspecs = settings.values(self.alloc, b"remote", Some(remote), b"push")?;
+        Ok(!refspecs.is_empty() || settings.value(b"remote", Some(remote), b"mirror").is_some())
     }
 
     /// Returns the branch that a branch is pushed to, as its remote's settings `push` say.
@@ -201,7 +236,7 @@ impl<F: Folders + Drop, A: Allocator + Copy> Repository<F, A> {
 
     /// Returns the branch that a branch is pushed to.
     fn pushed(&self, branch: &[u8], short: &[u8]) -> Result<Option<Vec<u8, A>>, Refusal> {
-        let remote = self.push_remote(short);
+        let remote = self.push_remote(short)?;
         if self.says_push(remote)? {
             self.pushed_by_refspec(remote, branch)
         } else {
@@ -216,7 +251,7 @@ impl<F: Folders + Drop, A: Allocator + Copy> Repository<F, A> {
         branch: &[u8],
         short: &[u8],
     ) -> Result<Option<Vec<u8, A>>, Refusal> {
-        let how = self.setting(b"push", None, b"default").unwrap_or(b"simple");
+        let how = self.setting(b"push", None, b"default")?.unwrap_or(b"simple");
         if how == b"upstream".as_slice() || how == b"tracking".as_slice() {
             return self.upstream(short);
         }
@@ -224,10 +259,14 @@ impl<F: Folders + Drop, A: Allocator + Copy> Repository<F, A> {
         if how == b"current".as_slice() || how == b"matching".as_slice() {
             return Ok(own);
         }
-        if how == b"simple".as_slice() && are_same(&self.upstream(short)?, &own) {
-            return Ok(own);
+        if how == b"simple".as_slice() {
+            let upstream = self.upstream(short)?;
+            return Ok(if are_same(&upstream, &own) { own } else { None });
         }
-        Ok(None)
+        if how == b"nothing".as_slice() {
+            return Ok(None);
+        }
+        Err(Refusal::Sibling)
     }
 
     /// Returns the full name of the sibling of a branch, whose short name is `short`.
@@ -287,22 +326,6 @@ impl<F: Folders + Drop, A: Allocator + Copy> Repository<F, A> {
         }
     }
 
-    /// Checks the settings of all branches and remotes, as git does before it looks for a sibling.
-    ///
-    /// # Errors
-    ///
-    /// `Remotes` if git refuses one.
-    fn check_remotes(&self) -> Result<(), Refusal> {
-        let Err(error) = self.settings.check_remotes(self.alloc) else {
-            return Ok(());
-        };
-        if matches!(error.reason, Reason::OutOfMemory) {
-            Err(Refusal::OutOfMemory)
-        } else {
-            Err(Refusal::Remotes)
-        }
-    }
-
     /// Returns what the sibling of the branch stands for whose short name is written.
     pub(crate) fn sibling_of(
         &mut self,
@@ -314,7 +337,6 @@ impl<F: Folders + Drop, A: Allocator + Copy> Repository<F, A> {
         } else if unabbreviated(written) == b"HEAD".as_slice() {
             self.sibling_here(kind)
         } else {
-            self.check_remotes()?;
             self.sibling(written, kind)
         }
     }
@@ -327,7 +349,6 @@ impl<F: Folders + Drop, A: Allocator + Copy> Repository<F, A> {
 
     /// Returns what the sibling of the current branch stands for.
     pub(crate) fn sibling_here(&mut self, kind: SiblingBranch) -> Result<Named<A>, Refusal> {
-        self.check_remotes()?;
         let Some(branch) = self.branch()? else {
             return self.no_branch();
         };
