@@ -3,7 +3,7 @@
  *
  * A gix_history has commits: those of git's commit-graph, commits that the
  * program adds one by one, or both. The functions answer questions about it.
- * Each has a proved contract; docs/PROVED-PARTS.md says what it promises.
+ * Each has a proved contract; docs/PROMISES.md lists the promises.
  *
  * RESULTS
  *   Most functions return a gix_code:

@@ -1,4 +1,4 @@
-# Says whether this version fits the one that find_package wants: the soname is the same, which ends
+# Says whether this version fits the one that find_package needs: the soname is the same, which ends
 # with the first number of the version, or the first two while the first is 0, and this version is
 # not an earlier one.
 set(PACKAGE_VERSION "@VERSION@")

@@ -2,7 +2,7 @@
 
 A History has commits: those of git's commit-graph file, commits that the program adds, or both. Its
 methods answer questions about it. Each calls a function of gix_revision.h, whose contract is
-proved; docs/PROVED.md says what it promises.
+proved; docs/PROMISES.md lists the promises.
 
 >>> from gix_revision_proved import History
 >>> root, ours, theirs = "11" * 20, "22" * 20, "33" * 20

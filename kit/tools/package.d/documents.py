@@ -8,7 +8,7 @@ import re
 from archives import File, bytes_of, files_below
 
 # The pages for users of the library, and those for users of the programs.
-OF_LIBRARY = ("C", "LINES", "PROVED", "PROVED-PARTS", "DEFINITIONS", "DIFFERENCES", "PORTING")
+OF_LIBRARY = ("C", "LINES", "PROMISES", "TRUST", "DIFFERENCES", "PORTING")
 OF_PROGRAMS = ("LINES", "DIFFERENCES", "PORTING")
 
 _LINK = re.compile(r"(?<!!)\[([^\]]*)\]\(([^)#]*)(#[^)]*)?\)")

@@ -3,7 +3,7 @@
 //!
 //! A [`History`] has commits: those of git's commit-graph file, commits that the program adds, or
 //! both. Its methods answer questions about it. Each of them calls a function of the library, whose
-//! contract is proved; `docs/PROVED-PARTS.md` says what it promises. Every method that returns a
+//! contract is proved; `docs/PROMISES.md` lists the promises. Every method that returns a
 //! `Result` can fail with [`Error::OutOfMemory`], and a question about a
 //! [partial](History::set_partial) history also with [`Error::Wants`]. "Errors" lists the others.
 //!
