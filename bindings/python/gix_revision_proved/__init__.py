@@ -38,7 +38,8 @@ MemoryError. A question about a partial history (`History.set_partial`) can rais
 
 Any thread may use a history: its calls wait for each other. The environment variable
 GIX_REVISION_LIBRARY has the path of libgix_revision.so. Without it the library beside this package
-is used, as in an installed wheel, or else the one that the system finds.
+is used, as in an installed wheel, or else the one that the system finds. If there is none, only
+Repository can be used, and a History raises OSError.
 
 Premises: some answers are promised only for a history with these properties. They concern only the
 commits that the arguments of the call can reach. Without them a call is still safe. A method that

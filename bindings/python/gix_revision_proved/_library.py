@@ -8,6 +8,7 @@ import operator
 import os
 import threading
 from collections.abc import Callable, Iterable, Sequence
+from typing import NoReturn
 
 from ._errors import answered
 
@@ -125,7 +126,21 @@ def _load() -> ctypes.CDLL:
     return library
 
 
-_library = _load()
+class _Missing:
+    """Stands in for a library that was not loaded. `Repository` does not need one."""
+
+    def __init__(self, error: OSError) -> None:
+        self._error = error
+
+    def __getattr__(self, name: str) -> NoReturn:
+        raise OSError(f"{self._error}; GIX_REVISION_LIBRARY has to be the path of the library") from None
+
+
+_library: ctypes.CDLL | _Missing
+try:
+    _library = _load()
+except OSError as _error:
+    _library = _Missing(_error)
 
 
 class _Held:

@@ -124,59 +124,24 @@ fn printed_name<'n>(front: &str, name: &'n [u8]) -> &'n [u8] {
     name.strip_prefix(front.as_bytes()).unwrap_or(name)
 }
 
-/// Returns the object that a tag names; `None` if the object is no tag, or if it is left out and
-/// leads nowhere.
-fn target(
-    session: &mut Session<'_>,
-    id: ObjectId,
-    is_excluded: bool,
-) -> Result<Option<ObjectId>, Stop> {
-    let tag = session.repository.tag(id)?;
-    if !is_there(session, tag.target)? {
-        if is_excluded {
-            return Ok(None);
-        }
-        let mut digits = [0u8; 40];
-        let written = tag.target.write_hex(40, &mut digits);
-        return Err(bad_object(session.alloc, &digits[..written]));
-    }
-    if session.repository.kind(tag.target)? != tag.kind {
-        return Err(Stop::from(Refusal::TagKind(id)));
-    }
-    Ok(Some(tag.target))
-}
-
-/// Returns the commit to which an object leads through tags; `None` for another kind of object.
+/// Returns the commit to which an object leads through tags; `None` for another kind of object, or if
+/// a tag that is left out leads nowhere.
 fn peeled(session: &mut Session<'_>, start: Start) -> Result<Option<ObjectId>, Stop> {
     match session.repository.peeled(start.id) {
         Ok((id, Kind::Commit)) => Ok(Some(id)),
         Ok(_) => Ok(None),
-        Err(_) => followed(session, start),
-    }
-}
-
-/// Returns what [`peeled`] does. Follows the tags one by one, and so finds git's end for one that leads
-/// nowhere.
-fn followed(session: &mut Session<'_>, start: Start) -> Result<Option<ObjectId>, Stop> {
-    let mut id = start.id;
-    for _ in 0..u32::MAX {
-        match session.repository.kind(id)? {
-            Kind::Commit => {
-                session.repository.check(id)?;
-                return Ok(Some(id));
-            }
-            Kind::Tag => match target(session, id, start.is_excluded)? {
-                Some(target) => id = target,
-                None => return Ok(None),
-            },
-            // In a damaged pack its header may be that of another kind of object.
-            _ => {
-                session.repository.read_object(id)?;
+        Err(Refusal::Object(gix_odb::Error::Missing(lost)))
+            if lost != start.id && !session.repository.is_partial() =>
+        {
+            if start.is_excluded {
                 return Ok(None);
             }
+            let mut digits = [0u8; 40];
+            let written = lost.write_hex(40, &mut digits);
+            Err(bad_object(session.alloc, &digits[..written]))
         }
+        Err(refusal) => Err(Stop::from(refusal)),
     }
-    Ok(None)
 }
 
 impl Ends {

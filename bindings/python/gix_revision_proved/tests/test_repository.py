@@ -58,6 +58,16 @@ def make(folder: str) -> dict[str, str]:
     return ids
 
 
+class WithoutLibrary(unittest.TestCase):
+    """Without the C library a Repository is there, and a History says what to set."""
+
+    def test_import(self) -> None:
+        script = "import gix_revision_proved as it; print(it.Repository.__name__); it.History()"
+        said = subprocess.run([sys.executable, "-c", script], env={**os.environ, "GIX_REVISION_LIBRARY": "/nosuch", "PYTHONPATH": os.pathsep.join(sys.path)}, capture_output=True, text=True)
+        self.assertEqual((said.returncode, said.stdout), (1, "Repository\n"))
+        self.assertRegex(said.stderr, "OSError: /nosuch: .*; GIX_REVISION_LIBRARY has to be the path")
+
+
 class Programs(unittest.TestCase):
     """Where the program is looked for."""
 
