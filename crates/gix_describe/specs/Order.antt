@@ -1,4 +1,10 @@
--- The order in which a history is walked, and what a candidate has at a place of this order.
+-- How `describe` chooses a name. `IsOrder` says in which order the ancestors are walked, and
+-- `Stands` which commit is at a place. `IsLate` counts the commits up to a place to which no rising
+-- path leads from a candidate. The walk stops at the cut (`IsCut`), the first place at which it has
+-- settled, has no room for the next name, or has no commit left. `IsFewest` and `IsPreferred`
+-- choose the candidate at the cut. Its depth counts the late commits of the whole order, and
+-- `IsPast` gives the number of commits seen if the walk goes on past the cut. `IsTied` is the whole
+-- answer. `HoldsFirst` and `StandsAt` say what the graph then holds.
 use Rattle.std.specs.Prelude.{◌≡◌, ℕ, ◌+◌, ◌-◌, ◌<◌, ◌≤◌, ◌⊎◌, List, [], ◌∷◌, cond, ◌++◌, ◌↔◌, length, take, get_or, Option, Some, None, is_some, IsTrue}
 use Rattle.std.specs.Ordering.{nat_cmp, is_lt}
 use Rattle.std.specs.Cmp.Lexicographic.{slice_cmp}
@@ -62,7 +68,7 @@ IsOpen h xs k c = (¬ IsTrue (is_one_of (popped xs k) c)) × (p : ObjectId) × I
 abbrev pub Marks : History → List ObjectId → ℕ → ObjectId → ObjectId → Type 0
 Marks h xs k t c = IsPath (λ a b. IsRisingEdge h xs a b × IsTrue (is_one_of (handed xs k) a)) t c
 
--- Commit c stands at place k of xs. Places begin with 1.
+-- Commit c stands at place k of xs. Places begin with 1 here, and with 0 in `place`.
 abbrev pub Stands : List ObjectId → ℕ → ObjectId → Type 0
 Stands xs k c = (1 ≤ k) × (k ≤ length xs) × (get_or xs (k - 1) c ≡ c)
 
@@ -129,21 +135,21 @@ pub record IsTied (h : History) (s : ObjectId) (names : Names) (cap : ℕ) (t : 
 abbrev pub IsLedTo : History → ObjectId → List ObjectId → ObjectId → Type 0
 IsLedTo h s xs c = (c ≡ s) ⊎ ((p : ObjectId) × IsTrue (is_one_of xs p) × IsEdge h p c)
 
--- Held are exactly s and the targets of edges from the commits that have handed their marks on when
--- seen have left the queue.
+-- The graph holds exactly s and the targets of edges from the first seen - 1 commits of the order,
+-- which have handed their marks on.
 pub record HoldsFirst (h : History) (s : ObjectId) (seen : ℕ) (held : ObjectId → Option ℕ) : Type 0 where
   pub order : List ObjectId
   pub order_is : IsOrder h s order
   pub held_is : (c : ObjectId) → IsTrue (is_some (held c)) ↔ IsLedTo h s (handed order seen) c
 
--- No parent of the commit after xs was newly met: every held commit is s, or an edge leads to it
--- from one of xs.
+-- No parent of the commit after xs was newly met: every commit that the graph holds is s, or an
+-- edge leads to it from one of xs.
 abbrev pub MetNone : History → ObjectId → List ObjectId → (ObjectId → Option ℕ) → Type 0
 MetNone h s xs held = (c : ObjectId) → IsTrue (is_some (held c)) → IsLedTo h s xs c
 
--- The walk stands at x, whose parents are being met. Held are s, the targets of edges from the
--- commits before x, and nothing else except targets of edges from x. A parent of x is not held, or
--- no parent of x was newly met.
+-- The walk stands at x, whose parents are being met. The graph holds s, the targets of edges from
+-- the commits before x, and nothing else except targets of edges from x. A parent of x is not held,
+-- or no parent of x was newly met.
 pub record StandsAt (h : History) (s x : ObjectId) (held : ObjectId → Option ℕ) : Type 0 where
   pub order : List ObjectId
   pub order_is : IsOrder h s order

@@ -15,13 +15,13 @@ pub record Sourced : Type 0 where
 abbrev pub origin_at : Sourced → ObjectId → Option Origin
 origin_at known id = lookup (same_id id) known.origins
 
--- Each known commit is from where it was noted to be.
+-- For each known commit an origin is noted, and the commit is from there.
 abbrev pub AreSourced : Sourced → Type 0
 AreSourced known =
     (id : ObjectId) (commit : Entry) → entry_at known.commits id ≡ Some commit
     → (origin : Origin) × (origin_at known id ≡ Some origin) × IsFrom origin id commit
 
--- All that was known still is: each commit, and where it is from.
+-- Each commit of `known` is in `more` the same commit, with the same origin.
 pub record Grows (known more : Sourced) : Type 0 where
   pub commits : (id : ObjectId) → Has known.commits id → entry_at more.commits id ≡ entry_at known.commits id
   pub origins : (id : ObjectId) → Has known.commits id → origin_at more id ≡ origin_at known id

@@ -19,15 +19,16 @@ content_of id (Some e) are = (are e refl).0
 abbrev pub contents_of : (h : History) → AreCommits h → Contents
 contents_of h are id = content_of id (entry_at h id) (are id)
 
--- Without generation numbers, a history of such commits is authentic, with these contents. If it is
--- closed, it still is.
+-- Let each commit of the history h be what a content says whose hash is its id. Then h without
+-- generation numbers is authentic, with these contents. If h is closed, it still is.
 abbrev pub PlainIsAuthentic : Type 0
 PlainIsAuthentic =
     (h : History) (are : AreCommits h)
     → AreAuthentic (contents_of h are) (plain_history h) × (IsClosed h → IsClosed (plain_history h))
 
--- Let two histories have such commits, and the second one be closed. Then each tip that the second
--- history has reaches in it the commits that it reaches in the first, or a collision is at hand.
+-- Let each commit of the histories h and k be what a content says whose hash is its id, and let k
+-- be closed. Then each tip that k has reaches in k all commits that it reaches in h, and without
+-- their generation numbers they are the same commits; or two different contents have one id.
 abbrev pub TipsDetermine : Type 0
 TipsDetermine =
     (h k : History) (ours : AreCommits h) (theirs : AreCommits k) → IsClosed k

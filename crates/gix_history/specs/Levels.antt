@@ -24,6 +24,6 @@ pub record AreLoaded (h : History) (levels : List (ObjectId × ℕ)) : Type 0 wh
   pub authentic : AreCommits h
   pub noted : (id : ObjectId) (level : ℕ) → lookup (same_id id) levels ≡ Some level → IsLevelOf h id level
 
--- All that the history h has is as it was in `more`.
+-- The history `more` has each commit of the history h, unchanged.
 abbrev pub Keeps : History → History → Type 0
 Keeps h more = (id : ObjectId) → Has h id → entry_at more id ≡ entry_at h id

@@ -17,7 +17,8 @@ plain e = record { parents = e.parents; time = e.time; generation = None }
 abbrev pub IsCommitOf : ObjectId → Entry → Type 0
 IsCommitOf id entry = (content : List ℕ) × IsAuthentic content id (plain entry)
 
--- The entry is from there. Only for `Authentic` does this say something.
+-- The entry of id is from this origin. Only `Authentic` says something: a content whose hash is id
+-- says the parents and the commit date of the entry.
 abbrev pub IsFrom : Origin → ObjectId → Entry → Type 0
 IsFrom Authentic id entry = IsCommitOf id entry
 IsFrom File id entry = Unit {0}

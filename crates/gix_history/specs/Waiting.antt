@@ -11,8 +11,8 @@ pub record IsBelow (h : History) (n : ℕ) (id : ObjectId) : Type 0 where
   pub has : Has h id
   pub less : generation_of h id < n
 
--- The commit p is authentic, and the history h has its first parents, as many as are settled, each
--- with a level less than that of p.
+-- The commit p is authentic. The history h has as many of its parents as are settled, counted from
+-- the first one, each with a level less than that of p.
 pub record IsPending {A : Type 0} (h : History) (p : Pending A) : Type 0 where
   pub within : p.settled ≤ length p.commit.parents.items
   pub below : (q : ObjectId) → IsTrue (is_one_of (take p.settled p.commit.parents.items) q) → IsBelow h p.level q

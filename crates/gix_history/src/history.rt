@@ -34,7 +34,10 @@ impl<R: Reader + Drop, A: Allocator + Copy> History<R, A> {
     /// Its hash maps are seeded with `seed`. A program that reads ids of strangers takes a random
     /// one.
     pub fn new(alloc: A, seed: Seed, reader: R) -> Self
+        // No commit is known.
         ensures empty { (id : ObjectId) → entry_at result.known.commits id ≡ None }
+
+        // The reader is the one that was passed.
         ensures reader { result.reader ≡ reader }
     {
         History {
@@ -66,7 +69,11 @@ impl<R: Reader + Drop, A: Allocator + Copy> History<R, A> {
         alloc: A,
         question: &Q,
     ) -> Result<Q::Answer, ReadError>
+        // Also after an error, each known commit is still known, unchanged, with the same origin.
         ensures grown { Grows self.old.known self.new.known }
+
+        // The answer has the meaning that the question names, in the history of the known commits,
+        // followed by those of `K`.
         ensures means { IfOk result (Q.means question.now (self.new.known.commits ++ K.beyond)) }
     {
         if let Some(answer) = self.ask_count::<K, Q>(alloc, question)? {

@@ -55,6 +55,7 @@ impl<A: Allocator + Copy> Known<A> {
     /// Its hash maps are seeded with `seed`. A program that reads ids of strangers takes a random
     /// one.
     pub fn new(alloc: A, seed: Seed) -> Self
+        // No commit is known.
         ensures empty { (id : ObjectId) → entry_at result.commits id ≡ None }
     {
         Known {
@@ -76,6 +77,7 @@ impl<A: Allocator + Copy> Known<A> {
 
     /// Returns the commits.
     pub fn commits(&self) -> &MemorySource<A>
+        // The result is the history of the known commits.
         ensures { result.now ≡ self.now.commits }
     {
         &self.commits
@@ -85,6 +87,8 @@ impl<A: Allocator + Copy> Known<A> {
     ///
     /// A commit that is noted as authentic is what a content says whose hash is its id.
     pub fn sourced(&self)
+        // For each known commit an origin is noted. If it is `Authentic`, a content whose hash is
+        // the id says the parents and the commit date.
         ensures { AreSourced self.now }
     {
         let _ = &self.commits;
@@ -108,6 +112,7 @@ impl<A: Allocator + Copy> Known<A> {
     ///
     /// [`AllocError`]: an allocation failed.
     pub fn has(&self, alloc: A, id: ObjectId) -> Result<bool, AllocError>
+        // The answer is true exactly if the commit `id` is known.
         ensures { IfOk result (λ b. b ≡ is_some (entry_at self.now.commits id)) }
     {
         Ok(self.commits.get(alloc, id)?.is_some())
@@ -115,7 +120,11 @@ impl<A: Allocator + Copy> Known<A> {
 
     /// Returns where the commit `id` is from; `None` if this was not noted.
     pub fn origin(&self, id: ObjectId) -> Option<Origin>
+        // The result is the origin that is noted for `id`, if there is one.
         ensures value { result ≡ origin_at self.now id }
+
+        // If the commit `id` is known and the result is `Authentic`, a content whose hash is `id`
+        // says the parents and the commit date.
         ensures from { IfSome result (λ origin. (commit : Entry)
             → entry_at self.now.commits id ≡ Some commit → IsFrom origin id commit) }
     {
@@ -168,7 +177,10 @@ impl<A: Allocator + Copy> Known<A> {
     /// - [`ReadError::Malformed`]: the content is not that of a commit, or git refuses it.
     /// - [`ReadError::OutOfMemory`]: an allocation failed.
     pub fn give(&mut self, alloc: A, id: ObjectId, content: &[u8]) -> Result<(), ReadError>
+        // Also after an error, each known commit is still known, unchanged, with the same origin.
         ensures grown { Grows self.old self.new }
+
+        // After a success the commit `id` is known.
         ensures there { OnOk result (Has self.new.commits id) }
     {
         match authentic::read(alloc, id, content) {
@@ -199,6 +211,8 @@ impl<A: Allocator + Copy> Known<A> {
         &self,
         question: &Q,
     ) -> Result<Tried<Q::Answer>, AllocError>
+        // An answer has the meaning that the question names, in the history of the known commits,
+        // followed by those of `K`.
         ensures { IfOk result (IsTried (Q.means question.now (self.now.commits ++ K.beyond))) }
     {
         let mut source = Partial::<&MemorySource<A>, K>::new(&self.commits);

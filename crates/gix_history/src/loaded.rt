@@ -117,6 +117,7 @@ impl<A: Allocator + Copy> Loaded<A> {
     /// Its hash maps are seeded with `seed`. A program that reads ids of strangers takes a random
     /// one.
     pub fn new(alloc: A, seed: Seed) -> Self
+        // No commit is loaded.
         ensures empty { (id : ObjectId) → entry_at result id ≡ None }
     {
         Loaded {
@@ -128,6 +129,7 @@ impl<A: Allocator + Copy> Loaded<A> {
 
     /// Returns the commits. Each has its level as its generation number.
     pub fn commits(&self) -> &MemorySource<A>
+        // The result is the history of the loaded commits.
         ensures { result.now ≡ self.now }
     {
         &self.commits
@@ -144,13 +146,25 @@ impl<A: Allocator + Copy> Loaded<A> {
     /// commits that are loaded reach nothing else, whatever lies beyond. Of the premises of questions
     /// about them only *older parents* is left, for the depth of a description.
     pub fn premises(&self)
+        // The history of the loaded commits is acyclic from any ids.
         ensures acyclic { (ids : List ObjectId) → IsAcyclicFrom self.now ids }
+
+        // The history of the loaded commits has ordered generations from any ids.
         ensures ordered { (ids : List ObjectId) → GenerationsNeverRiseFrom self.now ids }
+
+        // From ids that are all loaded, the history is acyclic, whatever commits lie beyond.
         ensures acyclic_on { (beyond : History) (ids : List ObjectId) → All (Has self.now) ids
             → IsAcyclicFrom (self.now ++ beyond) ids }
+
+        // From ids that are all loaded, generations are ordered, whatever commits lie beyond.
         ensures ordered_on { (beyond : History) (ids : List ObjectId) → All (Has self.now) ids
             → GenerationsNeverRiseFrom (self.now ++ beyond) ids }
+
+        // Each parent of a loaded commit is loaded.
         ensures closed { IsClosed self.now }
+
+        // For each loaded commit, a content whose hash is the id says the parents and the commit
+        // date.
         ensures authentic { (id : ObjectId) (commit : Entry) → entry_at self.now id ≡ Some commit
             → IsCommitOf id commit }
     {
@@ -159,8 +173,10 @@ impl<A: Allocator + Copy> Loaded<A> {
 
     /// Returns the level of the commit `id`; `None` if it is not loaded.
     ///
-    /// A commit whose level could not be noted, for want of memory, counts as not loaded.
+    /// If memory ran out before the level of a commit was noted, the commit counts as not loaded.
     pub fn level(&self, id: ObjectId) -> Option<u32>
+        // If there is a level, the commit `id` is loaded, and the level is its generation number
+        // and less than infinity (2^32 - 1).
         ensures { IfSome result (IsLevelOf self.now id) }
     {
         self.levels.get(&id).copied()
@@ -279,7 +295,10 @@ impl<A: Allocator + Copy> Loaded<A> {
         tips: &[ObjectId],
         reader: &mut R,
     ) -> Result<(), ReadError>
+        // Also after an error, each loaded commit is still loaded, unchanged.
         ensures kept { Keeps self.old self.new }
+
+        // After a success all tips are loaded.
         ensures there { OnOk result (All (Has self.new) tips.now) }
     {
         for tip in tips {
@@ -300,6 +319,8 @@ impl<A: Allocator + Copy> Loaded<A> {
         &self,
         question: &Q,
     ) -> Result<Tried<Q::Answer>, AllocError>
+        // An answer has the meaning that the question names, in the history of the loaded commits,
+        // followed by those of `K`.
         ensures { IfOk result (IsTried (Q.means question.now (self.now ++ K.beyond))) }
     {
         let mut source = Partial::<&MemorySource<A>, K>::new(&self.commits);
@@ -324,7 +345,11 @@ impl<A: Allocator + Copy> Loaded<A> {
         question: &Q,
         reader: &mut R,
     ) -> Result<Q::Answer, ReadError>
+        // Also after an error, each loaded commit is still loaded, unchanged.
         ensures kept { Keeps self.old self.new }
+
+        // The answer has the meaning that the question names, in the history of the loaded commits,
+        // followed by those of `K`.
         ensures means { IfOk result (Q.means question.now (self.new ++ K.beyond)) }
     {
         for _ in 0..u64::MAX {

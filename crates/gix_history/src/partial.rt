@@ -25,7 +25,10 @@ pub struct Partial<S: Find, K: Beyond> {
 impl<S: Find, K: Beyond> Partial<S, K> {
     /// Makes a source over the commits that were read.
     pub fn new(read: S) -> Self
+        // The source of the commits that were read is the one that was passed.
         ensures read { result.read ≡ read }
+
+        // No commit is noted as wanted.
         ensures wanted { result.wanted ≡ None }
     {
         Partial {

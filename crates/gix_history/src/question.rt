@@ -23,6 +23,7 @@ pub enum Refused {
 pub trait Question {
     ghost use Rattle.gix_revwalk.specs.History.{History};
 
+    /// The type of an answer.
     type Answer: Drop;
 
     ghost means: { Self → History → Self.Answer → Type 0 };
@@ -34,6 +35,7 @@ pub trait Question {
     /// - [`Refused::Source`]: the source failed.
     /// - [`Refused::OutOfMemory`]: an allocation failed.
     fn ask<S: Find>(&self, seed: Seed, source: &mut S) -> Result<Self::Answer, Refused>
+        // The answer has the meaning that the question names, in the history of the source.
         ensures { IfOk result (means self.now (S.history source.old)) };
 
     /// Returns the id with this number among those that the question names; `None` after the last.
@@ -54,6 +56,8 @@ pub trait Question {
 
     /// Returns the answer, if so many commits are ancestors of `tips`, and the answer is that number.
     fn counted(&self, tips: &[ObjectId], count: usize) -> Option<Self::Answer>
+        // If there is an answer, it has the meaning that the question names, in each history in
+        // which `tips` reach exactly `count` commits.
         ensures { IfSome result (λ answer. (h : History)
             → HasSize (IsAncestorOfOne h tips.now) count → means self.now h answer) }
     {

@@ -32,6 +32,7 @@ pub struct Read<A: Allocator> {
 impl<A: Allocator> Read<A> {
     /// Returns a commit that the repository changes. No content whose hash is its id has to say so.
     pub fn changed(commit: SourceCommit<A>) -> Self
+        // Whatever the id is, the commit is from where it says (`IsReadOf`).
         ensures { (id : ObjectId) → IsReadOf id (Some result) }
     {
         Read {
@@ -58,6 +59,8 @@ pub trait Reader {
         alloc: A,
         id: ObjectId,
     ) -> Result<Option<Read<A>>, ReadError>
+        // If a commit is found with the origin `Authentic`, a content whose hash is `id` says its
+        // parents and its commit date.
         ensures { IfOk result (IsReadOf id) };
 }
 
@@ -68,6 +71,8 @@ impl<R: Reader> Reader for &mut R {
         alloc: A,
         id: ObjectId,
     ) -> Result<Option<Read<A>>, ReadError>
+        // If a commit is found with the origin `Authentic`, a content whose hash is `id` says its
+        // parents and its commit date.
         ensures { IfOk result (IsReadOf id) }
     {
         (**self).read(alloc, id)

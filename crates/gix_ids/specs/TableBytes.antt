@@ -4,11 +4,13 @@ use Rattle.std.specs.Prelude.{ℕ, ◌+◌, List, [], ◌∷◌, take, drop, sli
 use Rattle.std.specs.Int.{w32, w64, from_be_bytes}
 use Rattle.gix_base.specs.declared.hash.ObjectId.{ObjectId}
 
--- The number in the 4 bytes of s at offset at.
+-- The number in the 4 bytes of s at offset at, in network byte order (gitformat-commit-graph, "File
+-- Layout").
 unfoldable pub word : List ℕ → ℕ → ℕ
 word s at = from_be_bytes w32 (slice_index s at ∷ slice_index s (at + 1) ∷ slice_index s (at + 2) ∷ slice_index s (at + 3) ∷ [])
 
--- The number in the 8 bytes of s at offset at.
+-- The number in the 8 bytes of s at offset at, in network byte order (gitformat-commit-graph, "File
+-- Layout").
 unfoldable pub long : List ℕ → ℕ → ℕ
 long s at =
     from_be_bytes w64 (slice_index s at ∷ slice_index s (at + 1) ∷ slice_index s (at + 2) ∷ slice_index s (at + 3)

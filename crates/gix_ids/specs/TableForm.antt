@@ -21,7 +21,7 @@ pub record IsInside (s : List ℕ) (t : Table) : Type 0 where
   pub ids : t.ids + 20 * t.count ≤ length s
 
 module _ (s : List ℕ) (t : Table) where
-  -- The id at position i.
+  -- The id at position i, from 0 on.
   abbrev pub id_of : ℕ → ObjectId
   id_of i = id_from s (t.ids + 20 * i)
 
@@ -33,7 +33,8 @@ module _ (s : List ℕ) (t : Table) where
   abbrev pub fan_below : ℕ → ℕ
   fan_below b = cond (nat_eq b 0) 0 (fan (b - 1))
 
-  -- At b the fanout table does not fall, and does not exceed the number of ids.
+  -- At b the fanout table does not fall, and does not exceed the number of ids
+  -- (gitformat-commit-graph, "OID Fanout").
   pub record Fans (b : ℕ) : Type 0 where
     pub rises : fan_below b ≤ fan b
     pub most : fan b ≤ t.count
@@ -42,23 +43,27 @@ module _ (s : List ℕ) (t : Table) where
   abbrev pub first_byte : ℕ → ℕ
   first_byte i = slice_index s (t.ids + 20 * i)
 
-  -- The id at position i is where the fanout table says.
+  -- The id at position i is where the fanout table says for its first byte (gitformat-commit-graph,
+  -- "OID Fanout").
   pub record IsFanned (i : ℕ) : Type 0 where
     pub above : fan_below (first_byte i) ≤ i
     pub below : i < fan (first_byte i)
 
-  -- The id at position i + 1 is greater than the id at position i.
+  -- The id at position i + 1 is greater, byte by byte, than the id at position i
+  -- (gitformat-commit-graph, "OID Lookup").
   abbrev pub Rises : ℕ → Type 0
   Rises i = compare_ids (id_of i) (id_of (i + 1)) ≡ Less
 
-  -- The fanout table and the ids are as a look-up needs them.
+  -- The fanout table and the ids are as a look-up needs them: they are inside s, the table `Fans`
+  -- at each byte, each id `IsFanned`, and each id but the last `Rises` to the next.
   pub record IsSorted : Type 0 where
     pub inside : IsInside s t
     pub fans : (b : ℕ) → b < 256 → Fans b
     pub fanned : (i : ℕ) → i < t.count → IsFanned i
     pub rises : (i : ℕ) → i + 1 < t.count → Rises i
 
-  -- What the fault says of the fanout table or the ids is true.
+  -- The table has this fault. `Fanout`: `Fans` fails at some byte. `IdPlace`: `IsFanned` fails at
+  -- some position. `IdOrder`: `Rises` fails at some position but the last.
   abbrev pub IsWrong : TableFault → Type 0
   IsWrong Fanout = (b : ℕ) × (b < 256) × (¬ Fans b)
   IsWrong IdPlace = (i : ℕ) × (i < t.count) × (¬ IsFanned i)

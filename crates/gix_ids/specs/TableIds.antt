@@ -17,7 +17,7 @@ abbrev pub rows_in : {X : Type 0} → List ℕ → Table → (ℕ → X) → Lis
 rows_in s t f = rows_from s t f 0 t.count
 
 -- Position k is that of the first of ids that is not less than id. If each of ids is less, then k
--- is their number.
+-- is their number (gitformat-commit-graph, "OID Lookup").
 pub record IsFirstFrom (ids : List ObjectId) (id : ObjectId) (k : ℕ) : Type 0 where
   pub within : k ≤ length ids
   pub before : AllByRecursion (λ x. compare_ids x id ≡ Less) (take k ids)

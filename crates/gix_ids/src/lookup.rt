@@ -57,8 +57,15 @@ impl Candidates {
 /// stored there. If the ids of the span do not rise, an error may be the answer although they have
 /// the id. A few guesses narrow the span, and bisection ends the search.
 pub fn narrow(bytes: &[u8], t: Table, span: Span, id: ObjectId) -> Result<usize, usize>
+    // The ids at all positions before `span.high` are inside `bytes`.
     requires ids { t.ids + 20 * span.high ≤ length bytes.now }
+
+    // `span.low` is at most `span.high`.
     requires order { span.low ≤ span.high }
+
+    // `Ok` has the position of `id` in the span. `Err` has a position from `span.low` to
+    // `span.high`: if the ids of the span rise, those before this position are less than `id`, and
+    // those from this position on are greater.
     ensures { MatchResult result (IsIn bytes.now t span id) (IsGapIn bytes.now t span id) }
 {
     let number = number_of(id);
@@ -91,8 +98,14 @@ pub fn narrow(bytes: &[u8], t: Table, span: Span, id: ObjectId) -> Result<usize,
 /// Returns the position of an id, or as an error the position before which it would be stored. The
 /// fanout table gives the span.
 pub fn search(bytes: &[u8], t: Table, id: ObjectId) -> Result<usize, usize>
+    // The fanout table and the ids are as a look-up needs them (`IsSorted`).
     requires { IsSorted bytes.now t }
+
+    // `Ok` has the position of `id`. `Err` has a position, at most the number of ids: the ids
+    // before this position are less than `id`, and those from this position on are greater.
     ensures place { MatchResult result (IsAt bytes.now t id) (IsGap bytes.now t id) }
+
+    // The position in `Ok` or `Err` is less than `2^32`.
     ensures small { MatchResult result (λ k. k < 2 ^ 32) (λ k. k < 2 ^ 32) }
 {
     let b = id.0[0];
@@ -105,7 +118,10 @@ pub fn search(bytes: &[u8], t: Table, id: ObjectId) -> Result<usize, usize>
 
 /// Returns the position of an id.
 pub fn position(bytes: &[u8], t: Table, id: ObjectId) -> Option<usize>
+    // The fanout table and the ids are as a look-up needs them (`IsSorted`).
     requires { IsSorted bytes.now t }
+
+    // `Some` has the position of `id`. `None` means that `id` is stored at no position.
     ensures { MatchOption result (IsAbsent bytes.now t id) (IsAt bytes.now t id) }
 {
     match search(bytes, t, id) {

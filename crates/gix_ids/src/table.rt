@@ -18,7 +18,10 @@ pub struct Table {
 
 /// Counts the ids whose first byte is less than `b`, by the fanout table.
 pub fn below(bytes: &[u8], t: Table, b: u8) -> usize
+    // The fanout table is inside `bytes`.
     requires { t.fanout + 1024 ≤ length bytes.now }
+
+    // The answer is the number of ids whose first byte is less than `b`, by the fanout table.
     ensures { result ≡ fan_below bytes.now t b }
 {
     if b == 0 {
@@ -30,9 +33,16 @@ pub fn below(bytes: &[u8], t: Table, b: u8) -> usize
 
 /// Checks that the fanout table never falls and never exceeds the number of ids.
 pub fn check_fanout(bytes: &[u8], t: Table) -> Result<(), TableFault>
+    // The fanout table is inside `bytes`.
     requires { t.fanout + 1024 ≤ length bytes.now }
+
+    // After a success, the fanout table never falls, and never exceeds the number of ids.
     ensures fans { OnOk result ((b : ℕ) → b < 256 → Fans bytes.now t b) }
+
+    // After an error, the table has this fault (`IsWrong`).
     ensures wrong { IfErr result (IsWrong bytes.now t) }
+
+    // The only error is `Fanout`.
     ensures fault { IfErr result (λ fault. fault ≡ Fanout) }
 {
     let mut last = 0;
@@ -99,8 +109,13 @@ fn check_order(bytes: &[u8], t: Table) -> Result<(), TableFault>
 
 /// Checks the fanout table and all ids.
 pub fn check(bytes: &[u8], t: Table) -> Result<(), TableFault>
+    // The fanout table and the ids are inside `bytes`.
     requires { IsInside bytes.now t }
+
+    // After a success, the fanout table and the ids are as a look-up needs them (`IsSorted`).
     ensures sorted { OnOk result (IsSorted bytes.now t) }
+
+    // After an error, the table has this fault (`IsWrong`).
     ensures wrong { IfErr result (IsWrong bytes.now t) }
 {
     check_fanout(bytes, t)?;

@@ -7,11 +7,13 @@ use Rattle.gix_base.specs.declared.hash.ObjectId.{ObjectId}
 use Rattle.gix_revwalk.specs.History.{History, is_one_of, IsAncestor, IsAncestorOfOne}
 use Rattle.gix_revwalk.specs.Sizes.{is_empty}
 
--- Commit c is a common ancestor of f and os if it is an ancestor of f and of one of os.
+-- Commit c is a common ancestor of f and os if it is an ancestor of f and of at least one of os
+-- (git-merge-base, "Discussion").
 abbrev pub IsCommon : History → ObjectId → List ObjectId → ObjectId → Type 0
 IsCommon h f os c = IsAncestor h f c × IsAncestorOfOne h os c
 
--- Commit c is maximal in the set S if c is in S and no other member of S has c as an ancestor.
+-- Commit c is maximal in the set S if c is in S and no other member of S has c as an ancestor
+-- (git-merge-base, "Description").
 abbrev pub IsMaximal : History → (ObjectId → Type 0) → ObjectId → Type 0
 IsMaximal h S c = S c × ((t : ObjectId) → S t → IsAncestor h t c → t ≡ c)
 
@@ -20,7 +22,8 @@ abbrev pub is_trivial : ObjectId → List ObjectId → Bool
 is_trivial f os = is_empty os || is_one_of os f
 
 -- If os is empty or contains f, then x is a merge base exactly if x is f. Otherwise x is a merge
--- base exactly if x is maximal among the common ancestors of f and os.
+-- base exactly if x is maximal among the common ancestors of f and os (git-merge-base,
+-- "Description" and "Discussion").
 abbrev pub IsBase : History → ObjectId → List ObjectId → ObjectId → Type 0
 IsBase h f os x = MatchBool (is_trivial f os) (x ≡ f) (IsMaximal h (IsCommon h f os) x)
 

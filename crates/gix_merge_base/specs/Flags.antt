@@ -3,7 +3,7 @@ use Rattle.std.specs.Prelude.{ℕ, Bool, ◌==◌}
 use Rattle.std.specs.Int.RustNames.{bit_and}
 use Rattle.gix_merge_base.specs.declared.merge_base.flags.Flags.{Flags}
 
--- The bits of a set of marks.
+-- The number whose bits are the marks in flags.
 abbrev pub bits_of : Flags → ℕ
 bits_of flags = flags.0
 

@@ -68,8 +68,8 @@ pub record Keeps {S A : Type 0} (h : History) (w : MarkSet) (g : Graphed S (Comm
   pub counts : CountsOpen g f → CountsOpen g' f'
   pub left : IsTrue w.stale → (ids : List ObjectId) → CountsLeft ids g f → CountsLeft ids g' f'
 
--- Before the pop, n was the entry of a commit with a greatest key. After it, that entry is not
--- queued.
+-- The pop removes the entry n, of a commit with a greatest key, from a queue with an entry that is
+-- not stale. All other entries stay, also those of the same commit, and so do all marks.
 pub record Pops {S A : Type 0} (h : History) (n : Number) (g : Graphed S (Commit Flags A)) (f : Front A) (g' : Graphed S (Commit Flags A)) (f' : Front A) : Type 0 where
   pub some : 1 ≤ unstale (marks_at g) (queued_ids g f.queue)
   pub inside : IsIn g' n

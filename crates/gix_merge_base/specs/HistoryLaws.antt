@@ -97,8 +97,8 @@ OctopusBaseInAnyOrder =
     → IsPermutation (f ∷ os) (g ∷ ps)
     → IsOctopusBase h f os r → IsOctopusBase h g ps s → r ≡ s
 
--- If every edge of a history has a property of the premises, then so does every edge that ids
--- reach.
+-- If a whole history is acyclic, or has ordered generations, falling keys or never-rising keys,
+-- then it has the same property for what ids reach.
 abbrev pub WholeHistoriesMeet : Type 0
 WholeHistoriesMeet =
     (h : History) (ids : List ObjectId)
@@ -107,7 +107,8 @@ WholeHistoriesMeet =
     × (KeysFall h → KeysFallFrom h ids)
     × (NoneRises h → NoneRisesFrom h ids)
 
--- If each of ids is one of more, and more has a property of the premises, then so has ids.
+-- If each of ids is one of `more`, and what `more` reach is acyclic, or has ordered generations,
+-- falling keys or never-rising keys, then what ids reach has the same property.
 abbrev pub FewerIdsAskLess : Type 0
 FewerIdsAskLess =
     (h : History) (ids more : List ObjectId) → ((i : ObjectId) → Among ids i → Among more i)
@@ -122,7 +123,7 @@ FallingKeysSuffice =
     (h : History) (ids : List ObjectId) → KeysFallFrom h ids
     → IsAcyclicFrom h ids × GenerationsNeverRiseFrom h ids
 
--- If ids are in the order of answers, then they fall by generation number, then time.
+-- If ids are in the order of answers, then no later id has a greater key than an earlier one.
 abbrev pub OrderedIdsFall : Type 0
 OrderedIdsFall = (h : History) (ids : List ObjectId) → IsInOrder h ids → InFallingOrder h ids
 

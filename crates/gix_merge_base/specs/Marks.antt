@@ -3,7 +3,8 @@ use Rattle.std.specs.Prelude.{◌==◌, ◌+◌, ℕ, Bool, true, false, cond, I
 use Rattle.std.specs.Int.{bit_at}
 use Rattle.gix_merge_base.specs.declared.merge_base.flags.Flags.{Flags}
 
--- Which of the four marks a commit has.
+-- Which of the four marks a commit has: `one` for the first side, `two` for the other side,
+-- `stale`, and `result`.
 pub record MarkSet : Type 0 where
   pub one : Bool
   pub two : Bool

@@ -10,7 +10,8 @@ use Rattle.gix_merge_base.specs.Premises.{IsAcyclicFrom, GenerationsNeverRiseFro
 
 -- If each of os is f, then r is the octopus base exactly if r is f. Otherwise r is the octopus base
 -- exactly if r is maximal among the common ancestors of f and all of os, and listed before every
--- other maximal one. There is none exactly if there is no common ancestor.
+-- other maximal one. There is none exactly if there is no common ancestor (git-merge-base,
+-- "--octopus").
 abbrev pub IsOctopusBase : History → ObjectId → List ObjectId → Option ObjectId → Type 0
 IsOctopusBase h f os r =
     MatchBool (list_all (same_id f) os) (r ≡ Some f)
@@ -25,19 +26,20 @@ IsCommonToAll h f os r = MatchOption r ((c : ObjectId) → ¬ IsAncestorOfAll h 
 
 -- Each of ids is an ancestor of f and of all of os, and each such ancestor is an ancestor of one of
 -- ids. If f and os have ordered generations, then the members of ids are exactly the maximal ones
--- of these ancestors.
+-- of these ancestors (git-merge-base, "--octopus" with "--all").
 pub record AreOctopusBases (h : History) (f : ObjectId) (os ids : List ObjectId) : Type 0 where
   pub each : (c : ObjectId) → IsTrue (is_one_of ids c) → IsAncestorOfAll h (f ∷ os) c
   pub cover : (c : ObjectId) → IsAncestorOfAll h (f ∷ os) c → IsAncestorOfOne h ids c
   pub maximal : GenerationsNeverRiseFrom h (f ∷ os) → (c : ObjectId) → IsTrue (is_one_of ids c) ↔ IsMaximal h (IsAncestorOfAll h (f ∷ os)) c
 
--- What `octopus_bases` promises of an answer.
+-- The list ids keeps what `octopus_bases` promises of an answer: `AreOctopusBases` if f and os are
+-- acyclic and some of os is not f, the order `IsInOrder`, and only f if each of os is f.
 pub record AnswersOctopusBases (h : History) (f : ObjectId) (os ids : List ObjectId) : Type 0 where
   pub bases : IsAcyclicFrom h (f ∷ os) → list_all (same_id f) os ≡ false → AreOctopusBases h f os ids
   pub order : IsInOrder h ids
   pub alone : IsTrue (list_all (same_id f) os) → ids ≡ f ∷ []
 
--- The answer r is the first of a list that has what `octopus_bases` promises. There is none exactly
--- if that list is empty.
+-- The answer r is the first of a list that keeps what `octopus_bases` promises of an answer. There
+-- is none exactly if that list is empty.
 abbrev pub IsFirstOctopusBase : History → ObjectId → List ObjectId → Option ObjectId → Type 0
 IsFirstOctopusBase h f os r = (ids : List ObjectId) × AnswersOctopusBases h f os ids × (r ≡ slice_get ids 0)

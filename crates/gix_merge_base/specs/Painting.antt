@@ -37,8 +37,8 @@ IsOutside h f os x =
     IsHandedIn f os x
     ⊎ ((a : ObjectId) × IsReached h f os a × (¬ IsCommon h f os a) × IsEdge h a x)
 
--- The id q is f or one of os, or a parent of a reachable commit whose key is at least that of some
--- outside commit.
+-- The id q is f or one of os, or a parent of a reachable commit c. In the second case, the history
+-- has some outside commit whose key is at most that of c.
 abbrev pub MayBeTaken : History → ObjectId → List ObjectId → ObjectId → Type 0
 MayBeTaken h f os q =
     IsHandedIn f os q

@@ -20,7 +20,8 @@ use Rattle.gix_merge_base.specs.declared.merge_base.queries.Query.TheVariants.{M
 use Rattle.gix_merge_base.specs.declared.merge_base.queries.Answer.{Answer}
 use Rattle.gix_merge_base.specs.declared.merge_base.queries.Answer.TheVariants.{MergeBase, Octopus, Refused}
 
--- What `merge_base` promises of an answer.
+-- The list ids keeps what `merge_base` promises of an answer: `AreBases` and `CoverBases` under
+-- their premises, each id once, the order `IsInOrder`, and only f if the call is trivial.
 pub record AnswersBases (h : History) (f : ObjectId) (os ids : List ObjectId) : Type 0 where
   pub bases : IsAcyclicFrom h (f ∷ os) → GenerationsNeverRiseFrom h (f ∷ os) → AreBases h f os ids
   pub without_generations : IsAcyclicFrom h (f ∷ os) → is_trivial f os ≡ false → CoverBases h f os ids
@@ -28,14 +29,15 @@ pub record AnswersBases (h : History) (f : ObjectId) (os ids : List ObjectId) : 
   pub order : IsInOrder h ids
   pub alone : IsTrue (is_trivial f os) → ids ≡ f ∷ []
 
--- What `octopus` promises of an answer.
+-- The answer r keeps what `octopus` promises in its clauses `base`, `common` and `trivial`:
+-- `IsOctopusBase` and `IsCommonToAll` under their premises, and f if each of os is f.
 pub record AnswersOctopus (h : History) (f : ObjectId) (os : List ObjectId) (r : Option ObjectId) : Type 0 where
   pub base : IsAcyclicFrom h (f ∷ os) → GenerationsNeverRiseFrom h (f ∷ os) → IsOctopusBase h f os r
   pub common : IsAcyclicFrom h (f ∷ os) → list_all (same_id f) os ≡ false → IsCommonToAll h f os r
   pub alone : IsTrue (list_all (same_id f) os) → r ≡ Some f
 
--- With falling keys and at most one merge base, a call of `merge_base` loads little. Of `octopus`
--- nothing is said.
+-- With falling keys and at most one merge base, a query for merge bases loads only what
+-- `MayBeTaken` allows. This says nothing about a query for an octopus base.
 abbrev pub TakesLittle : {S T A : Type 0} → History → Graphed S T → Graphed S T → Query A → Type 0
 TakesLittle h old new (AskBases f os) =
     KeysFallFrom h (f ∷ os.items)
@@ -43,13 +45,14 @@ TakesLittle h old new (AskBases f os) =
     → (p : ObjectId) → IsHeld new p → IsHeld old p ⊎ MayBeTaken h f os.items p
 TakesLittle h old new (AskOctopus f os) = Unit {0}
 
--- Nothing has to be looked up to answer the query.
+-- Nothing has to be looked up to answer the query. For merge bases, os is empty or contains f. For
+-- an octopus base, each of os is f.
 abbrev pub asks_nothing : {A : Type 0} → Query A → Bool
 asks_nothing (AskBases f os) = is_trivial f os.items
 asks_nothing (AskOctopus f os) = list_all (same_id f) os.items
 
--- The answer is one to this query, and right over the history h. If nothing has to be looked up, it
--- is no error.
+-- The answer is right over the history h: it is of the query's kind and has `AnswersBases` or
+-- `AnswersOctopus`, or it is an error and something has to be looked up.
 abbrev pub IsRight : {A : Type 0} → History → Query A → Answer A → Type 0
 IsRight h (AskBases f os) (MergeBase found) = AnswersBases h f os.items (ids_of found)
 IsRight h (AskBases f os) (Octopus r) = ⊥
@@ -71,12 +74,14 @@ outcome_of (MergeBase found) = Ok tt
 outcome_of (Octopus r) = Ok tt
 outcome_of (Refused e) = Err e
 
--- The answer is the source error.
+-- Tests whether the answer is the source error.
 abbrev pub is_refused_by_source : {A : Type 0} → Answer A → Bool
 is_refused_by_source a = is_source_fault (outcome_of a)
 
 module _ {S A : Type 0} (history : S → History) (faults : S → ℕ) where
-  -- What one call promises: its answer over the old graph, and how it leaves the graph.
+  -- One call answers a to the query q, right over the history of the graph old. If nothing has to
+  -- be looked up, the graph is unchanged. `TakesLittle` and `AfterCall` say what the graph new
+  -- holds.
   pub record IsCall (old new : Graphed S (Commit Flags A)) (q : Query A) (a : Answer A) : Type 0 where
     pub right : IsRight (history old.source) q a
     pub unchanged : IsTrue (asks_nothing q) → new ≡ old

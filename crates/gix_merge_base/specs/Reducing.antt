@@ -10,7 +10,8 @@ use Rattle.gix_base.specs.declared.hash.ObjectId.{ObjectId}
 abbrev pub firsts : List ObjectId → List ObjectId
 firsts ids = all_added [] ids
 
--- Commit c is one of ids, and no other one of them has c as an ancestor.
+-- Commit c is one of ids, and no other one of them has c as an ancestor (git-merge-base,
+-- "--independent").
 abbrev pub IsIndependent : History → List ObjectId → ObjectId → Type 0
 IsIndependent h ids c = IsMaximal h (λ x. IsTrue (is_one_of ids x)) c
 

@@ -3,13 +3,13 @@ use Rattle.std.specs.Prelude.{◌≡◌, ◌⊎◌, ℕ, List, codes, Bool, true
 use Rattle.gix_merge_base.specs.declared.merge_base.error.Error.{Error}
 use Rattle.gix_merge_base.specs.declared.merge_base.error.Error.TheVariants.{Source, OutOfMemory}
 
--- The text says what the call was doing when the source failed.
+-- The text is one of two: a commit, or a parent commit, could not be inserted into the graph.
 abbrev pub IsInsertText : List ℕ → Type 0
 IsInsertText text =
     (text ≡ codes "could not insert commit into graph")
     ⊎ (text ≡ codes "could not insert parent commit into graph")
 
--- A source error has one of the two texts.
+-- A source error has one of the two texts of `IsInsertText`.
 abbrev pub HasInsertText : Error → Type 0
 HasInsertText (Source simple) = IsInsertText simple.0.now
 HasInsertText OutOfMemory = Unit {0}

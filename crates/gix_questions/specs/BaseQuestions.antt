@@ -11,8 +11,9 @@ use Rattle.gix_merge_base.specs.Premises.{IsAcyclicFrom, GenerationsNeverRiseFro
 use Rattle.gix_merge_base.specs.Reducing.{IsIndependent, SomeOf}
 
 -- In the history h, `found` has ids, each once and in order. If h is acyclic from f and os, with
--- ordered generations, these are their merge bases. If it is only acyclic, and the question is not
--- trivial, they cover the merge bases.
+-- ordered generations, these are their merge bases. If h is only acyclic, and the question is not
+-- trivial, each id is a common ancestor, and all merge bases are among them (git-merge-base,
+-- "Description").
 pub record MeansBases {A : Type 0} (h : History) (f : ObjectId) (os : List ObjectId) (found : Option (NonEmpty ObjectId A)) : Type 0 where
   pub bases : IsAcyclicFrom h (f ∷ os) → GenerationsNeverRiseFrom h (f ∷ os) → AreBases h f os (ids_of found)
   pub without_generations : IsAcyclicFrom h (f ∷ os) → is_trivial f os ≡ false → CoverBases h f os (ids_of found)
@@ -36,7 +37,8 @@ pub record MeansOctopus (h : History) (f : ObjectId) (os : List ObjectId) (found
   pub first : IsFirstOctopusBase h f os found
 
 -- In the history h, `bases` are in order. If h is acyclic from f and os, and not all of os are f,
--- they are the octopus bases of f and os. If all of os are f, `bases` has f alone.
+-- they are the octopus bases of f and os (`AreOctopusBases`). If all of os are f, `bases` has only
+-- f (git-merge-base, "--octopus").
 pub record MeansOctopusBases (h : History) (f : ObjectId) (os bases : List ObjectId) : Type 0 where
   pub are : IsAcyclicFrom h (f ∷ os) → list_all (same_id f) os ≡ false → AreOctopusBases h f os bases
   pub order : IsInOrder h bases

@@ -9,8 +9,9 @@ use Rattle.gix_describe.specs.DescribeQueries.{KeepsPairs}
 use Rattle.gix_describe.specs.Outcomes.{Describes, Refuses}
 use Rattle.gix_describe.specs.Ties.{Ties}
 
--- In the history h, commit s has this description by the options, or none, or is refused for this
--- reason (git-describe, "Description").
+-- In the history h, `found` is right for commit s by the options (`Describes`), and an outcome is
+-- of s and has the names of the options. If the history is walked, a name is the fixed answer
+-- (`Ties`). An error says why s is refused (git-describe, "Description").
 abbrev pub MeansDescription : {A : Type 0} → History → ObjectId → Options A → Result (Option (Outcome A)) Message → Type 0
 MeansDescription h s options (Ok found) =
     Describes h s options found × KeepsPairs s options found × Ties h s options found

@@ -10,8 +10,8 @@ use Rattle.gix_resolve.specs.ListMeaning.{IsMeant}
 use Rattle.gix_resolve.specs.Reachable.{IsBeyond}
 
 -- In the history h, the list has each commit that the included ones reach and the excluded ones do
--- not, newest first. All others in it are reached by the included ones. With ordered generations
--- there are no others, and each is listed once (git-rev-list, "Description").
+-- not, newest first, each once. All others in it are reached by the included ones. With ordered
+-- generations there are no others (git-rev-list, "Description").
 pub record MeansReachable (h : History) (included excluded ids : List ObjectId) : Type 0 where
   pub reached : GenerationsNeverRiseFrom h (included ++ excluded) → Lists ids (IsBeyond h excluded included)
   pub every : (c : ObjectId) → IsBeyond h excluded included c → IsTrue (is_one_of ids c)
@@ -27,8 +27,8 @@ pub record MeansCountReachable (h : History) (included excluded : List ObjectId)
   pub no_more : AtLeast n (IsAncestorOfOne h included)
 
 -- In the history h, a is at least the number of commits that only `ours` reaches, and is that
--- number with ordered generations. It is at most the number that `ours` reaches. The same holds of
--- b and `theirs` (git-rev-list, "--left-right").
+-- number with ordered generations. It is at most the number that `ours` reaches. The number b
+-- counts for `theirs` in the same way (git-rev-list, "--left-right").
 pub record MeansAheadBehind (h : History) (ours theirs : ObjectId) (a b : ℕ) : Type 0 where
   pub ahead : GenerationsNeverRiseFrom h (ours ∷ theirs ∷ []) → HasSize (IsMeant h (Range theirs ours)) a
   pub behind : GenerationsNeverRiseFrom h (ours ∷ theirs ∷ []) → HasSize (IsMeant h (Range ours theirs)) b

@@ -9,7 +9,10 @@ use Rattle.gix_revwalk.specs.History.{History, Has, IsAncestor, IsAncestorOfOne,
 use Rattle.gix_spec.specs.declared.spec.Spec.{Spec}
 use Rattle.gix_spec.specs.declared.spec.Spec.TheVariants.{Include, Exclude, Range, Merge, IncludeOnlyParents, ExcludeParents}
 
--- Commit c is one of the commits that the spec means in history h.
+-- Commit c is one of the commits that the spec means in history h. For `a`, a reaches c. For `^a`,
+-- there is none. For `a..b`, b reaches c and a does not. For `a...b`, exactly one of a and b
+-- reaches c. For `a^@`, a parent of a reaches c. For `a^!`, c is a, and h has it (gitrevisions,
+-- "Specifying Ranges").
 abbrev pub IsMeant : History → Spec → ObjectId → Type 0
 IsMeant h (Include a) c = IsAncestor h a c
 IsMeant h (Exclude a) c = ⊥

@@ -66,7 +66,10 @@ pub record Takes (h : History) (both : Bool) (id : ObjectId) (m : ObjectId → M
   pub queue : IsPermutation q (id ∷ r)
   pub least : next ≡ cond (hides both (m id)) bound (min bound (generation_of h id))
 
--- What the marks m say at the end of a walk from the sides xs and ys.
+-- At the end of a walk from the sides xs and ys, the marks m of a commit are only of sides that
+-- reach it. Each commit that only xs reaches has only the first mark. If `both` is set, each commit
+-- that only ys reaches has only the second mark. With ordered generations, no other commit has only
+-- the first mark or, if `both` is set, only the second.
 pub record Sees (h : History) (xs ys : List ObjectId) (both : Bool) (m : ObjectId → MarkSet) : Type 0 where
   pub one : (c : ObjectId) → IsTrue (m c).one → IsAncestorOfOne h xs c
   pub two : (c : ObjectId) → IsTrue (m c).two → IsAncestorOfOne h ys c

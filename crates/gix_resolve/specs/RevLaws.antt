@@ -21,8 +21,8 @@ IsSameDemand (object Commit) = Unit {0}
 IsSameDemand (path p) = Unit {0}
 IsSameDemand _ = ⊥
 
--- A piece is plain if it is a name that in neither order can be an abbreviated object name, or a
--- peel to a commit or a path, or any other piece.
+-- A name is plain if in neither order it can be an abbreviated object name. A peel is plain if its
+-- target is a commit or a path. Any other piece is plain.
 abbrev pub IsPlain : Piece → Type 0
 IsPlain (pieces.name text whole attempt) = (attempt ≡ None) × (prefix_with text None ≡ None) × (prefix_with (digits_in text) None ≡ None)
 IsPlain (pieces.peel target after) = IsSameDemand target

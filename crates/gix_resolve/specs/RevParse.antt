@@ -48,6 +48,8 @@ abbrev pub by_attempt : Known → State → Option (List ℕ × Option Hint) →
 by_attempt known s None = Err NoName
 by_attempt known s (Some p) = by_prefix known s p.0
 
+-- The state at the one known id that begins with the digits. Unless these are 4 to 40 hex digits,
+-- the refusal is `NoName`.
 abbrev pub by_digits : Known → State → List ℕ → Result State Refusal
 by_digits known s digits = by_attempt known s (prefix_with digits None)
 
@@ -65,8 +67,8 @@ by_reference known s name = or_else (by_name known s name) (by_digits known s (d
 abbrev pub is_whole_id : (name : List ℕ) → Bool
 is_whole_id name = (length name == 40) && list_all is_hex_digit name
 
--- The state after a name: 40 hex digits are that id alone, any other name is a ref or else the
--- digits in it.
+-- The state after a name. 40 hex digits are the known id with these digits. Any other name is a ref
+-- or, if there is no such ref, the digits in the name.
 abbrev pub by_rev_name : Known → State → List ℕ → Result State Refusal
 by_rev_name known s name = if is_whole_id name then by_digits known s name else by_reference known s name
 
@@ -76,8 +78,8 @@ commit_for valid_object = object Commit
 commit_for recursive_tag = object Commit
 commit_for target = target
 
--- The state after a peel: a tree, a blob or a tag is refused, and a commit that the history has
--- stays.
+-- The state after a peel. A tree, a blob or a tag is refused with `CommitsAlone`. `<rev>^{object}`
+-- and `<rev>^{}` are read as `<rev>^{commit}`.
 abbrev pub by_rev_target : History → State → Target → Result State Refusal
 by_rev_target h s (object Tree) = Err CommitsAlone
 by_rev_target h s (object Blob) = Err CommitsAlone
@@ -96,12 +98,13 @@ after_names known h s c = after known h s c
 abbrev pub names_first : Known → History → Way
 names_first known h = record { after = after_names known h; demand = commit_for }
 
--- The answer r is what the text means by the steps of `rev_parse`.
+-- The answer r is what the text means by the steps of `rev_parse` over a source that does not fail
+-- (git-rev-parse, "Specifying Revisions").
 abbrev pub RevParsed : (text : List ℕ) → Time → Known → History → Result Spec Error → Type 0
 RevParsed text now known h r = Ends (IsStepBy (names_first known h)) text now r
 
 -- The answer r is what the text means by the steps of `rev_parse` over a source that may fail. If
--- it failed, r is the fault of the call that asked it.
+-- the source failed, r is the fault of the call that asked it.
 abbrev pub RevParsedOrFault : (text : List ℕ) → Time → Known → History → Result Spec Error → Type 0
 RevParsedOrFault text now known h r = Ends (IsStepOrFaultBy (names_first known h)) text now r
 
@@ -110,7 +113,7 @@ RevParsedOrFault text now known h r = Ends (IsStepOrFaultBy (names_first known h
 abbrev pub RevWalkedTo : {S T : Type 0} → (text : List ℕ) → Time → Known → History → Graphed S T → Result Spec Error → Graphed S T → Type 0
 RevWalkedTo text now known h m r n = WalkedBy (names_first known h) h text now m r n
 
--- Whether an allocation may fail for pieces of a text in `rev_parse`: for a step, for `^{commit}`,
--- `^{object}` and `^{}`, or for an escape.
+-- Whether an allocation may fail for pieces of a text in `rev_parse`: for a step, also in `^-n`,
+-- for `^{commit}`, `^{object}` and `^{}`, or for an escape.
 abbrev pub rev_may_want_memory : List Piece → Bool
 rev_may_want_memory = may_want_memory_by commit_for

@@ -16,8 +16,8 @@ use Rattle.gix_resolve.specs.Steps.{parent_at, ancestor_at, step_from}
 abbrev pub TakesOnly : {S T : Type 0} → (ObjectId → Type 0) → Graphed S T → Graphed S T → Type 0
 TakesOnly wanted m n = (q : ObjectId) → IsTrue (is_some (held_at n q)) → IsTrue (is_some (held_at m q)) ⊎ wanted q
 
--- Commit q may be loaded to list what a spec means. It is reachable from the ids of the spec; for
--- `a^!` it is a; for `^a`, which means no commit, there is none.
+-- Commit q may be loaded to list what a spec means. It is reachable from an id of the spec. For
+-- `a^!` it is a, and history h has it. For `^a`, which means no commit, there is none.
 abbrev pub IsLookedAt : History → Spec → ObjectId → Type 0
 IsLookedAt h (Include a) q = IsAncestor h a q
 IsLookedAt h (Exclude a) q = ⊥
@@ -31,7 +31,7 @@ abbrev pub is_exclude : Spec → Bool
 is_exclude (Exclude a) = true
 is_exclude _ = false
 
--- Commit q is id, or the parent of id at the place.
+-- Commit q is id, or the parent of id at the place, if history h has that parent.
 abbrev pub IsNear : History → (place : ℕ) → (id q : ObjectId) → Type 0
 IsNear h place id q = (q ≡ id) ⊎ (parent_at h place id ≡ Some q)
 
@@ -42,7 +42,7 @@ IsOnStep h (NthAncestor n) id q = (k : ℕ) × (k ≤ n) × (ancestor_at h k id 
 IsOnStep h (NthParent n) id q = (q ≡ id) ⊎ (step_from h (NthParent n) id ≡ Some q)
 
 -- Commit q is on a call at the revision that was read: it is on a step, or it is the commit that
--- `^{commit}` asks for. No other call asks for a commit.
+-- `^{commit}` asks for. No commit is on any other call.
 abbrev pub IsOnCall : History → Option ObjectId → Call → ObjectId → Type 0
 IsOnCall h (Some id) (traverse step) q = IsOnStep h step id q
 IsOnCall h (Some id) (peel (object Commit)) q = q ≡ id

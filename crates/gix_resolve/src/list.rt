@@ -88,14 +88,27 @@ pub fn commits<S: Find, A: Allocator + Copy>(
     spec: &Spec,
     graph: &mut Graph<S, Commit<Flags, A>, A>,
 ) -> Result<Vec<ObjectId, A>, ListError>
+    // The answer has exactly the commits that the spec means, each once, by rising id.
     ensures meant { IfOk result
         (λ ids. ListsMeant (S.history graph.old.source) spec.now ids.items) }
+
+    // Also after an error the source's history is unchanged.
     ensures history { S.history graph.new.source ≡ S.history graph.old.source }
+
+    // The fault count is one more exactly if the call returns `ListError::Source`. At `u64::MAX`
+    // the count stays.
     ensures count { S.fault_count graph.new.source
         ≡ count_after (is_list_source_fault result) (S.fault_count graph.old.source) }
+
+    // Also after an error the graph keeps every commit that it holds.
     ensures held { KeepsHeld graph.old graph.new }
+
+    // Also after an error each newly held commit is reachable from an id of the spec. If the spec
+    // is `a^!`, this commit is `a`. If the spec is `^a`, no commit is newly held.
     ensures taken { TakesOnly (IsLookedAt (S.history graph.old.source) spec.now)
         graph.old graph.new }
+
+    // If the spec is `^a`, the call succeeds with an empty list, and the graph is unchanged.
     ensures exclude { IsTrue (is_exclude spec.now)
         → IsOkAnd result (λ ids. ids.items ≡ []) × (graph.new ≡ graph.old) }
 {
@@ -133,14 +146,27 @@ pub fn commits_early<S: Find, A: Allocator + Copy>(
     spec: &Spec,
     graph: &mut Graph<S, Commit<Flags, A>, A>,
 ) -> Result<Vec<ObjectId, A>, ListError>
+    // The answer has exactly the commits that the spec means, each once, by rising id.
     ensures meant { IfOk result
         (λ ids. ListsMeant (S.history graph.old.source) spec.now ids.items) }
+
+    // Also after an error the source's history is unchanged.
     ensures history { S.history graph.new.source ≡ S.history graph.old.source }
+
+    // The fault count is one more exactly if the call returns `ListError::Source`. At `u64::MAX`
+    // the count stays.
     ensures count { S.fault_count graph.new.source
         ≡ count_after (is_list_source_fault result) (S.fault_count graph.old.source) }
+
+    // Also after an error the graph keeps every commit that it holds.
     ensures held { KeepsHeld graph.old graph.new }
+
+    // Also after an error each newly held commit is reachable from an id of the spec. If the spec
+    // is `a^!`, this commit is `a`. If the spec is `^a`, no commit is newly held.
     ensures taken { TakesOnly (IsLookedAt (S.history graph.old.source) spec.now)
         graph.old graph.new }
+
+    // If the spec is `^a`, the call succeeds with an empty list, and the graph is unchanged.
     ensures exclude { IsTrue (is_exclude spec.now)
         → IsOkAnd result (λ ids. ids.items ≡ []) × (graph.new ≡ graph.old) }
 {
@@ -174,13 +200,26 @@ pub fn count_commits<S: Find, A: Allocator + Copy>(
     spec: &Spec,
     graph: &mut Graph<S, Commit<Flags, A>, A>,
 ) -> Result<usize, ListError>
+    // The answer is how many commits the spec means.
     ensures size { IfOk result (λ n. HasSize (IsMeant (S.history graph.old.source) spec.now) n) }
+
+    // Also after an error the source's history is unchanged.
     ensures history { S.history graph.new.source ≡ S.history graph.old.source }
+
+    // The fault count is one more exactly if the call returns `ListError::Source`. At `u64::MAX`
+    // the count stays.
     ensures count { S.fault_count graph.new.source
         ≡ count_after (is_list_source_fault result) (S.fault_count graph.old.source) }
+
+    // Also after an error the graph keeps every commit that it holds.
     ensures held { KeepsHeld graph.old graph.new }
+
+    // Also after an error each newly held commit is reachable from an id of the spec. If the spec
+    // is `a^!`, this commit is `a`. If the spec is `^a`, no commit is newly held.
     ensures taken { TakesOnly (IsLookedAt (S.history graph.old.source) spec.now)
         graph.old graph.new }
+
+    // If the spec is `^a`, the call succeeds with 0, and the graph is unchanged.
     ensures exclude { IsTrue (is_exclude spec.now)
         → (result ≡ Ok 0) × (graph.new ≡ graph.old) }
 {
@@ -225,14 +264,29 @@ pub fn page<S: Find, A: Allocator + Copy>(
     after: Option<ObjectId>,
     limit: usize,
 ) -> Result<Vec<ObjectId, A>, ListError>
+    // The answer has the first `limit` ids of the list or, if `after` is given, the first `limit`
+    // ids greater than `after`. The list has exactly the commits that the spec means, each once, by
+    // rising id.
     ensures page { IfOk result
         (λ ids. IsPage (S.history graph.old.source) spec.now after limit ids.items) }
+
+    // Also after an error the source's history is unchanged.
     ensures history { S.history graph.new.source ≡ S.history graph.old.source }
+
+    // The fault count is one more exactly if the call returns `ListError::Source`. At `u64::MAX`
+    // the count stays.
     ensures count { S.fault_count graph.new.source
         ≡ count_after (is_list_source_fault result) (S.fault_count graph.old.source) }
+
+    // Also after an error the graph keeps every commit that it holds.
     ensures held { KeepsHeld graph.old graph.new }
+
+    // Also after an error each newly held commit is reachable from an id of the spec. If the spec
+    // is `a^!`, this commit is `a`. If the spec is `^a`, no commit is newly held.
     ensures taken { TakesOnly (IsLookedAt (S.history graph.old.source) spec.now)
         graph.old graph.new }
+
+    // If the spec is `^a`, the call succeeds with an empty list, and the graph is unchanged.
     ensures exclude { IsTrue (is_exclude spec.now)
         → IsOkAnd result (λ ids. ids.items ≡ []) × (graph.new ≡ graph.old) }
 {

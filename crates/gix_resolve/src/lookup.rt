@@ -36,8 +36,12 @@ pub trait Ids: Drop {
 
     /// Looks up the ids that begin with a prefix.
     fn lookup_prefix(&self, prefix: Prefix) -> Found
+        // The answer is `Nothing` if no id begins with the prefix, `One` with the only id that
+        // does, or `Many` if more than one id does.
         ensures found { result
             ≡ found_in (filter (begins_with (prefix_text prefix)) (ids self.now)) }
+
+        // No id occurs twice in the list `ids`.
         ensures once { StandOnce (ids self.now) };
 }
 

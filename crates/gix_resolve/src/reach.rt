@@ -70,18 +70,30 @@ pub fn reachable<S: Find, A: Allocator + Copy>(
     exclude: &[ObjectId],
     graph: &mut Graph<S, Commit<Flags, A>, A>,
 ) -> Result<Vec<ObjectId, A>, ListError>
+    // Premise: ordered generations. The answer has exactly the commits that an id of `include`
+    // reaches and no id of `exclude` reaches, each once, by rising id.
     ensures reached { GenerationsNeverRiseFrom (S.history graph.old.source) (include.now ++ exclude.now)
         → IfOk result
         (λ ids. ListsBeyond (S.history graph.old.source) exclude.now include.now ids.items) }
 
-    // For any generation numbers.
+    // For any generation numbers, the answer has every commit that an id of `include` reaches and
+    // no id of `exclude` reaches. The answer has only commits that an id of `include` reaches, each
+    // once, by rising id.
     ensures covers { IfOk result
         (λ ids. CoversBeyond (S.history graph.old.source) exclude.now include.now ids.items) }
 
+    // Also after an error the source's history is unchanged.
     ensures history { S.history graph.new.source ≡ S.history graph.old.source }
+
+    // The fault count is one more exactly if the call returns `ListError::Source`. At `u64::MAX`
+    // the count stays.
     ensures count { S.fault_count graph.new.source
         ≡ count_after (is_list_source_fault result) (S.fault_count graph.old.source) }
+
+    // Also after an error the graph keeps every commit that it holds.
     ensures held { KeepsHeld graph.old graph.new }
+
+    // Also after an error each newly held commit is reachable from an id of `include` or `exclude`.
     ensures taken { TakesOnly (IsAncestorOfOne (S.history graph.old.source)
         (include.now ++ exclude.now)) graph.old graph.new }
 {
@@ -120,22 +132,38 @@ pub fn reachable_newest_first<S: Find, A: Allocator + Copy>(
     exclude: &[ObjectId],
     graph: &mut Graph<S, Commit<Flags, A>, A>,
 ) -> Result<Vec<ObjectId, A>, ListError>
+    // Premise: ordered generations. The answer has exactly the commits that an id of `include`
+    // reaches and no id of `exclude` reaches, each once.
     ensures reached { GenerationsNeverRiseFrom (S.history graph.old.source) (include.now ++ exclude.now)
         → IfOk result (λ ids. Lists ids.items
         (IsBeyond (S.history graph.old.source) exclude.now include.now)) }
 
-    // For any generation numbers.
+    // For any generation numbers, the answer has every commit that an id of `include` reaches and
+    // no id of `exclude` reaches.
     ensures every { IfOk result (λ ids. (c : ObjectId)
         → IsBeyond (S.history graph.old.source) exclude.now include.now c
         → IsTrue (is_one_of ids.items c)) }
+
+    // The answer has only commits that an id of `include` reaches.
     ensures shown { IfOk result (λ ids. (c : ObjectId) → IsTrue (is_one_of ids.items c)
         → IsAncestorOfOne (S.history graph.old.source) include.now c) }
+
+    // The ids are in order, each once: by falling generation number, then falling commit date, then
+    // rising id. A missing generation number counts as infinity.
     ensures order { IfOk result (λ ids. IsInOrder (S.history graph.old.source) ids.items) }
 
+    // Also after an error the source's history is unchanged.
     ensures history { S.history graph.new.source ≡ S.history graph.old.source }
+
+    // The fault count is one more exactly if the call returns `ListError::Source`. At `u64::MAX`
+    // the count stays.
     ensures count { S.fault_count graph.new.source
         ≡ count_after (is_list_source_fault result) (S.fault_count graph.old.source) }
+
+    // Also after an error the graph keeps every commit that it holds.
     ensures held { KeepsHeld graph.old graph.new }
+
+    // Also after an error each newly held commit is reachable from an id of `include` or `exclude`.
     ensures taken { TakesOnly (IsAncestorOfOne (S.history graph.old.source)
         (include.now ++ exclude.now)) graph.old graph.new }
 {
@@ -174,20 +202,33 @@ pub fn count_reachable<S: Find, A: Allocator + Copy>(
     exclude: &[ObjectId],
     graph: &mut Graph<S, Commit<Flags, A>, A>,
 ) -> Result<usize, ListError>
+    // Premise: ordered generations. The answer is how many commits an id of `include` reaches and
+    // no id of `exclude` reaches.
     ensures size { GenerationsNeverRiseFrom (S.history graph.old.source) (include.now ++ exclude.now)
         → IfOk result
         (λ n. HasSize (IsBeyond (S.history graph.old.source) exclude.now include.now) n) }
 
-    // For any generation numbers.
+    // For any generation numbers, the answer is at least the number of commits that an id of
+    // `include` reaches and no id of `exclude` reaches.
     ensures no_less { IfOk result
         (λ n. AtMost n (IsBeyond (S.history graph.old.source) exclude.now include.now)) }
+
+    // The answer is at most the number of commits that the ids of `include` reach.
     ensures no_more { IfOk result
         (λ n. AtLeast n (IsAncestorOfOne (S.history graph.old.source) include.now)) }
 
+    // Also after an error the source's history is unchanged.
     ensures history { S.history graph.new.source ≡ S.history graph.old.source }
+
+    // The fault count is one more exactly if the call returns `ListError::Source`. At `u64::MAX`
+    // the count stays.
     ensures count { S.fault_count graph.new.source
         ≡ count_after (is_list_source_fault result) (S.fault_count graph.old.source) }
+
+    // Also after an error the graph keeps every commit that it holds.
     ensures held { KeepsHeld graph.old graph.new }
+
+    // Also after an error each newly held commit is reachable from an id of `include` or `exclude`.
     ensures taken { TakesOnly (IsAncestorOfOne (S.history graph.old.source)
         (include.now ++ exclude.now)) graph.old graph.new }
 {
@@ -322,27 +363,46 @@ pub fn ahead_behind<S: Find, A: Allocator + Copy>(
     theirs: ObjectId,
     graph: &mut Graph<S, Commit<Flags, A>, A>,
 ) -> Result<(usize, usize), ListError>
+    // Premise: ordered generations. The first number is how many commits `theirs..ours` means.
     ensures ahead { GenerationsNeverRiseFrom (S.history graph.old.source) (ours ∷ theirs ∷ [])
         → IfOk result
         (λ r. HasSize (IsMeant (S.history graph.old.source) (Range theirs ours)) r.0) }
+
+    // Premise: ordered generations. The second number is how many commits `ours..theirs` means.
     ensures behind { GenerationsNeverRiseFrom (S.history graph.old.source) (ours ∷ theirs ∷ [])
         → IfOk result
         (λ r. HasSize (IsMeant (S.history graph.old.source) (Range ours theirs)) r.1) }
 
-    // For any generation numbers.
+    // For any generation numbers, the first number is at least the number of commits that
+    // `theirs..ours` means.
     ensures no_less_ahead { IfOk result
         (λ r. AtMost r.0 (IsMeant (S.history graph.old.source) (Range theirs ours))) }
+
+    // For any generation numbers, the second number is at least the number of commits that
+    // `ours..theirs` means.
     ensures no_less_behind { IfOk result
         (λ r. AtMost r.1 (IsMeant (S.history graph.old.source) (Range ours theirs))) }
+
+    // The first number is at most the number of commits that `ours` reaches.
     ensures no_more_ahead { IfOk result
         (λ r. AtLeast r.0 (IsAncestor (S.history graph.old.source) ours)) }
+
+    // The second number is at most the number of commits that `theirs` reaches.
     ensures no_more_behind { IfOk result
         (λ r. AtLeast r.1 (IsAncestor (S.history graph.old.source) theirs)) }
 
+    // Also after an error the source's history is unchanged.
     ensures history { S.history graph.new.source ≡ S.history graph.old.source }
+
+    // The fault count is one more exactly if the call returns `ListError::Source`. At `u64::MAX`
+    // the count stays.
     ensures count { S.fault_count graph.new.source
         ≡ count_after (is_list_source_fault result) (S.fault_count graph.old.source) }
+
+    // Also after an error the graph keeps every commit that it holds.
     ensures held { KeepsHeld graph.old graph.new }
+
+    // Also after an error each newly held commit is reachable from `ours` or `theirs`.
     ensures taken { TakesOnly (IsAncestorOfOne (S.history graph.old.source)
         (ours ∷ theirs ∷ [])) graph.old graph.new }
 {

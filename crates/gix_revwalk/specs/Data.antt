@@ -22,7 +22,7 @@ TakesIn h m id new n =
     ≡ (if is_some (data_at m q) then data_at m q
     else if same_id id q then option_map (λ _. new) (entry_at h id) else None)
 
--- For every q, graph n has the same data as graph m.
+-- Graphs m and n hold the same ids, with the same data.
 abbrev pub SameData : {S D A : Type 0} → Graphed S (Commit D A) → Graphed S (Commit D A) → Type 0
 SameData m n = (q : ObjectId) → data_at n q ≡ data_at m q
 

@@ -11,7 +11,8 @@ use Rattle.gix_revwalk.specs.declared.graph.find.Generations.TheVariants.{Unknow
 abbrev pub HasNoGenerations : History → Type 0
 HasNoGenerations h = (a : ObjectId) → generation_of h a ≡ 2 ^ 32 - 1
 
--- What is known about generation numbers is true of the history h.
+-- What is known about generation numbers is true of the history h: `Absent` says
+-- `HasNoGenerations`, `NeverRise` says `GenerationsNeverRise`, and `Unknown` says nothing.
 abbrev pub AreSo : Generations → History → Type 0
 AreSo Unknown h = ⊤
 AreSo Absent h = HasNoGenerations h

@@ -158,8 +158,13 @@ impl<S: Find, T: Held, A: Allocator> Graph<S, T, A> {
     pub fn new(alloc: A, source: S) -> Self
     where
         A: Copy,
+        // The graph has this source.
         ensures source { result.source ≡ source }
+
+        // The graph holds no id.
         ensures empty { (id : ObjectId) → held_at result id ≡ None }
+
+        // The number of held ids is 0.
         ensures len { held_len result ≡ 0 }
     {
         Graph::with_seed(alloc, source, Seed::default())
@@ -171,8 +176,13 @@ impl<S: Find, T: Held, A: Allocator> Graph<S, T, A> {
     pub fn with_seed(alloc: A, source: S, seed: Seed) -> Self
     where
         A: Copy,
+        // The graph has this source.
         ensures source { result.source ≡ source }
+
+        // The graph holds no id.
         ensures empty { (id : ObjectId) → held_at result id ≡ None }
+
+        // The number of held ids is 0.
         ensures len { held_len result ≡ 0 }
     {
         Graph {
@@ -191,6 +201,7 @@ impl<S: Find, T: Held, A: Allocator> Graph<S, T, A> {
 
     /// Returns the source of the commits.
     pub fn source(&self) -> &S
+        // The answer is the source of the graph.
         ensures { result.now ≡ self.now.source }
     {
         &self.source
@@ -198,6 +209,7 @@ impl<S: Find, T: Held, A: Allocator> Graph<S, T, A> {
 
     /// Returns the source, and drops the rest of the graph.
     pub fn into_source(self) -> S
+        // The answer is the source of the graph.
         ensures { result ≡ self.source }
     {
         let Graph {
@@ -216,8 +228,13 @@ impl<S: Find, T: Held, A: Allocator> Graph<S, T, A> {
     /// dropped, and so do the ids that were held. A further walk does not ask for them again.
     /// Nothing is remembered of an id that the source did not have.
     pub fn clear(&mut self)
+        // The source is unchanged.
         ensures source { self.new.source ≡ self.old.source }
+
+        // The graph holds no id.
         ensures empty { (id : ObjectId) → held_at self.new id ≡ None }
+
+        // The number of held ids is 0.
         ensures len { held_len self.new ≡ 0 }
     {
         self.nodes.clear();
@@ -226,7 +243,10 @@ impl<S: Find, T: Held, A: Allocator> Graph<S, T, A> {
 
     /// Returns the number of held ids. Each is held once.
     pub fn len(&self) -> usize
+        // The answer is the number of held ids.
         ensures len { result ≡ held_len self.now }
+
+        // No id is held twice.
         ensures once { IsDistinct same_id (held_ids self.now) }
     {
         self.nodes.len()
@@ -234,6 +254,7 @@ impl<S: Find, T: Held, A: Allocator> Graph<S, T, A> {
 
     /// Returns whether `id` is held.
     pub fn contains(&self, id: &ObjectId) -> bool
+        // The answer is `true` exactly if the id is held.
         ensures { result ≡ is_some (held_at self.now id.now) }
     {
         numbers::number_of(self, id).is_some()
@@ -241,7 +262,10 @@ impl<S: Find, T: Held, A: Allocator> Graph<S, T, A> {
 
     /// Returns the value of `id`, which agrees with the source; `None` if `id` is not held.
     pub fn get(&self, id: &ObjectId) -> Option<&T>
+        // The answer is the value of the id. The answer is `None` exactly if the id is not held.
         ensures value { option_copied result ≡ held_at self.now id.now }
+
+        // The value agrees with what the history of the source has for the id.
         ensures agrees { IfSome result
             (λ x. T.agrees x.now (entry_at (S.history self.now.source) id.now)) }
     {

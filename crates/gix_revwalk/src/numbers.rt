@@ -84,11 +84,22 @@ pub fn ask<S: Find, T: Held, A: Allocator + Copy>(
     alloc: A,
     id: ObjectId,
 ) -> Result<Option<SourceCommit<A>>, Error>
+    // The same ids are held, with the same numbers and values, also after an error.
     ensures held { graph.new.held ≡ graph.old.held }
+
+    // What the current walk has marked is unchanged, also after an error.
     ensures marked { graph.new.marked ≡ graph.old.marked }
+
+    // The history is unchanged, also after an error.
     ensures history { S.history graph.new.source ≡ S.history graph.old.source }
+
+    // The answer has the parents, the time and the generation number of the id's commit. The answer
+    // is `None` exactly if the history does not have the commit.
     ensures found { IfOk result
         (λ found. option_map entry_of found ≡ entry_at (S.history graph.old.source) id) }
+
+    // After the error `Source` the fault count is one more, or stays at the greatest `u64`.
+    // Otherwise the count is unchanged.
     ensures count { S.fault_count graph.new.source
         ≡ count_after (is_source_fault result) (S.fault_count graph.old.source) }
 {
@@ -100,6 +111,7 @@ pub fn number_of<S: Find, T: Held, A: Allocator>(
     graph: &Graph<S, T, A>,
     id: &ObjectId,
 ) -> Option<Number>
+    // The answer is the number of the id. The answer is `None` exactly if the id is not held.
     ensures { option_map place_in result ≡ number_at graph.now id.now }
 {
     number_near(graph, id, NOWHERE)
@@ -112,6 +124,7 @@ pub fn number_near<S: Find, T: Held, A: Allocator>(
     id: &ObjectId,
     guess: usize,
 ) -> Option<Number>
+    // The answer is the number of the id. The answer is `None` exactly if the id is not held.
     ensures { option_map place_in result ≡ number_at graph.now id.now }
 {
     let Some(home) = graph.past.home(id, guess) else {
@@ -129,8 +142,13 @@ pub fn number_near<S: Find, T: Held, A: Allocator>(
 
 /// Returns the id of a number.
 pub fn id_of<S: Find, T: Held, A: Allocator>(graph: &Graph<S, T, A>, number: Number) -> ObjectId
+    // A held id has this number.
     requires { place_in number < held_len graph.now }
+
+    // The answer is the id with this number.
     ensures named { named graph.now (place_in number) ≡ Some result }
+
+    // This number is the number of the answer.
     ensures number { number_at graph.now result ≡ Some (place_in number) }
 {
     graph.nodes[number.place()].id
@@ -139,8 +157,13 @@ pub fn id_of<S: Find, T: Held, A: Allocator>(graph: &Graph<S, T, A>, number: Num
 /// Returns the value that is held under a number.
 #[inline(always)]
 pub fn value<S: Find, T: Held, A: Allocator>(graph: &Graph<S, T, A>, number: Number) -> &T
+    // A held id has this number.
     requires { place_in number < held_len graph.now }
+
+    // The answer is the value with this number.
     ensures value { value_at graph.now (place_in number) ≡ Some result.now }
+
+    // The value agrees with what the history has for the id with this number.
     ensures agrees { (id : ObjectId) → named graph.now (place_in number) ≡ Some id
         → T.agrees result.now (entry_at (S.history graph.now.source) id) }
 {
@@ -188,14 +211,31 @@ pub fn add<S: Find, T: Held, A: Allocator + Copy>(
     id: ObjectId,
     value: T,
 ) -> Result<Number, AllocError>
+    // The id is not held yet.
     requires new { number_at graph.old id ≡ None }
+
+    // The value agrees with what the history has for the id.
     requires agrees { T.agrees value (entry_at (S.history graph.old.source) id) }
+
+    // The source is unchanged, also after an error.
     ensures source { graph.new.source ≡ graph.old.source }
+
+    // The answer is the next number: how many ids were held before the call.
     ensures number { IfOk result (λ n. place_in n ≡ held_len graph.old) }
+
+    // After a success the id is held last, with this value. All other ids keep their numbers and
+    // values.
     ensures held { OnOk result (graph.new.held ≡ graph.old.held ++ (id, value) ∷ []) }
+
+    // After a success the current walk has not marked the id. The walk's marks of other ids are
+    // unchanged.
     ensures marked { OnOk result (graph.new.marked ≡ graph.old.marked ++ (id, None) ∷ []) }
+
+    // Before a successful call the current walk has noted only held ids.
     ensures unnoted { OnOk result
         ((q : ObjectId) → held_at graph.old q ≡ None → noted_at graph.old q ≡ false) }
+
+    // After an error the graph is unchanged.
     ensures refused { OnErr result (graph.new ≡ graph.old) }
 {
     match add_near(graph, id, NOWHERE, value) {
@@ -217,14 +257,31 @@ pub fn add_near<S: Find, T: Held, A: Allocator + Copy>(
     guess: usize,
     value: T,
 ) -> Result<(Number, usize), AllocError>
+    // The id is not held yet.
     requires new { number_at graph.old id ≡ None }
+
+    // The value agrees with what the history has for the id.
     requires agrees { T.agrees value (entry_at (S.history graph.old.source) id) }
+
+    // The source is unchanged, also after an error.
     ensures source { graph.new.source ≡ graph.old.source }
+
+    // The number in the answer is the next one: how many ids were held before the call.
     ensures number { IfOk result (λ n. place_in n.0 ≡ held_len graph.old) }
+
+    // After a success the id is held last, with this value. All other ids keep their numbers and
+    // values.
     ensures held { OnOk result (graph.new.held ≡ graph.old.held ++ (id, value) ∷ []) }
+
+    // After a success the current walk has not marked the id. The walk's marks of other ids are
+    // unchanged.
     ensures marked { OnOk result (graph.new.marked ≡ graph.old.marked ++ (id, None) ∷ []) }
+
+    // Before a successful call the current walk has noted only held ids.
     ensures unnoted { OnOk result
         ((q : ObjectId) → held_at graph.old q ≡ None → noted_at graph.old q ≡ false) }
+
+    // After an error the graph is unchanged.
     ensures refused { OnErr result (graph.new ≡ graph.old) }
 {
     let Ok(number) = push_node(&mut graph.nodes, id, value) else {
@@ -254,19 +311,40 @@ pub fn hold_told<S: Find, T: Held, A: Allocator + Copy>(
     guess: usize,
     value: T,
 ) -> Result<Option<(i64, Number, usize)>, AllocError>
+    // The id is not held yet.
     requires new { number_at graph.old id ≡ None }
+
+    // The value agrees with what the history has for the id.
     requires agrees { T.agrees value (entry_at (S.history graph.old.source) id) }
+
+    // The source is unchanged, also after an error.
     ensures source { graph.new.source ≡ graph.old.source }
+
+    // The time in the answer is the time of the id's commit, which the history has.
     ensures time { IfOk result (λ r. IfSome r (λ t. Some t.0
         ≡ option_map (λ e. e.time) (entry_at (S.history graph.old.source) id))) }
+
+    // The number in the answer is the next one: how many ids were held before the call.
     ensures number { IfOk result (λ r. IfSome r (λ t. place_in t.1 ≡ held_len graph.old)) }
+
+    // After an answer other than `None` the id is held last, with this value. All other ids keep
+    // their numbers and values.
     ensures held { IfOk result (λ r. IfSome r
         (λ _. graph.new.held ≡ graph.old.held ++ (id, value) ∷ [])) }
+
+    // After an answer other than `None` the current walk has not marked the id. The walk's marks of
+    // other ids are unchanged.
     ensures marked { IfOk result (λ r. IfSome r
         (λ _. graph.new.marked ≡ graph.old.marked ++ (id, None) ∷ [])) }
+
+    // If the answer is not `None`, the current walk has noted only held ids before the call.
     ensures unnoted { IfOk result (λ r. IfSome r
         (λ _. (q : ObjectId) → held_at graph.old q ≡ None → noted_at graph.old q ≡ false)) }
+
+    // After the answer `None` the graph is unchanged.
     ensures none { IfOk result (λ r. r ≡ None → graph.new ≡ graph.old) }
+
+    // After an error the graph is unchanged.
     ensures refused { OnErr result (graph.new ≡ graph.old) }
 {
     let Some((spot, time)) = graph.past.recall(&id, guess) else {
@@ -304,11 +382,22 @@ pub fn ask_time<S: Find, T: Held, A: Allocator + Copy>(
     alloc: A,
     id: ObjectId,
 ) -> Result<Option<(i64, usize)>, Error>
+    // The same ids are held, with the same numbers and values, also after an error.
     ensures held { graph.new.held ≡ graph.old.held }
+
+    // What the current walk has marked is unchanged, also after an error.
     ensures marked { graph.new.marked ≡ graph.old.marked }
+
+    // The history is unchanged, also after an error.
     ensures history { S.history graph.new.source ≡ S.history graph.old.source }
+
+    // The time in the answer is the time of the id's commit. The answer is `None` exactly if the
+    // history does not have the commit.
     ensures found { IfOk result (λ r. option_map (λ t. t.0) r
         ≡ option_map (λ e. e.time) (entry_at (S.history graph.old.source) id)) }
+
+    // After the error `Source` the fault count is one more, or stays at the greatest `u64`.
+    // Otherwise the count is unchanged.
     ensures count { S.fault_count graph.new.source
         ≡ count_after (is_source_fault result) (S.fault_count graph.old.source) }
 {
@@ -338,11 +427,22 @@ pub fn parents_near<S: Find, T: Held, A: Allocator + Copy>(
     guess: usize,
     into: &mut Vec<Link, A>,
 ) -> Result<(), Error>
+    // The same ids are held, with the same numbers and values, also after an error.
     ensures held { graph.new.held ≡ graph.old.held }
+
+    // What the current walk has marked is unchanged, also after an error.
     ensures marked { graph.new.marked ≡ graph.old.marked }
+
+    // The history is unchanged, also after an error.
     ensures history { S.history graph.new.source ≡ S.history graph.old.source }
+
+    // After a success `into` has the parents of the id's commit, in order. `into` is empty if the
+    // history does not have the commit.
     ensures parents { OnOk result (map link_id into.new.items
         ≡ parents_in (entry_at (S.history graph.old.source) id.now)) }
+
+    // After the error `Source` the fault count is one more, or stays at the greatest `u64`.
+    // Otherwise the count is unchanged.
     ensures count { S.fault_count graph.new.source
         ≡ count_after (is_source_fault result) (S.fault_count graph.old.source) }
 {
@@ -402,8 +502,14 @@ fn copy_parents<A: Allocator>(
 /// Replaces the value of a held id in a graph of numbers, and returns the old value.
 #[inline(always)]
 pub fn put<S: Find, A: Allocator>(graph: &mut Graph<S, u32, A>, number: Number, value: u32) -> u32
+    // A held id has this number.
     requires { place_in number < held_len graph.old }
+
+    // The answer is the value with this number before the call.
     ensures old { value_at graph.old (place_in number) ≡ Some result }
+
+    // The id with this number has `value`. The source, the ids, all other values and what the
+    // current walk has marked are unchanged.
     ensures put { Puts graph.old (place_in number) value graph.new }
 {
     let node = &mut graph.nodes[number.place()];
@@ -415,9 +521,17 @@ pub fn put<S: Find, A: Allocator>(graph: &mut Graph<S, u32, A>, number: Number, 
 /// Notes a held id in the current walk. Its value is unchanged.
 #[inline(always)]
 pub fn note<S: Find, T: Held, A: Allocator>(graph: &mut Graph<S, T, A>, number: Number)
+    // A held id has this number.
     requires { place_in number < held_len graph.old }
+
+    // The source is unchanged.
     ensures source { graph.new.source ≡ graph.old.source }
+
+    // The same ids are held, with the same numbers and values.
     ensures held { graph.new.held ≡ graph.old.held }
+
+    // The current walk has noted exactly the id with this number and the ids that it had noted
+    // before.
     ensures noted { (id : ObjectId) → named graph.old (place_in number) ≡ Some id
         → (q : ObjectId) → noted_at graph.new q ≡ (same_id id q || noted_at graph.old q) }
 {
@@ -430,7 +544,10 @@ pub fn note<S: Find, T: Held, A: Allocator>(graph: &mut Graph<S, T, A>, number: 
 /// Returns whether the current walk has noted a held id.
 #[inline(always)]
 pub fn is_noted<S: Find, T: Held, A: Allocator>(graph: &Graph<S, T, A>, number: Number) -> bool
+    // A held id has this number.
     requires { place_in number < held_len graph.now }
+
+    // The answer is `true` exactly if the current walk has noted the id with this number.
     ensures { (id : ObjectId) → named graph.now (place_in number) ≡ Some id
         → result ≡ noted_at graph.now id }
 {
@@ -454,8 +571,14 @@ fn nodes_lacking(nodes: &[Node<u32>], turn: u32, place: usize) -> usize
 /// Counts the held ids that the current walk has not noted and whose value lacks the bit at
 /// `place`.
 pub fn unnoted_lacking<S: Find, A: Allocator>(graph: &Graph<S, u32, A>, place: usize) -> usize
+    // A `u32` has a bit at `place`.
     requires few { place < 32 }
+
+    // No id is held twice.
     ensures once { IsDistinct same_id (held_ids graph.now) }
+
+    // The answer is the number of held ids that the current walk has not noted and whose value
+    // lacks the bit at `place`.
     ensures count { result ≡ sum_by (unnoted_lacks graph.now place) (held_ids graph.now) }
 {
     nodes_lacking(&graph.nodes, graph.turn, place)
@@ -472,8 +595,13 @@ fn forget_turns<T>(nodes: &mut [Node<T>])
 
 /// Begins a walk, which has marked nothing yet. Held ids keep their data.
 pub fn begin_walk<S: Find, D: Drop, A: Allocator>(graph: &mut Graph<S, Commit<D, A>, A>)
+    // The source is unchanged.
     ensures source { graph.new.source ≡ graph.old.source }
+
+    // The same ids are held, with the same numbers and values.
     ensures held { graph.new.held ≡ graph.old.held }
+
+    // The current walk has recorded nothing for any id.
     ensures none { (q : ObjectId) → mark_at graph.new q ≡ None }
 {
     if let Some(turn) = graph.turn.checked_add(1) {
@@ -489,6 +617,8 @@ pub fn mark_of<S: Find, D: Drop + Copy, A: Allocator>(
     graph: &Graph<S, Commit<D, A>, A>,
     number: Number,
 ) -> Option<Mark<D>>
+    // If an id has this number, the answer is what the current walk has recorded for the id. The
+    // answer is `None` if the walk has recorded nothing.
     ensures { (id : ObjectId) → named graph.now (place_in number) ≡ Some id
         → result ≡ mark_at graph.now id }
 {
@@ -512,7 +642,12 @@ pub fn set_mark<S: Find, D: Drop, A: Allocator>(
     number: Number,
     mark: Mark<D>,
 )
+    // A held id has this number.
     requires { place_in number < held_len graph.old }
+
+    // The current walk has recorded `mark` for the id with this number, whose data is `mark.marks`.
+    // The walk's records of other ids, the data of other ids, the held ids and the source are
+    // unchanged.
     ensures { Marks graph.old (place_in number) mark graph.new }
 {
     let turn = graph.turn;
@@ -551,27 +686,53 @@ pub fn take<S: Find, D: Drop, A: Allocator + Copy>(
     id: ObjectId,
     new: D,
 ) -> Result<Option<Number>, Error>
-    // The source is not asked for a held id.
+    // If the id is held, the call succeeds, and the graph, with its source, is unchanged.
     ensures held { IsTrue (is_some (held_at graph.old id)) → IsOk result × (graph.new ≡ graph.old) }
 
-    // What is held afterwards, and under which number.
+    // The answer is a number exactly if the history has the id.
     ensures has { IfOk result
         (λ n. is_some n ≡ is_some (entry_at (S.history graph.old.source) id)) }
+
+    // The answer is the number of the id after the call. The answer is `None` exactly if the id is
+    // not held then.
     ensures number { IfOk result (λ n. option_map place_in n ≡ number_at graph.new id) }
+
+    // After a success the id is held exactly if the history has it.
     ensures found { OnOk result
         (is_some (held_at graph.new id) ≡ is_some (entry_at (S.history graph.old.source) id)) }
+
+    // After a success ids that were held keep their data. This id has the data `new` if it was not
+    // held and the history has it. No other id is newly held.
     ensures taken { OnOk result (TakesIn (S.history graph.old.source) graph.old id new graph.new) }
+
+    // After a success each id that was held keeps its number, its value and its mark. Newly held
+    // ids come last, without a mark of the current walk.
     ensures grows { OnOk result (Grows graph.old graph.new) }
+
+    // After a success what the current walk has recorded for each id is unchanged.
     ensures marks { OnOk result ((q : ObjectId) → mark_at graph.new q ≡ mark_at graph.old q) }
+
+    // After a success the number of held ids is one more if the id was not held and the history has
+    // it. Otherwise the number is unchanged.
     ensures len { OnOk result
         (held_len graph.new ≡ len_after (S.history graph.old.source) graph.old id) }
 
-    // The graph after an error, and the source.
+    // After an error the same ids are held, with the same numbers and values, and what the current
+    // walk has marked is unchanged.
     ensures refused { OnErr result
         ((graph.new.held ≡ graph.old.held) × (graph.new.marked ≡ graph.old.marked)) }
+
+    // After an error the same ids are held, with the same data.
     ensures refused_data { OnErr result (SameData graph.old graph.new) }
+
+    // After an error the number of held ids is unchanged.
     ensures refused_len { OnErr result (held_len graph.new ≡ held_len graph.old) }
+
+    // The history is unchanged, also after an error.
     ensures history { S.history graph.new.source ≡ S.history graph.old.source }
+
+    // After the error `Source` the fault count is one more, or stays at the greatest `u64`.
+    // Otherwise the count is unchanged.
     ensures count { S.fault_count graph.new.source
         ≡ count_after (is_source_fault result) (S.fault_count graph.old.source) }
 {
@@ -734,16 +895,33 @@ pub fn known_parents<S: Find, D: Drop + Copy, A: Allocator + Copy>(
     new: D,
     into: &mut Vec<Number, A>,
 ) -> Result<(), Error>
+    // A held id has this number.
     requires { place_in number < held_len graph.old }
+
+    // After a success `into` has the numbers of those parents of the commit that the history has,
+    // in order.
     ensures numbers { OnOk result ((id : ObjectId) → named graph.old (place_in number) ≡ Some id
         → AreNumbers (S.history graph.old.source) graph.new
         (parents_in (entry_at (S.history graph.old.source) id)) into.new.items) }
+
+    // Each id that was held keeps its number, its value and its mark, also after an error. Newly
+    // held ids come last, without a mark of the current walk.
     ensures grows { Grows graph.old graph.new }
+
+    // What the current walk has recorded for each id is unchanged, also after an error.
     ensures marks { (q : ObjectId) → mark_at graph.new q ≡ mark_at graph.old q }
+
+    // Each newly held id is a parent of the commit, and the history has the parent, also after an
+    // error.
     ensures more { (id : ObjectId) → named graph.old (place_in number) ≡ Some id
         → HoldsMore (S.history graph.old.source)
         (parents_in (entry_at (S.history graph.old.source) id)) graph.old graph.new }
+
+    // The history is unchanged, also after an error.
     ensures history { S.history graph.new.source ≡ S.history graph.old.source }
+
+    // After the error `Source` the fault count is one more, or stays at the greatest `u64`.
+    // Otherwise the count is unchanged.
     ensures count { S.fault_count graph.new.source
         ≡ count_after (is_source_fault result) (S.fault_count graph.old.source) }
 {

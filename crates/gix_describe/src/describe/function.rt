@@ -119,25 +119,57 @@ pub fn counted_by<'name, S: Find, A: Allocator + Copy>(
     names: &Names<'name, A>,
     manner: Manner,
 ) -> Result<(Option<Nearest<'name, A>>, u128), Message>
+    // If `commit` has a name, the answer has it. Otherwise the answer has the name of an ancestor
+    // along the followed parents, or no name if no such ancestor has one or nothing can be found.
+    // `IsNamedBy` bounds the depth; one bound has the premise older parents.
     ensures described { IfOk result (λ r. Describes (S.history graph.old.source) commit.now
         (options_by names.now manner) (outcomes_by names.now r.0)) }
+
+    // A nearest name has the id of `commit`.
     ensures kept { IfOk result (λ r. IfSome r.0 (λ n. n.id ≡ commit.now)) }
+
+    // If the history is walked, an answer with a name is the fixed answer (`IsTied`): the name, the
+    // depth and the number of commits seen.
     ensures tied { IfOk result (λ r. Ties (S.history graph.old.source) commit.now
         (options_by names.now manner) (outcomes_by names.now r.0)) }
+
+    // If the history is walked and the answer has `n` commits seen, the graph holds exactly
+    // `commit` and, of the followed parents of the first `n - 1` commits in the walking order,
+    // those that the history has.
     ensures held { IfOk result (λ r. Holds (S.history graph.old.source) commit.now
         (options_by names.now manner) (outcomes_by names.now r.0) (held_at graph.new)) }
+
+    // The number of pops is 0 without a walk. If the walk finds no name, it is the number of
+    // followed ancestors. Otherwise it is the number of commits seen, and one more exactly if only
+    // a lack of room caused the cut. It is at most one more than the number of followed ancestors.
     ensures pops { IfOk result (λ r. CountsPops (S.history graph.old.source) commit.now
         (options_by names.now manner) (outcomes_by names.now r.0) r.1) }
+
+    // `ParentsOf` names `commit` or an ancestor of it. `MissingStart` names `commit`, which the
+    // history does not have. `CounterFull` means that 2^32 or more commits are reachable. These
+    // three errors come only if the history is walked.
     ensures refused { IfErr result
         (Refuses (S.history graph.old.source) commit.now (options_by names.now manner)) }
+
+    // After `ParentsOf`, either the error names `commit` and the graph holds nothing, or the graph
+    // holds `commit`, those followed parents of all commits walked before the named one that the
+    // history has, and apart from these only followed parents of the named one (`StandsAt`).
     ensures fault { IfErr result (λ e. HoldsAtFault (S.history graph.old.source) commit.now
         (options_by names.now manner) e (held_at graph.new)) }
+
+    // Also after an error, the graph is unchanged if the history is not walked.
     ensures untouched { (¬ Walks commit.now (options_by names.now manner)) → graph.new ≡ graph.old }
-    // Takes no memory if there is no name to find.
+
+    // If `commit` has no name, and there are no names or none may be taken, the call does not fail.
     ensures no_walk { name_at (names_of names.now.entries) commit.now ≡ None
         → IsTrue (nothing_to_find (names_of names.now.entries) (min manner.max_candidates 32))
         → IsOk result }
+
+    // Also after an error, the history of the source is unchanged.
     ensures history { S.history graph.new.source ≡ S.history graph.old.source }
+
+    // After `ParentsOf` the fault count of the source is one more, up to `u64::MAX`. Otherwise the
+    // count is unchanged.
     ensures count { S.fault_count graph.new.source
         ≡ count_after (is_source_fault result) (S.fault_count graph.old.source) }
 {
@@ -197,24 +229,56 @@ pub fn counted<'name, S: Find, A: Allocator + Copy>(
     graph: &mut Graph<S, u32, A>,
     options: Options<'name, A>,
 ) -> Result<(Option<Outcome<'name, A>>, u128), Message>
+    // If `commit` has a name, the answer has it. Otherwise the answer has the name of an ancestor
+    // along the followed parents, or no name if no such ancestor has one or nothing can be found.
+    // `IsNamedBy` bounds the depth; one bound has the premise older parents.
     ensures described { IfOk result
         (λ r. Describes (S.history graph.old.source) commit.now options.entry r.0) }
+
+    // An outcome has the id of `commit`, and the map of names that was passed.
     ensures kept { IfOk result (λ r. Keeps commit.now options.entry r.0) }
+
+    // If the history is walked, an answer with a name is the fixed answer (`IsTied`): the name, the
+    // depth and the number of commits seen.
     ensures tied { IfOk result
         (λ r. Ties (S.history graph.old.source) commit.now options.entry r.0) }
+
+    // If the history is walked and the answer has `n` commits seen, the graph holds exactly
+    // `commit` and, of the followed parents of the first `n - 1` commits in the walking order,
+    // those that the history has.
     ensures held { IfOk result
         (λ r. Holds (S.history graph.old.source) commit.now options.entry r.0 (held_at graph.new)) }
+
+    // The number of pops is 0 without a walk. If the walk finds no name, it is the number of
+    // followed ancestors. Otherwise it is the number of commits seen, and one more exactly if only
+    // a lack of room caused the cut. It is at most one more than the number of followed ancestors.
     ensures pops { IfOk result
         (λ r. CountsPops (S.history graph.old.source) commit.now options.entry r.0 r.1) }
+
+    // `ParentsOf` names `commit` or an ancestor of it. `MissingStart` names `commit`, which the
+    // history does not have. `CounterFull` means that 2^32 or more commits are reachable. These
+    // three errors come only if the history is walked.
     ensures refused { IfErr result
         (Refuses (S.history graph.old.source) commit.now options.entry) }
+
+    // After `ParentsOf`, either the error names `commit` and the graph holds nothing, or the graph
+    // holds `commit`, those followed parents of all commits walked before the named one that the
+    // history has, and apart from these only followed parents of the named one (`StandsAt`).
     ensures fault { IfErr result (λ e.
         HoldsAtFault (S.history graph.old.source) commit.now options.entry e (held_at graph.new)) }
+
+    // Also after an error, the graph is unchanged if the history is not walked.
     ensures untouched { (¬ Walks commit.now options.entry) → graph.new ≡ graph.old }
-    // Takes no memory if there is no name to find.
+
+    // If `commit` has no name, and there are no names or none may be taken, the call does not fail.
     ensures no_walk { name_at (names_in options.entry) commit.now ≡ None
         → IsTrue (nothing_to_find (names_in options.entry) (cap_of options.entry)) → IsOk result }
+
+    // Also after an error, the history of the source is unchanged.
     ensures history { S.history graph.new.source ≡ S.history graph.old.source }
+
+    // After `ParentsOf` the fault count of the source is one more, up to `u64::MAX`. Otherwise the
+    // count is unchanged.
     ensures count { S.fault_count graph.new.source
         ≡ count_after (is_source_fault result) (S.fault_count graph.old.source) }
 {
@@ -291,22 +355,50 @@ pub fn describe<'name, S: Find, A: Allocator + Copy>(
     graph: &mut Graph<S, u32, A>,
     options: Options<'name, A>,
 ) -> Result<Option<Outcome<'name, A>>, Message>
+    // If `commit` has a name, the answer has it. Otherwise the answer has the name of an ancestor
+    // along the followed parents, or no name if no such ancestor has one or nothing can be found.
+    // `IsNamedBy` bounds the depth; one bound has the premise older parents.
     ensures described { IfOk result
         (Describes (S.history graph.old.source) commit.now options.entry) }
+
+    // An outcome has the id of `commit`, and the map of names that was passed.
     ensures kept { IfOk result (Keeps commit.now options.entry) }
+
+    // If the history is walked, an answer with a name is the fixed answer (`IsTied`): the name, the
+    // depth and the number of commits seen.
     ensures tied { IfOk result
         (Ties (S.history graph.old.source) commit.now options.entry) }
+
+    // If the history is walked and the answer has `n` commits seen, the graph holds exactly
+    // `commit` and, of the followed parents of the first `n - 1` commits in the walking order,
+    // those that the history has.
     ensures held { IfOk result
         (λ r. Holds (S.history graph.old.source) commit.now options.entry r (held_at graph.new)) }
+
+    // `ParentsOf` names `commit` or an ancestor of it. `MissingStart` names `commit`, which the
+    // history does not have. `CounterFull` means that 2^32 or more commits are reachable. These
+    // three errors come only if the history is walked.
     ensures refused { IfErr result
         (Refuses (S.history graph.old.source) commit.now options.entry) }
+
+    // After `ParentsOf`, either the error names `commit` and the graph holds nothing, or the graph
+    // holds `commit`, those followed parents of all commits walked before the named one that the
+    // history has, and apart from these only followed parents of the named one (`StandsAt`).
     ensures fault { IfErr result (λ e.
         HoldsAtFault (S.history graph.old.source) commit.now options.entry e (held_at graph.new)) }
+
+    // Also after an error, the graph is unchanged if the history is not walked.
     ensures untouched { (¬ Walks commit.now options.entry) → graph.new ≡ graph.old }
-    // Takes no memory if there is no name to find.
+
+    // If `commit` has no name, and there are no names or none may be taken, the call does not fail.
     ensures no_walk { name_at (names_in options.entry) commit.now ≡ None
         → IsTrue (nothing_to_find (names_in options.entry) (cap_of options.entry)) → IsOk result }
+
+    // Also after an error, the history of the source is unchanged.
     ensures history { S.history graph.new.source ≡ S.history graph.old.source }
+
+    // After `ParentsOf` the fault count of the source is one more, up to `u64::MAX`. Otherwise the
+    // count is unchanged.
     ensures count { S.fault_count graph.new.source
         ≡ count_after (is_source_fault result) (S.fault_count graph.old.source) }
 {

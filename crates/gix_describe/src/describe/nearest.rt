@@ -23,11 +23,22 @@ pub struct Nearest<'name, A: Allocator = Global> {
 impl<'name, A: Allocator> Nearest<'name, A> {
     /// Returns a description to print, with `hex_len` digits of the id. Takes no memory.
     pub fn into_format(self, hex_len: usize) -> Format<'name, A>
+        // The format has the same name.
         ensures name { result.name ≡ self.entry.name }
+
+        // The format has the same id.
         ensures id { result.id ≡ self.entry.id }
+
+        // The number of digits of the format is `hex_len`.
         ensures digits { result.hex_len ≡ hex_len }
+
+        // The format has the same depth.
         ensures depth { result.depth ≡ self.entry.depth }
+
+        // The format does not ask for the long form.
         ensures long { result.long ≡ false }
+
+        // The format has no suffix.
         ensures suffix { result.dirty_suffix ≡ None }
     {
         Format {

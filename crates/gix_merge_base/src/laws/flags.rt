@@ -12,6 +12,7 @@ use bitflags::Flags as BitFlags;
 
 /// Returns the bits of the constants `COMMIT1`, `COMMIT2`, `STALE` and `RESULT`.
 pub fn constants() -> [u8; 4]
+    // The four numbers are 1, 2, 4 and 8.
     ensures { result ≡ 1 ∷ 2 ∷ 4 ∷ 8 ∷ [] }
 {
     [
@@ -24,6 +25,7 @@ pub fn constants() -> [u8; 4]
 
 /// Returns a set with exactly these bits.
 pub fn from_bits_retain(bits: u8) -> Flags
+    // The bits of the set are exactly `bits`.
     ensures { bits_of result ≡ bits }
 {
     Flags::from_bits_retain(bits)
@@ -31,6 +33,7 @@ pub fn from_bits_retain(bits: u8) -> Flags
 
 /// Returns the bits of the set.
 pub fn bits(flags: Flags) -> u8
+    // The answer is the bits of the set.
     ensures { result ≡ bits_of flags }
 {
     flags.bits()
@@ -38,6 +41,7 @@ pub fn bits(flags: Flags) -> u8
 
 /// Returns a set with no bits.
 pub fn empty() -> Flags
+    // The set has no bits.
     ensures { bits_of result ≡ 0 }
 {
     Flags::empty()
@@ -45,6 +49,7 @@ pub fn empty() -> Flags
 
 /// Returns a set with no bits.
 pub fn default() -> Flags
+    // The set has no bits.
     ensures { bits_of result ≡ 0 }
 {
     Flags::default()
@@ -52,6 +57,7 @@ pub fn default() -> Flags
 
 /// Returns a set with the bits of the four marks.
 pub fn all() -> Flags
+    // The bits of the set are 15, the bits of the four marks.
     ensures { bits_of result ≡ 15 }
 {
     Flags::all()
@@ -59,6 +65,7 @@ pub fn all() -> Flags
 
 /// Tests whether the set has no bits.
 pub fn is_empty(flags: Flags) -> bool
+    // The answer is `true` exactly if the set has no bits.
     ensures { result ≡ (bits_of flags == 0) }
 {
     flags.is_empty()
@@ -66,6 +73,7 @@ pub fn is_empty(flags: Flags) -> bool
 
 /// Tests whether every bit of `other` is set.
 pub fn contains(flags: Flags, other: Flags) -> bool
+    // The answer is `true` exactly if `flags` has every bit of `other`.
     ensures { result ≡ has_all flags other }
 {
     flags.contains(other)
@@ -73,6 +81,7 @@ pub fn contains(flags: Flags, other: Flags) -> bool
 
 /// Sets the bits of `other` as well.
 pub fn insert(flags: &mut Flags, other: Flags)
+    // After the call, `flags` has the bits that it had, and the bits of `other`.
     ensures { bits_of flags.new ≡ bit_or (bits_of flags.old) (bits_of other) }
 {
     flags.insert(other);
@@ -80,6 +89,7 @@ pub fn insert(flags: &mut Flags, other: Flags)
 
 /// Clears the bits of `other`.
 pub fn remove(flags: &mut Flags, other: Flags)
+    // After the call, `flags` has the bits that it had, without the bits of `other`.
     ensures { bits_of flags.new ≡ without 8 (bits_of flags.old) (bits_of other) }
 {
     flags.remove(other);

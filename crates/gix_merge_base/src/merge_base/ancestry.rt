@@ -162,25 +162,39 @@ pub fn is_ancestor<S: Find, A: Allocator + Copy>(
     of: ObjectId,
     graph: &mut Graph<S, Commit<Flags, A>, A>,
 ) -> Result<bool, Error>
+    // Premise: ordered generations, for what `of` reaches. The answer is `true` exactly if
+    // `ancestor` is an ancestor of `of`.
     ensures ancestor { GenerationsNeverRiseFrom (S.history graph.old.source) (of ∷ [])
         → IfOk result (λ yes. IsTrue yes ↔ IsAncestor (S.history graph.old.source) of ancestor) }
 
-    // Needs no premise.
+    // The answer is `true` only if `ancestor` is an ancestor of `of`.
     ensures reached { IfOk result (λ yes. IsTrue yes
         → IsAncestor (S.history graph.old.source) of ancestor) }
 
-    // Both ids are equal.
+    // If both ids are equal, the answer is `true` exactly if the source has this commit.
     ensures same { IsTrue (same_id ancestor of)
         → IfOk result (λ yes. yes ≡ is_some (entry_at (S.history graph.old.source) of)) }
+
+    // If both ids are equal, the call loads at most this commit, also after an error.
     ensures same_taken { IsTrue (same_id ancestor of)
         → HoldsMore (S.history graph.old.source) (of ∷ []) graph.old graph.new }
 
+    // Also after an error, each commit that the call loads is `ancestor`, or an ancestor of `of`.
     ensures taken { (q : ObjectId) → IsHeld graph.new q → IsHeld graph.old q
         ⊎ ((q ≡ ancestor) ⊎ IsAncestor (S.history graph.old.source) of q) }
+
+    // The history of the source is unchanged, also after an error.
     ensures history { S.history graph.new.source ≡ S.history graph.old.source }
+
+    // A source error has one of two texts: a commit, or a parent commit, could not be inserted.
     ensures cause { IfErr result HasInsertText }
+
+    // If the call returns the source error, the fault count grows by one, or stays at `u64::MAX`.
+    // Otherwise the fault count is unchanged.
     ensures count { S.fault_count graph.new.source
         ≡ count_after (is_source_fault result) (S.fault_count graph.old.source) }
+
+    // The graph keeps every commit that it holds, also after an error.
     ensures held { KeepsHeld graph.old graph.new }
 {
     if ancestor == of {

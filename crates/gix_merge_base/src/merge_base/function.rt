@@ -58,40 +58,59 @@ pub fn merge_base<S: Find, A: Allocator + Copy>(
     others: &[ObjectId],
     graph: &mut Graph<S, Commit<Flags, A>, A>,
 ) -> Result<Option<NonEmpty<ObjectId, A>>, Error>
+    // Premises: acyclic, ordered generations. The ids of the answer are exactly the merge bases.
+    // `None` has no ids.
     ensures bases { IsAcyclicFrom (S.history graph.old.source) (first ∷ others.now)
         → GenerationsNeverRiseFrom (S.history graph.old.source) (first ∷ others.now)
         → IfOk result (λ found.
         AreBases (S.history graph.old.source) first others.now (ids_of found)) }
+
+    // Premise: acyclic. If `others` is not empty and does not contain `first`, the answer has every
+    // merge base, and only common ancestors.
     ensures without_generations { IsAcyclicFrom (S.history graph.old.source) (first ∷ others.now)
         → is_trivial first others.now ≡ false
         → IfOk result (λ found.
         CoverBases (S.history graph.old.source) first others.now (ids_of found)) }
+
+    // Each id of the answer occurs once.
     ensures once { IfOk result (λ found. IsDistinct same_id (ids_of found)) }
 
-    // Needs no premise.
+    // The answer is sorted by falling generation number, then falling time, then rising id.
     ensures order { IfOk result (λ found.
         IsInOrder (S.history graph.old.source) (ids_of found)) }
 
-    // `others` is empty or contains `first`.
+    // If `others` is empty or contains `first`, the call succeeds, and the graph is unchanged.
     ensures trivial { IsTrue (is_trivial first others.now) → IsOk result × (graph.new ≡ graph.old) }
+
+    // If `others` is empty or contains `first`, the only id of the answer is `first`.
     ensures trivial_answer { IsTrue (is_trivial first others.now)
         → IfOk result (λ found. ids_of found ≡ first ∷ []) }
 
-    // Also after an error.
+    // Also after an error, each commit that the call loads is an argument, or an ancestor of one.
     ensures reached { (q : ObjectId) → IsHeld graph.new q
         → IsHeld graph.old q ⊎ MayBeMet (S.history graph.old.source) first others.now q }
 
-    // With falling keys and at most one merge base, the call loads little.
+    // Premise: falling keys. Also after an error, if there is at most one merge base, each commit
+    // that the call loads is an argument, or a parent of a reached commit whose key is at least
+    // that of some outside commit of the history (`MayBeTaken`).
     ensures taken { KeysFallFrom (S.history graph.old.source) (first ∷ others.now)
         → ((a b : ObjectId) → IsBase (S.history graph.old.source) first others.now a
         → IsBase (S.history graph.old.source) first others.now b → a ≡ b)
         → (q : ObjectId) → IsHeld graph.new q
         → IsHeld graph.old q ⊎ MayBeTaken (S.history graph.old.source) first others.now q }
 
+    // The history of the source is unchanged, also after an error.
     ensures history { S.history graph.new.source ≡ S.history graph.old.source }
+
+    // A source error has one of two texts: a commit, or a parent commit, could not be inserted.
     ensures cause { IfErr result HasInsertText }
+
+    // If the call returns the source error, the fault count grows by one, or stays at `u64::MAX`.
+    // Otherwise the fault count is unchanged.
     ensures count { S.fault_count graph.new.source
         ≡ count_after (is_source_fault result) (S.fault_count graph.old.source) }
+
+    // The graph keeps every commit that it holds, also after an error.
     ensures held { KeepsHeld graph.old graph.new }
 {
     let (bases, _pops) = counted(alloc, first, others, graph)?;

@@ -162,25 +162,40 @@ pub fn octopus_bases<S: Find, A: Allocator + Copy>(
     others: &[ObjectId],
     graph: &mut Graph<S, Commit<Flags, A>, A>,
 ) -> Result<Vec<ObjectId, A>, Error>
+    // Premise: acyclic. Unless all ids are equal, the answer has only ancestors of all the ids, and
+    // each such ancestor is an ancestor of an id of the answer. With ordered generations as well,
+    // the answer has exactly those that no other such ancestor reaches.
     ensures bases { IsAcyclicFrom (S.history graph.old.source) (first ∷ others.now)
         → list_all (same_id first) others.now ≡ false
         → IfOk result (λ bases.
         AreOctopusBases (S.history graph.old.source) first others.now bases.items) }
+
+    // The answer is sorted by falling generation number, then falling time, then rising id.
     ensures order { IfOk result (λ bases. IsInOrder (S.history graph.old.source) bases.items) }
 
-    // All ids are equal.
+    // If all ids are equal, the graph is unchanged, also after an error.
     ensures trivial { IsTrue (list_all (same_id first) others.now) → graph.new ≡ graph.old }
+
+    // If all ids are equal, the only id of the answer is `first`.
     ensures trivial_answer { IsTrue (list_all (same_id first) others.now)
         → IfOk result (λ bases. bases.items ≡ first ∷ []) }
 
-    // Also after an error.
+    // Also after an error, each commit that the call loads is an argument, or an ancestor of one.
     ensures reached { (q : ObjectId) → IsHeld graph.new q
         → IsHeld graph.old q ⊎ MayBeMet (S.history graph.old.source) first others.now q }
 
+    // The history of the source is unchanged, also after an error.
     ensures history { S.history graph.new.source ≡ S.history graph.old.source }
+
+    // A source error has one of two texts: a commit, or a parent commit, could not be inserted.
     ensures cause { IfErr result HasInsertText }
+
+    // If the call returns the source error, the fault count grows by one, or stays at `u64::MAX`.
+    // Otherwise the fault count is unchanged.
     ensures count { S.fault_count graph.new.source
         ≡ count_after (is_source_fault result) (S.fault_count graph.old.source) }
+
+    // The graph keeps every commit that it holds, also after an error.
     ensures held { KeepsHeld graph.old graph.new }
 {
     if all_are(others, first) {
@@ -225,29 +240,43 @@ pub fn octopus<S: Find, A: Allocator + Copy>(
     others: &[ObjectId],
     graph: &mut Graph<S, Commit<Flags, A>, A>,
 ) -> Result<Option<ObjectId>, Error>
+    // Premises: acyclic, ordered generations. The answer is the octopus base, and `None` exactly if
+    // there is none.
     ensures base { IsAcyclicFrom (S.history graph.old.source) (first ∷ others.now)
         → GenerationsNeverRiseFrom (S.history graph.old.source) (first ∷ others.now)
         → IfOk result (IsOctopusBase (S.history graph.old.source) first others.now) }
+
+    // Premise: acyclic. Unless all ids are equal, the answer is an ancestor of all the ids, and
+    // `None` exactly if there is no such ancestor.
     ensures common { IsAcyclicFrom (S.history graph.old.source) (first ∷ others.now)
         → list_all (same_id first) others.now ≡ false
         → IfOk result (IsCommonToAll (S.history graph.old.source) first others.now) }
 
-    // Needs no premise: the first of a list that has what `octopus_bases` promises.
+    // The answer is the first id of some list that keeps what `octopus_bases` promises of an answer
+    // (`AnswersOctopusBases`), and `None` exactly if that list is empty.
     ensures first { IfOk result
         (IsFirstOctopusBase (S.history graph.old.source) first others.now) }
 
-    // All ids are equal.
+    // If all ids are equal, the call succeeds with `first`, and the graph is unchanged.
     ensures trivial { IsTrue (list_all (same_id first) others.now)
         → (result ≡ Ok (Some first)) × (graph.new ≡ graph.old) }
 
-    // Also after an error.
+    // Also after an error, each commit that the call loads is an argument, or an ancestor of one.
     ensures reached { (q : ObjectId) → IsHeld graph.new q
         → IsHeld graph.old q ⊎ MayBeMet (S.history graph.old.source) first others.now q }
 
+    // The history of the source is unchanged, also after an error.
     ensures history { S.history graph.new.source ≡ S.history graph.old.source }
+
+    // A source error has one of two texts: a commit, or a parent commit, could not be inserted.
     ensures cause { IfErr result HasInsertText }
+
+    // If the call returns the source error, the fault count grows by one, or stays at `u64::MAX`.
+    // Otherwise the fault count is unchanged.
     ensures count { S.fault_count graph.new.source
         ≡ count_after (is_source_fault result) (S.fault_count graph.old.source) }
+
+    // The graph keeps every commit that it holds, also after an error.
     ensures held { KeepsHeld graph.old graph.new }
 {
     if all_are(others, first) {

@@ -157,40 +157,64 @@ pub fn paint<S: Find, A: Allocator + Copy>(
     others: &[ObjectId],
     graph: &mut Graph<S, Commit<Flags, A>, A>,
 ) -> Result<(Vec<ObjectId, A>, u128), Error>
+    // Each id of the answer is a common ancestor of `first` and one of `others`.
     ensures common { IfOk result (λ r. (c : ObjectId) → IsTrue (is_one_of r.0.items c)
         → IsCommon (S.history graph.old.source) first others.now c) }
+
+    // Premise: acyclic. The answer has every common ancestor that no other common ancestor reaches.
     ensures best { IsAcyclicFrom (S.history graph.old.source) (first ∷ others.now)
         → IfOk result (λ r. (c : ObjectId) → IsMaximal (S.history graph.old.source)
         (IsCommon (S.history graph.old.source) first others.now) c
         → IsTrue (is_one_of r.0.items c)) }
+
+    // Each id of the answer occurs once.
     ensures once { IfOk result (λ r. IsDistinct same_id r.0.items) }
 
-    // Bounds the number of pops; n is the number of commits that the source has.
+    // If the source has `n` commits and there are `m` others, the returned number of pops is at
+    // most `3 * n + 1 + m`.
     ensures most { (n : ℕ) → HasSize (Has (S.history graph.old.source)) n
         → IfOk result (λ r. r.1 ≤ 3 * n + 1 + length others.now) }
+
+    // Premise: acyclic. The returned number of pops is at least the number of commits that the
+    // arguments reach and that no other common ancestor reaches.
     ensures least { IsAcyclicFrom (S.history graph.old.source) (first ∷ others.now)
         → IfOk result (λ r. AtMost r.1
         (IsUnreached (S.history graph.old.source) first others.now)) }
 
+    // Also after an error, each commit that the call loads is an argument, or an ancestor of one.
     ensures reached { (q : ObjectId) → IsHeld graph.new q
         → IsHeld graph.old q ⊎ MayBeMet (S.history graph.old.source) first others.now q }
 
-    // With falling keys the call loads little, and each answer is maximal.
+    // Premise: falling keys. Also after an error, each commit that the call loads is an argument,
+    // or a parent of a reached commit whose key is at least that of some outside commit of the
+    // history (`MayBeTaken`).
     ensures taken { KeysFallFrom (S.history graph.old.source) (first ∷ others.now)
         → (q : ObjectId) → IsHeld graph.new q
         → IsHeld graph.old q ⊎ MayBeTaken (S.history graph.old.source) first others.now q }
+
+    // Premise: falling keys. Each id of the answer is a common ancestor that no other common
+    // ancestor reaches.
     ensures strict { KeysFallFrom (S.history graph.old.source) (first ∷ others.now)
         → IfOk result (λ r. (c : ObjectId) → IsTrue (is_one_of r.0.items c)
         → IsMaximal (S.history graph.old.source)
         (IsCommon (S.history graph.old.source) first others.now) c) }
 
+    // Premise: never-rising keys. No id of the answer has a greater key than an earlier id.
     ensures falling { NoneRisesFrom (S.history graph.old.source) (first ∷ others.now)
         → IfOk result (λ r. InFallingOrder (S.history graph.old.source) r.0.items) }
 
+    // The history of the source is unchanged, also after an error.
     ensures history { S.history graph.new.source ≡ S.history graph.old.source }
+
+    // A source error has one of two texts: a commit, or a parent commit, could not be inserted.
     ensures cause { IfErr result HasInsertText }
+
+    // If the call returns the source error, the fault count grows by one, or stays at `u64::MAX`.
+    // Otherwise the fault count is unchanged.
     ensures count { S.fault_count graph.new.source
         ≡ count_after (is_source_fault result) (S.fault_count graph.old.source) }
+
+    // The graph keeps every commit that it holds, also after an error.
     ensures held { KeepsHeld graph.old graph.new }
 {
     let mut walk = Walk::new(alloc, 0);

@@ -345,23 +345,37 @@ pub fn reduce<S: Find, A: Allocator + Copy>(
     ids: &[ObjectId],
     graph: &mut Graph<S, Commit<Flags, A>, A>,
 ) -> Result<Vec<ObjectId, A>, Error>
+    // Premises: acyclic, ordered generations. The answer has exactly those of `ids` that no other
+    // of `ids` reaches.
     ensures independent { IsAcyclicFrom (S.history graph.old.source) ids.now
         → GenerationsNeverRiseFrom (S.history graph.old.source) ids.now
         → IfOk result (λ left. (c : ObjectId) → IsTrue (is_one_of left.items c)
         ↔ IsIndependent (S.history graph.old.source) ids.now c) }
+
+    // Premise: acyclic. The answer has each of `ids` that no other of `ids` reaches.
     ensures kept { IsAcyclicFrom (S.history graph.old.source) ids.now
         → IfOk result (λ left. (c : ObjectId) → IsIndependent (S.history graph.old.source) ids.now c
         → IsTrue (is_one_of left.items c)) }
+
+    // The answer has some of `ids`, each once, in the order of their first places.
     ensures some { IfOk result (λ left. SomeOf ids.now left.items) }
 
-    // Also after an error.
+    // Also after an error, each commit that the call loads is one of `ids`, or an ancestor of one.
     ensures reached { (q : ObjectId) → IsHeld graph.new q
         → IsHeld graph.old q ⊎ MayBeMetFrom (S.history graph.old.source) ids.now q }
 
+    // The history of the source is unchanged, also after an error.
     ensures history { S.history graph.new.source ≡ S.history graph.old.source }
+
+    // A source error has one of two texts: a commit, or a parent commit, could not be inserted.
     ensures cause { IfErr result HasInsertText }
+
+    // If the call returns the source error, the fault count grows by one, or stays at `u64::MAX`.
+    // Otherwise the fault count is unchanged.
     ensures count { S.fault_count graph.new.source
         ≡ count_after (is_source_fault result) (S.fault_count graph.old.source) }
+
+    // The graph keeps every commit that it holds, also after an error.
     ensures held { KeepsHeld graph.old graph.new }
 {
     let mut left = gather(alloc, graph.seed(), ids)?;

@@ -192,15 +192,31 @@ pub fn commits_newest_first<S: Find, A: Allocator + Copy>(
     spec: &Spec,
     graph: &mut Graph<S, Commit<Flags, A>, A>,
 ) -> Result<Vec<ObjectId, A>, ListError>
+    // The answer has exactly the commits that the spec means, each once.
     ensures meant { IfOk result
         (λ ids. Lists ids.items (IsMeant (S.history graph.old.source) spec.now)) }
+
+    // The ids are in order, each once: by falling generation number, then falling commit date, then
+    // rising id. A missing generation number counts as infinity.
     ensures order { IfOk result (λ ids. IsInOrder (S.history graph.old.source) ids.items) }
+
+    // Also after an error the source's history is unchanged.
     ensures history { S.history graph.new.source ≡ S.history graph.old.source }
+
+    // The fault count is one more exactly if the call returns `ListError::Source`. At `u64::MAX`
+    // the count stays.
     ensures count { S.fault_count graph.new.source
         ≡ count_after (is_list_source_fault result) (S.fault_count graph.old.source) }
+
+    // Also after an error the graph keeps every commit that it holds.
     ensures held { KeepsHeld graph.old graph.new }
+
+    // Also after an error each newly held commit is reachable from an id of the spec. If the spec
+    // is `a^!`, this commit is `a`. If the spec is `^a`, no commit is newly held.
     ensures taken { TakesOnly (IsLookedAt (S.history graph.old.source) spec.now)
         graph.old graph.new }
+
+    // If the spec is `^a`, the call succeeds with an empty list, and the graph is unchanged.
     ensures exclude { IsTrue (is_exclude spec.now)
         → IsOkAnd result (λ ids. ids.items ≡ []) × (graph.new ≡ graph.old) }
 {
@@ -251,14 +267,27 @@ pub fn newest_first<S: Find, A: Allocator + Copy>(
     ids: &[ObjectId],
     graph: &mut Graph<S, Commit<Flags, A>, A>,
 ) -> Result<Vec<ObjectId, A>, ListError>
+    // The ids are in order, each once: by falling generation number, then falling commit date, then
+    // rising id. A missing generation number counts as infinity.
     ensures order { IfOk result
         (λ found. IsInOrder (S.history graph.old.source) found.items) }
+
+    // The answer has exactly those of `ids` that the source has.
     ensures same { IfOk result (λ found. (c : ObjectId) → IsTrue (is_one_of found.items c)
         ↔ (IsTrue (is_one_of ids.now c) × Has (S.history graph.old.source) c)) }
+
+    // Also after an error the source's history is unchanged.
     ensures history { S.history graph.new.source ≡ S.history graph.old.source }
+
+    // The fault count is one more exactly if the call returns `ListError::Source`. At `u64::MAX`
+    // the count stays.
     ensures count { S.fault_count graph.new.source
         ≡ count_after (is_list_source_fault result) (S.fault_count graph.old.source) }
+
+    // Also after an error the graph keeps every commit that it holds.
     ensures held { KeepsHeld graph.old graph.new }
+
+    // Also after an error each newly held commit is one of `ids`, and the source has it.
     ensures taken { HoldsMore (S.history graph.old.source) ids.now graph.old graph.new }
 {
     let found = in_order(alloc, ids, graph)?;

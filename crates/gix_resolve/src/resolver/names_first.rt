@@ -199,16 +199,36 @@ pub fn rev_parse<'a, S: Find, A: Allocator + Copy, I: Ids>(
     table: &Table<A, I>,
     graph: &mut Graph<S, Commit<Flags, A>, A>,
 ) -> Result<Spec, Error<'a>>
+    // Unless the first refusal says that the source failed, the result is the spec or the error
+    // with which a run of the text over the table and the history, in git's order, ends. Such a run
+    // can end with `OutOfMemory` only at a call that asks the source, or at an escape in braces.
     ensures resolved { is_fault result ≡ false
         → RevParsed text.now now (known_by I.ids table.now) (S.history graph.old.source) result }
+
+    // In any case the result is the spec or the error with which a run of the text in git's order
+    // ends, if a call that asks the source may also be refused with `the source failed`.
     ensures fault { RevParsedOrFault text.now now (known_by I.ids table.now)
         (S.history graph.old.source) result }
+
+    // The result is not `OutOfMemory` if no piece of the text is a step, a `^-n`, a `^{commit}`
+    // (also written `^0`), a `^{object}`, a `^{}` or an escape in braces.
     ensures memory { rev_may_want_memory (pieces_of text.now) ≡ false
         → IsErrOf result Error.OutOfMemory → ⊥ }
+
+    // The fault count is one more exactly if the first refusal says that the source failed. At
+    // `u64::MAX` the count stays.
     ensures count { S.fault_count graph.new.source
         ≡ count_after (is_fault result) (S.fault_count graph.old.source) }
+
+    // Also after an error the source's history is unchanged.
     ensures history { S.history graph.new.source ≡ S.history graph.old.source }
+
+    // Also after an error the graph keeps every commit that it holds.
     ensures held { KeepsHeld graph.old graph.new }
+
+    // A run as in `fault` leads from the old graph to the new one. Each call keeps held commits and
+    // loads only commits on its way. An accepted call that asks the source leaves both its ends
+    // held. If the source does not answer a call, a commit that the call may ask for is not held.
     ensures walked { RevWalkedTo text.now now (known_by I.ids table.now) (S.history graph.old.source)
         graph.old result graph.new }
 {

@@ -54,6 +54,7 @@ impl<D: Drop, A: Allocator> Commit<D, A> {
 
     /// Returns its parents in the source's order, also those that the source does not have.
     pub fn parents(&self) -> &[ObjectId]
+        // The answer is the list of the commit's parents, in order.
         ensures { result.now ≡ (copied_entry self.now).parents }
     {
         &self.parents
@@ -61,6 +62,7 @@ impl<D: Drop, A: Allocator> Commit<D, A> {
 
     /// Returns its time, in seconds since the Unix epoch.
     pub fn commit_time(&self) -> i64
+        // The answer is the time of the commit.
         ensures { result ≡ (copied_entry self.now).time }
     {
         self.time
@@ -68,6 +70,8 @@ impl<D: Drop, A: Allocator> Commit<D, A> {
 
     /// Returns its generation number; `None` if the source knows none.
     pub fn generation(&self) -> Option<u32>
+        // The answer is the generation number of the commit. The answer is `None` exactly if the
+        // commit has none.
         ensures { result ≡ (copied_entry self.now).generation }
     {
         self.generation
@@ -75,6 +79,7 @@ impl<D: Drop, A: Allocator> Commit<D, A> {
 
     /// Returns its data.
     pub fn data(&self) -> &D
+        // The answer is the data of the commit.
         ensures { result.now ≡ data_of self.now }
     {
         &self.data
@@ -113,29 +118,43 @@ impl<S: Find, D: Drop, A: Allocator + Copy> Graph<S, Commit<D, A>, A> {
         id: ObjectId,
         new: D,
     ) -> Result<FullCommit<'_, S, D, A>, Error>
-        // How the graph ends: as the one in the place, or what it is after an error.
+        // The graph ends as the graph in the place does. After an error the same ids are held, with
+        // the same data, and the history is unchanged. After `Source` the fault count is one more,
+        // or stays at the greatest `u64`. After `OutOfMemory` the count is unchanged.
         ensures* rests { sem 𝓛 (rests_full S.row D.row A.row S.Find A.Allocator self.entry result) }
 
-        // The place: this graph, and this id.
+        // The place in the answer borrows this graph.
         ensures same_reference { IfOk result
             (λ p. (graph_of p).ghost_name ≡ self.entry.ghost_name) }
+
+        // The place in the answer is for this id.
         ensures id { IfOk result (λ p. id_of p ≡ id) }
 
-        // The source is not asked for a held commit.
+        // If the id is held, the call succeeds, and the graph in the place, with its source, is
+        // unchanged.
         ensures held { IsTrue (is_some (held_at self.old id))
             → IsOkAnd result (λ p. (graph_of p).now ≡ self.old) }
 
-        // The graph in the place: the source has answered, and the commit is held if the source has
-        // it.
+        // After a success the history is unchanged.
         ensures history { IfOk result
             (λ p. S.history (graph_of p).now.source ≡ S.history self.old.source) }
+
+        // After a success the fault count is unchanged.
         ensures count { IfOk result
             (λ p. S.fault_count (graph_of p).now.source ≡ S.fault_count self.old.source) }
+
+        // After a success the graph holds the id exactly if the history has it.
         ensures found { IfOk result
             (λ p. is_some (held_at (graph_of p).now id)
             ≡ is_some (entry_at (S.history self.old.source) id)) }
+
+        // After a success ids that were held keep their data. This id has the data `new` if it was
+        // not held and the history has it. No other id is newly held.
         ensures taken { IfOk result
             (λ p. TakesIn (S.history self.old.source) self.old id new (graph_of p).now) }
+
+        // After a success the number of held ids is one more if the id was not held and the history
+        // has it. Otherwise the number is unchanged.
         ensures len { IfOk result
             (λ p. held_len (graph_of p).now
             ≡ len_after (S.history self.old.source) self.old id) }
@@ -148,9 +167,14 @@ impl<S: Find, D: Drop, A: Allocator + Copy> Graph<S, Commit<D, A>, A> {
     pub fn clear_commit_data(&mut self, value: D)
     where
         D: Copy,
+        // The source is unchanged.
         ensures source { self.new.source ≡ self.old.source }
+
+        // The same ids are held, and each has the data `value`.
         ensures cleared { (q : ObjectId)
             → data_at self.new q ≡ option_map (λ _. value) (held_at self.old q) }
+
+        // The number of held ids is unchanged.
         ensures len { held_len self.new ≡ held_len self.old }
     {
         give_all(&mut self.nodes, value);
@@ -158,8 +182,12 @@ impl<S: Find, D: Drop, A: Allocator + Copy> Graph<S, Commit<D, A>, A> {
 
     /// Lends the data of the held commit `id`; `None` if `id` is not held.
     pub fn data_mut(&mut self, id: &ObjectId) -> Option<&mut D>
+        // What is written through the answer becomes the data of the id. The source, the other
+        // commits and the rest of this commit are unchanged. After `None` the graph is unchanged.
         ensures* writes_back { sem 𝓛
             (lends_data S.row D.row A.row S.Find A.Allocator self.entry id.now result) }
+
+        // The answer is the data of the id. The answer is `None` exactly if the id is not held.
         ensures value { option_copied_mut result ≡ data_at self.old id.now }
     {
         let Some(number) = numbers::number_of(self, id) else {
@@ -186,8 +214,14 @@ impl<'a, S: Find, D: Drop, A: Allocator + Copy> FullCommit<'a, S, D, A> {
 
     /// Lends the data of the commit; `None` if the source does not have the commit.
     pub fn data(self) -> Option<&'a mut D>
+        // What is written through the answer becomes the data of the place's id. The source, the
+        // other commits and the rest of this commit are unchanged. After `None` the graph is
+        // unchanged.
         ensures* writes_back { sem 𝓛
             (lends_place S.row D.row A.row S.Find A.Allocator self.entry result) }
+
+        // The answer is the data of the place's id. The answer is `None` exactly if the graph does
+        // not hold the id.
         ensures value { option_copied_mut result
             ≡ data_at (graph_of self.entry).now (id_of self.entry) }
     {

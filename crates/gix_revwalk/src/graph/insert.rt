@@ -45,12 +45,23 @@ pub trait Insert: Find {
     /// Fails if the history has a commit `id`. The error says what `says_why` states, for example
     /// that an allocation failed. The source is then unchanged.
     fn insert(&mut self, id: ObjectId, commit: Self::Commit) -> Result<(), Self::Refused>
+        // The call succeeds only if the source has no commit with this id yet.
         ensures new { OnOk result (entry_at (Self.history self.old) id ≡ None) }
+
+        // After a success the source has this commit under the id. What the source has under other
+        // ids is unchanged.
         ensures put { OnOk result ((q : ObjectId)
             → entry_at (Self.history self.new) q
             ≡ (if same_id id q then Some (entry commit) else entry_at (Self.history self.old) q)) }
+
+        // After an error the source is unchanged.
         ensures refused { OnErr result (self.new ≡ self.old) }
+
+        // The error says what `says_why` states about the history before the call, the id and the
+        // commit.
         ensures cause { IfErr result (says_why (Self.history self.old) id commit) }
+
+        // The fault count is unchanged, also after an error.
         ensures count { Self.fault_count self.new ≡ Self.fault_count self.old };
 }
 
@@ -64,16 +75,30 @@ impl<S: Insert, D: Drop, A: Allocator + Copy> Graph<S, Commit<D, A>, A> {
     ///
     /// Those of [`Insert::insert`]. The graph is then unchanged.
     pub fn insert(&mut self, id: ObjectId, commit: S::Commit) -> Result<(), S::Refused>
+        // The call succeeds only if the source has no commit with this id yet.
         ensures new { OnOk result (entry_at (S.history self.old.source) id ≡ None) }
+
+        // After a success the source has this commit under the id. What the source has under other
+        // ids is unchanged.
         ensures put { OnOk result ((q : ObjectId)
             → entry_at (S.history self.new.source) q
             ≡ (if same_id id q then Some (S.entry commit)
             else entry_at (S.history self.old.source) q)) }
+
+        // The same ids are held, in the same order and with the same values, also after an error.
         ensures held { self.new.held ≡ self.old.held }
-        // For walks: what the current walk has marked is unchanged.
+
+        // For walks: what the current walk has marked is unchanged, also after an error.
         ensures marked { self.new.marked ≡ self.old.marked }
+
+        // After an error the graph is unchanged, with its source.
         ensures refused { OnErr result (self.new ≡ self.old) }
+
+        // The error says what `says_why` states about the history before the call, the id and the
+        // commit.
         ensures cause { IfErr result (S.says_why (S.history self.old.source) id commit) }
+
+        // The fault count is unchanged, also after an error.
         ensures count { S.fault_count self.new.source ≡ S.fault_count self.old.source }
     {
         self.source.insert(id, commit)

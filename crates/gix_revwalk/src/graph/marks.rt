@@ -31,13 +31,27 @@ impl<S: Find, A: Allocator + Copy> Graph<S, u32, A> {
     ///
     /// Only [`Error::OutOfMemory`]: an allocation failed. The graph is then unchanged.
     pub fn insert(&mut self, id: ObjectId, value: u32) -> Result<Option<u32>, Error>
+        // The source is unchanged, also after an error.
         ensures source { self.new.source ≡ self.old.source }
+
+        // The answer is the value of the id before the call. The answer is `None` exactly if the id
+        // was not held.
         ensures old { IfOk result (λ old. old ≡ held_at self.old id) }
+
+        // After a success the id is held with `value`. Every other id has the value that it had, or
+        // is not held, as before.
         ensures put { OnOk result ((q : ObjectId)
             → held_at self.new q ≡ (if same_id id q then Some value else held_at self.old q)) }
+
+        // The number of held ids is one more if the answer is `None`. After another answer the
+        // number is unchanged.
         ensures len { IfOk result
             (λ old. held_len self.new ≡ held_len self.old + (if is_some old then 0 else 1)) }
+
+        // After an error the graph is unchanged.
         ensures refused { OnErr result (self.new ≡ self.old) }
+
+        // The only error is `OutOfMemory`.
         ensures cause { IfErr result (λ e. e ≡ OutOfMemory) }
     {
         if let Some(number) = numbers::number_of(self, &id) {
@@ -51,8 +65,12 @@ impl<S: Find, A: Allocator + Copy> Graph<S, u32, A> {
 
     /// Lends the value of `id`; `None` if `id` is not held.
     pub fn get_mut(&mut self, id: &ObjectId) -> Option<&mut u32>
+        // What is written through the answer becomes the value of the id. The source and the other
+        // ids with their values are unchanged. After `None` the graph is unchanged.
         ensures* writes_back { sem 𝓛
             (lends_mark S.row A.row S.Find A.Allocator self.entry id.now result) }
+
+        // The answer is the value of the id. The answer is `None` exactly if the id is not held.
         ensures value { option_copied_mut result ≡ held_at self.old id.now }
     {
         let Some(number) = numbers::number_of(self, id) else {
@@ -106,10 +124,20 @@ impl<S: Find, A: Allocator + Copy> Graph<S, u32, A> {
         id: ObjectId,
         first_parent: bool,
     ) -> Result<Option<Vec<(ObjectId, i64), A>>, Error>
+        // The same ids are held, in the same order and with the same values, also after an error.
         ensures held { self.new.held ≡ self.old.held }
+
+        // The history is unchanged, also after an error.
         ensures history { S.history self.new.source ≡ S.history self.old.source }
+
+        // The answer is those parents of the commit that are followed and that the history has, in
+        // order, with their times. If `first_parent`, only the first parent is followed. The answer
+        // is `None` exactly if the history does not have the commit.
         ensures parents { IfOk result (λ found. option_map (λ v. v.items) found
             ≡ followed_at first_parent (S.history self.old.source) id) }
+
+        // After the error `Source` the fault count is one more, or stays at the greatest `u64`.
+        // Otherwise the count is unchanged.
         ensures count { S.fault_count self.new.source
             ≡ count_after (is_source_fault result) (S.fault_count self.old.source) }
     {
