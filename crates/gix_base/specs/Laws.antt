@@ -25,7 +25,8 @@ EqualIsSame {T} equal = (a b : T) → (equal a b ≡ true) ↔ (a ≡ b)
 abbrev pub OrderIs : {T : Type 0} → (T → T → Ordering) → (T → T → Ordering) → Type 0
 OrderIs {T} order definition = (a b : T) → order a b ≡ definition a b
 
--- The text of an id can be read as an id, and its digits say the bytes of the id.
+-- If an id has 20 bytes, its text can be read as an id, and the digits of the text say the bytes of
+-- the id.
 abbrev pub IdsReadBack : Type 0
 IdsReadBack = (id : ObjectId) → IsId id → IsIdText (id_text id) × (bytes_of (id_text id) ≡ id.0)
 
@@ -36,7 +37,7 @@ PrefixesReadBack =
     × (str_to_ascii_lowercase (prefix_text p) ≡ prefix_text p)
     × ((q : Prefix) → prefix_text q ≡ prefix_text p → q ≡ p)
 
--- Each id has a prefix of all its digits.
+-- Each id with 20 bytes has a prefix of all its digits.
 abbrev pub IdsHaveFullPrefixes : Type 0
 IdsHaveFullPrefixes = (id : ObjectId) → IsId id → (p : Prefix) × IsFullPrefix p id
 

@@ -26,6 +26,7 @@ pub struct NonEmpty<T, A: Allocator = Global> {
 impl<T, A: Allocator> NonEmpty<T, A> {
     /// Makes the list of `head` alone. Allocates nothing.
     pub fn new(alloc: A, head: T) -> NonEmpty<T, A>
+        // The list has one item, `head`.
         ensures { all_of result ≡ head ∷ [] }
     {
         NonEmpty {
@@ -36,7 +37,10 @@ impl<T, A: Allocator> NonEmpty<T, A> {
 
     /// Takes over a list, in the same order; `None` if `items` is empty. Allocates nothing.
     pub fn from_vec(mut items: Vec<T, A>) -> Option<NonEmpty<T, A>>
+        // `None` exactly if `items` is empty.
         ensures none { IsNone result ↔ (items.items ≡ []) }
+
+        // The list has the same items, in the same order.
         ensures same { IfSome result (λ list. all_of list ≡ items.items) }
     {
         if items.is_empty() {
@@ -49,6 +53,7 @@ impl<T, A: Allocator> NonEmpty<T, A> {
 
     /// Returns the first item.
     pub fn first(&self) -> &T
+        // The answer is the first item.
         ensures { slice_get (all_of self.now) 0 ≡ Some result.now }
     {
         &self.head
@@ -56,6 +61,7 @@ impl<T, A: Allocator> NonEmpty<T, A> {
 
     /// Iterates over the items, the head first.
     pub fn iter(&self) -> NonEmptyIter<'_, T>
+        // The iterator has all items left to give, in order.
         ensures { left_of result ≡ all_of self.now }
     {
         NonEmptyIter {
@@ -66,6 +72,7 @@ impl<T, A: Allocator> NonEmpty<T, A> {
 
     /// Returns the number of items, or the greatest `usize` if there are more.
     pub fn len(&self) -> usize
+        // The answer is the number of items, or the greatest `usize` if there are more.
         ensures { result ≡ min (length (all_of self.now)) usize.MAX }
     {
         self.tail.len().saturating_add(1)
@@ -112,9 +119,16 @@ impl Exn {
 
     /// Makes a refusal with a message, no input and no causes. Allocates nothing.
     pub fn new(alloc: Global, message: &'static str) -> Exn
+        // The refusal has this message.
         ensures message { message_of result ≡ message.now }
+
+        // The refusal names no text.
         ensures input { input_of result ≡ None }
+
+        // No refusal led to this one.
         ensures causes { causes_of result ≡ [] }
+
+        // The refusal does not say that an allocation failed.
         ensures memory { is_out_of_memory result ≡ false }
     {
         Exn {
@@ -127,9 +141,16 @@ impl Exn {
 
     /// Makes the refusal `out of memory`. Allocates nothing.
     pub fn out_of_memory(alloc: Global) -> Exn
+        // The message is `out of memory`.
         ensures message { message_of result ≡ codes "out of memory" }
+
+        // The refusal names no text.
         ensures input { input_of result ≡ None }
+
+        // No refusal led to this one.
         ensures causes { causes_of result ≡ [] }
+
+        // The refusal says that an allocation failed.
         ensures memory { is_out_of_memory result ≡ true }
     {
         Exn {

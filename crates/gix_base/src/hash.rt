@@ -68,11 +68,22 @@ impl ObjectId {
     /// - [`HexError::WrongLength`]: there are not 40 bytes, whatever they are.
     /// - [`HexError::NotHex`]: there are 40 bytes, and one of them is not a hex digit.
     pub fn from_hex(text: &[u8]) -> Result<ObjectId, HexError>
+        // `WrongLength` exactly if the text does not have 40 bytes, whatever the bytes are.
         ensures wrong_length { IsErrOf result HexError.WrongLength ↔ (length text.now ≢ 40) }
+
+        // `NotHex` exactly if the text has 40 bytes, and one of the bytes is not a hex digit.
         ensures not_hex { IsErrOf result HexError.NotHex ↔ ((length text.now ≡ 40) × HasOther text.now) }
+
+        // Each error is `WrongLength` or `NotHex`.
         ensures only { IfErr result (λ e. (e ≡ HexError.WrongLength) ⊎ (e ≡ HexError.NotHex)) }
+
+        // The call succeeds exactly if the text is 40 hex digits, in either letter case.
         ensures read { IsOk result ↔ IsIdText text.now }
+
+        // The bytes of the id are those that the digits say.
         ensures value { IfOk result (λ id. id.0 ≡ bytes_of text.now) }
+
+        // The 40 digits of the id are the text in lower case.
         ensures shows { IfOk result (λ id. id_text id ≡ str_to_ascii_lowercase text.now) }
     {
         if text.len() != 40 {
@@ -86,6 +97,7 @@ impl ObjectId {
 
     /// Returns the 20 bytes of the id.
     pub fn as_bytes(&self) -> &[u8]
+        // The answer has the bytes of the id.
         ensures { result.now ≡ self.now.0 }
     {
         &self.0
@@ -96,7 +108,10 @@ impl ObjectId {
     /// If `len` is greater than 40 it writes all 40 digits. The rest of `out` is unchanged. Returns
     /// the number of digits that it wrote.
     pub fn write_hex(&self, len: usize, out: &mut [u8; 40]) -> usize
+        // The answer is the lesser of `len` and 40.
         ensures count { result ≡ min len 40 }
+
+        // `out` begins with that many leading digits of the id. The rest of `out` is unchanged.
         ensures written { out.new ≡ take result (id_text self.now) ++ drop result out.old }
     {
         let count = len.min(40);
@@ -143,6 +158,7 @@ fn fill_up(text: &[u8]) -> [u8; 40]
 pub struct Prefix {
     id: ObjectId,
     hex_len: usize,
+    // There are 4 to 40 digits.
     ghost at_least: { 4 ≤ hex_len },
     ghost at_most: { hex_len ≤ 40 },
     ghost bytes: { IsBytes id.0 },
@@ -164,12 +180,23 @@ impl Prefix {
     /// - [`HexError::TooLong`]: there are more than 40 bytes, whatever they are.
     /// - [`HexError::NotHex`]: there are 4 to 40 bytes, and one of them is not a hex digit.
     pub fn from_hex(text: &[u8]) -> Result<Prefix, HexError>
+        // `TooShort` exactly if the text has fewer than 4 bytes, whatever the bytes are.
         ensures too_short { IsErrOf result HexError.TooShort ↔ (length text.now < 4) }
+
+        // `TooLong` exactly if the text has more than 40 bytes, whatever the bytes are.
         ensures too_long { IsErrOf result HexError.TooLong ↔ (40 < length text.now) }
+
+        // `NotHex` exactly if the text has 4 to 40 bytes, and one of the bytes is not a hex digit.
         ensures not_hex { IsErrOf result HexError.NotHex
             ↔ ((4 ≤ length text.now) × (length text.now ≤ 40) × HasOther text.now) }
+
+        // No error is `WrongLength`.
         ensures only { IfErr result (λ e. e ≢ HexError.WrongLength) }
+
+        // The call succeeds exactly if the text is 4 to 40 hex digits, in either letter case.
         ensures read { IsOk result ↔ IsPrefixText text.now }
+
+        // The digits of the prefix are the text in lower case.
         ensures shows { IfOk result (λ p. prefix_text p ≡ str_to_ascii_lowercase text.now) }
     {
         if text.len() < Prefix::MIN_HEX_LEN {
@@ -187,6 +214,7 @@ impl Prefix {
 
     /// Returns the number of digits, from 4 to 40.
     pub fn hex_len(&self) -> usize
+        // The answer is the number of digits of the prefix.
         ensures { result ≡ length (prefix_text self.now) }
     {
         self.hex_len
@@ -194,6 +222,7 @@ impl Prefix {
 
     /// Returns the id that has these digits, filled up to 40 with the digit 0.
     pub fn as_oid(&self) -> &ObjectId
+        // The digits of the id are those of the prefix, filled up to 40 with the digit 0.
         ensures { id_text result.now ≡ padded (prefix_text self.now) }
     {
         &self.id
@@ -203,6 +232,8 @@ impl Prefix {
     ///
     /// The first digit that differs decides. The answer is `Equal` if `id` begins with the prefix.
     pub fn cmp_oid(&self, id: &ObjectId) -> Ordering
+        // The answer compares the digits of the prefix with as many leading digits of `id`. The
+        // first digit that differs decides.
         ensures { result ≡ order_against self.now id.now }
     {
         let own = self.id.digits();

@@ -68,8 +68,10 @@ fn is_triple(name: &[u8], section: &[u8], subsection: &[u8], key: &[u8]) -> bool
 
 /// Tells whether a name has this section, this subsection, if there is one, and this key.
 ///
-/// The section and the key have to be in lower case.
+/// Letter case counts: names of settings have their section and their key in lower case.
 pub fn is_name(name: &[u8], section: &[u8], subsection: Option<&[u8]>, key: &[u8]) -> bool
+    // `true` exactly if the name is the section, the subsection if there is one, and the key, with
+    // dots between them. Letter case counts.
     ensures { IsTrue result ↔ (name.now ≡ name_of section.now (shown subsection.entry) key.now) }
 {
     match subsection {

@@ -11,6 +11,7 @@ use std::alloc::{AllocError, Allocator};
 
 /// Returns the value of a setting; `None` if there is no `=`.
 pub fn value_of<A: Allocator>(entry: &Entry<A>) -> Option<&[u8]>
+    // The answer is the value of the setting. `None` exactly if the setting has no value.
     ensures { shown result ≡ value_in entry.now }
 {
     match &entry.value {
@@ -48,6 +49,8 @@ pub fn last_value<'a, A: Allocator>(
     subsection: Option<&[u8]>,
     key: &[u8],
 ) -> Option<Option<&'a [u8]>>
+    // The answer is the last value of the settings of the list with this name. `None` exactly if no
+    // setting has this name.
     ensures { option_map shown result
         ≡ last_of (name_of section.now (shown subsection.entry) key.now) list.now }
 {
@@ -86,6 +89,7 @@ pub fn all_values<'a, A: Allocator, B: Allocator>(
     subsection: Option<&[u8]>,
     key: &[u8],
 ) -> Result<Vec<Option<&'a [u8]>, A>, AllocError>
+    // The answer has the values of all settings of the list with this name, in their order.
     ensures { IfOk result (λ values. all_shown values.items
         ≡ values_of (name_of section.now (shown subsection.entry) key.now) list.now) }
 {

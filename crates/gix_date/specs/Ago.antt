@@ -7,7 +7,7 @@ use Rattle.gix_date.specs.Shape.{is_word}
 use Rattle.gix_date.specs.Numerals.{is_number, number_of}
 use Rattle.gix_date.specs.DateWords.{words_of}
 
--- Whether a word names a unit, in the singular or with an `s`.
+-- Whether a word names a unit, in the singular or with an `s`, in any ASCII letter case.
 abbrev pub names : (unit word : List ℕ) → Bool
 names unit word = is_word unit word || is_word (unit ++ codes "s") word
 
@@ -36,14 +36,16 @@ counts_of (number ∷ unit ∷ words) =
     then option_and_then (λ each. option_map (λ counts. record { number = number_of number; each = each } ∷ counts) (counts_of words)) (unit_of unit)
     else None
 
--- The months that some counts add up to, and the seconds.
+-- The months that some counts add up to.
 abbrev pub months_in : List Count → ℕ
 months_in counts = sum_by (λ count. count.number * count.each.months) counts
 
+-- The seconds that some counts add up to.
 abbrev pub seconds_in : List Count → ℕ
 seconds_in counts = sum_by (λ count. count.number * count.each.seconds) counts
 
--- A number of months and a number of seconds, neither of them past the greatest `i64`.
+-- A number of months and a number of seconds. It is out of range if one of them is past the
+-- greatest `i64`.
 abbrev pub total_of : (months seconds : ℕ) → Result Ago DateError
 total_of months seconds =
     if nat_lt months (2 ^ 63) && nat_lt seconds (2 ^ 63)

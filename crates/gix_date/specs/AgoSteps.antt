@@ -1,4 +1,4 @@
--- How the body counts back, for its proof alone: count by count, with what the counts before came to.
+-- How the body counts back, for its proof only: count by count, with what the counts before came to.
 use Rattle.std.specs.Prelude.{ℕ, ◌+◌, ◌*◌, ◌^◌, List, [], ◌∷◌, codes, Option, Some, None, option_map, option_and_then, Result, Ok, Err, nat_lt, if◌then◌else◌}
 use Rattle.gix_date.specs.declared.date.error.DateError.{DateError}
 use Rattle.gix_date.specs.declared.date.error.DateError.TheVariants.{OutOfRange}

@@ -9,7 +9,8 @@ abbrev pub offset_seconds : (behind : Bool) (hours minutes : ℕ) → ℤ
 offset_seconds behind hours minutes =
     if behind then neg_ℤ (pos (hours * 3600 + minutes * 60)) else pos (hours * 3600 + minutes * 60)
 
--- The seconds of at most 23 hours and 59 minutes, ahead of UTC or behind it.
+-- The seconds of some hours and minutes, ahead of UTC or behind it. It is out of range above 23
+-- hours or above 59 minutes.
 unfoldable pub offset_by : (behind : Bool) (hours minutes : ℕ) → Result ℤ DateError
 offset_by behind hours minutes =
     if nat_le hours 23 && nat_le minutes 59 then Ok (offset_seconds behind hours minutes) else Err OutOfRange

@@ -8,7 +8,7 @@ use Rattle.gix_date.specs.declared.date.error.DateError.{DateError}
 use Rattle.gix_date.specs.declared.date.error.DateError.TheVariants.{NotADate}
 
 -- The whole seconds and the offset of the instant that the crate `jiff` reads. A weekday has to be
--- that of its day.
+-- that of its day. A text that `jiff` does not read is not a date.
 unfoldable pub rfc2822_date : List ℕ → Result Time DateError
 rfc2822_date text =
     result_map_both

@@ -93,6 +93,8 @@ impl<A: Allocator + Copy> Settings<A> {
         subsection: Option<&[u8]>,
         key: &[u8],
     ) -> Option<Option<&[u8]>>
+        // The answer is the last value of all settings with this name that were read. `None`
+        // exactly if no such setting was read.
         ensures { option_map shown result
             ≡ last_value (name_of section.now (shown subsection.entry) key.now)
             (settings_of self.now) }
@@ -112,6 +114,7 @@ impl<A: Allocator + Copy> Settings<A> {
         subsection: Option<&[u8]>,
         key: &[u8],
     ) -> Result<Vec<Option<&[u8]>, A>, AllocError>
+        // The answer has the values of all settings with this name that were read, in their order.
         ensures { IfOk result (λ values. all_shown values.items
             ≡ values_of (name_of section.now (shown subsection.entry) key.now)
             (settings_of self.now)) }

@@ -35,6 +35,7 @@ present (l ∷ ls) = cond (is_missing l.look) (present ls) (l ∷ present ls)
 abbrev pub is_kept_file : {A B : Type 0} → Looked A → Listed B → Bool
 is_kept_file l f = is_kept l.look && is_file l.entry.now f
 
--- The files of the commit are, one by one, those of the entries whose files are not missing.
+-- The files of the commit are, one by one, those of the entries whose files are not missing. Each
+-- of these files is as its entry has it.
 abbrev pub is_clean : {A B : Type 0} → List (Looked A) → List (Listed B) → Bool
 is_clean looked files = pointwise is_kept_file (present looked) files

@@ -66,6 +66,8 @@ pub fn first_difference<'d, A: Allocator, B: Allocator>(
     looked: &'d [Looked<'_, A>],
     files: &'d [Listed<B>],
 ) -> Option<Difference<'d>>
+    // `None` exactly if the files of the commit are, one by one, those of the entries whose files
+    // are not missing, and each of these files is as its entry has it (`is_clean`).
     ensures { MatchOption result (is_clean looked.now files.now ≡ true)
         (λ d. is_clean looked.now files.now ≡ false) }
 {

@@ -84,11 +84,13 @@ impl Change {
     /// Times are compared by their seconds. An entry whose size is 0 may have that size because git
     /// has to read the file.
     pub fn of<A: Allocator>(entry: &Entry<A>, status: &Status, checks: Checks) -> Change
-        // The kind, or a noted size, is another one.
+        // `Changed` exactly if the file is of another kind than its entry says, or has another size
+        // than the one noted (`may_be_same`).
         ensures changed { (result ≡ Change.Changed)
             ↔ (may_be_same entry.now.stat entry.now.mode status.now checks ≡ false) }
 
-        // All that is compared is as it was noted.
+        // `Kept` only if size, times in whole seconds, owner, group and inode are as noted, as far
+        // as `checks` compares them (`is_as_noted`).
         ensures kept { result ≡ Change.Kept → is_as_noted entry.now.stat status.now checks ≡ true }
     {
         if !may_be_same(&entry.stat, entry.mode, status, checks) {

@@ -48,6 +48,7 @@ pub struct Entry<A: Allocator = Global> {
 impl<A: Allocator> Entry<A> {
     /// Returns the stage: 0, or from 1 to 3 for an entry that is not merged.
     pub fn stage(&self) -> u16
+        // The answer is the number in the bits 12 and 13 of the flags.
         ensures { result ≡ self.now.flags / 4096 % 4 }
     {
         self.flags / 4096 % 4
@@ -55,6 +56,7 @@ impl<A: Allocator> Entry<A> {
 
     /// Returns whether the file counts as unchanged (git-update-index, "--assume-unchanged").
     pub fn is_assumed_valid(&self) -> bool
+        // `true` exactly if bit 15 of the flags is set.
         ensures { result ≡ (self.now.flags / 32768 == 1) }
     {
         self.flags / 32768 == 1
@@ -63,6 +65,7 @@ impl<A: Allocator> Entry<A> {
     /// Returns whether the file is left out of the working tree (git-update-index,
     /// "--skip-worktree").
     pub fn is_skipped(&self) -> bool
+        // `true` exactly if bit 14 of the second field of flags is set.
         ensures { result ≡ (self.now.more / 16384 % 2 == 1) }
     {
         self.more / 16384 % 2 == 1
@@ -70,6 +73,7 @@ impl<A: Allocator> Entry<A> {
 
     /// Returns whether the path will be added later (git-add, "--intent-to-add").
     pub fn is_intended(&self) -> bool
+        // `true` exactly if bit 13 of the second field of flags is set.
         ensures { result ≡ (self.now.more / 8192 % 2 == 1) }
     {
         self.more / 8192 % 2 == 1

@@ -159,10 +159,13 @@ impl<A: Allocator + Copy> Index<A> {
     /// - `Path` if a path is empty, or a part of it is empty, `.`, `..` or `.git`.
     /// - `OutOfMemory` if an allocation failed.
     pub fn parse(alloc: A, bytes: &[u8]) -> Result<Index<A>, Error>
-        // The entries are those of the bytes, one after another, and as many as the header says.
+        // The entries are those that follow the header of the bytes, one after another, as many as
+        // the header says (`IsIndex`). In version 4 an entry shortens its path by the one before
+        // it.
         ensures entries { IfOk result (λ index. IsIndex bytes.now index.entries.items) }
 
-        // No path leads out of the working tree, or into the git folder.
+        // No path leads out of the working tree, or into the git folder: no part of a path is
+        // empty, `.`, `..` or, in letters of either case, `.git`.
         ensures inside { IfOk result (λ index. are_inside index.entries.items ≡ true) }
     {
         if bytes.len() < HEADER + CHECKSUM {

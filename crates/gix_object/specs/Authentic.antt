@@ -32,7 +32,9 @@ pub record Collides (contents others : Contents) (id : ObjectId) : Type 0 where
   pub first : id_of_object Commit (contents id) ≡ id
   pub second : id_of_object Commit (others id) ≡ id
 
--- A collision is at hand: two contents that were read under one id collide.
+-- A collision is at hand: two contents that were read under one id collide. The contents are part
+-- of the statement. That two such contents exist somewhere would say nothing, since there are more
+-- contents than ids.
 abbrev pub HaveCollision : Contents → Contents → Type 0
 HaveCollision contents others = (id : ObjectId) × Collides contents others id
 
@@ -40,7 +42,7 @@ HaveCollision contents others = (id : ObjectId) × Collides contents others id
 abbrev pub Agree : History → History → Type 0
 Agree h k = (id : ObjectId) → Has h id → Has k id → entry_at k id ≡ entry_at h id
 
--- Two authentic histories agree, or a collision is at hand.
+-- Two authentic histories agree, or two contents that were read under one id collide.
 abbrev pub AuthenticAgree : Type 0
 AuthenticAgree =
     (contents others : Contents) (h k : History) → AreAuthentic contents h → AreAuthentic others k
@@ -51,7 +53,8 @@ abbrev pub ReachesTheSame : History → History → ObjectId → Type 0
 ReachesTheSame h k tip = (c : ObjectId) → IsAncestor h tip c → IsAncestor k tip c × (entry_at k c ≡ entry_at h c)
 
 -- Let two histories be authentic, and the second one closed. Then each tip that the second history
--- has reaches in it the commits that it reaches in the first, or a collision is at hand.
+-- has reaches in it the commits that it reaches in the first, or two contents that were read under
+-- one id collide.
 abbrev pub TipsDetermine : Type 0
 TipsDetermine =
     (contents others : Contents) (h k : History) → AreAuthentic contents h → AreAuthentic others k → IsClosed k

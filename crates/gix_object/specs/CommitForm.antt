@@ -47,7 +47,7 @@ pub record IsCommit (text : List ℕ) (parents : List ObjectId) (time : ℤ) : T
   pub small : seconds_at rest < 2 ^ 63
 
 -- Why the text is not read: it does not begin with the line of a tree, a parent line is malformed,
--- or the time is 2^63 or more. Of `OutOfMemory` nothing is said.
+-- or the time is 2^63 or more. The error `OutOfMemory` says nothing about the text.
 abbrev pub IsRefused : List ℕ → ParseError → Type 0
 IsRefused text BadTree = ¬ HasTree text
 IsRefused text BadParent = HasTree text × IsBroken (tree_of text) (drop 46 text)

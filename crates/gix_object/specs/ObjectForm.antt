@@ -7,7 +7,7 @@ use Rattle.gix_base.specs.declared.hash.ObjectId.{ObjectId}
 use Rattle.gix_base.specs.declared.object.Kind.{Kind}
 use Rattle.gix_base.specs.declared.object.Kind.TheVariants.{Tree, Blob, Commit, Tag}
 
--- The name of a kind of objects (gitglossary, "object type").
+-- The name of a kind of objects: `tree`, `blob`, `commit` or `tag` (gitglossary, "object type").
 unfoldable pub kind_name : Kind → List ℕ
 kind_name Tree = codes "tree"
 kind_name Blob = codes "blob"
@@ -34,7 +34,8 @@ pub record IsHeader (bytes : List ℕ) (kind : Kind) (size len : ℕ) : Type 0 w
 abbrev pub stored : Kind → List ℕ → List ℕ
 stored kind content = kind_and_size kind (length content) ++ (0 ∷ content)
 
--- The id of an object is the SHA-1 of the object as it is stored (gitglossary, "object name").
+-- The id of an object is the SHA-1 of the object as it is stored (gitglossary, "object name"). The
+-- function sha1 is that of FIPS 180-4, as the toolchain defines it.
 unfoldable pub id_of_object : Kind → List ℕ → ObjectId
 id_of_object kind content = record { 0 = sha1 (stored kind content) }
 

@@ -41,14 +41,20 @@ impl fmt::Display for ReadError {
 ///
 /// # Errors
 ///
-/// - [`ReadError::WrongId`]: the content, as that of a commit, has another id.
+/// - [`ReadError::WrongId`]: the content, as that of a commit, has another id. Git's walks compare
+///   no hash.
 /// - [`ReadError::Parse`]: it has the id, and what [`parse`] says of this error is so of it.
 pub fn read<A: Allocator>(
     alloc: A,
     id: ObjectId,
     content: &[u8],
 ) -> Result<SourceCommit<A>, ReadError>
+    // The content is the one of this commit, and `id` is the hash of the content. The commit has no
+    // generation number.
     ensures read { IfOk result (λ c. IsAuthentic content.now id (entry_of c)) }
+
+    // `WrongId`: the content, as that of a commit, has another id. `Parse`: the content has this
+    // id, and it has the cause of the error that `commit::parse` names.
     ensures refused { IfErr result (IsRefused content.now id) }
 {
     if verify(id, Kind::Commit, content).is_err() {

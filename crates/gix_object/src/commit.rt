@@ -27,8 +27,13 @@ pub struct Commit<A: Allocator = Global> {
 impl<A: Allocator> Commit<A> {
     /// Returns the commit as a source has it, without a generation number.
     pub fn into_source(self) -> SourceCommit<A>
+        // The commit has the same parents, in order.
         ensures parents { result.parents ≡ self.parents }
+
+        // The commit has the same time.
         ensures time { result.time ≡ self.time }
+
+        // The commit has no generation number.
         ensures no_generation { result.generation ≡ None }
     {
         SourceCommit {
@@ -168,7 +173,11 @@ fn time(text: &[u8]) -> Option<i64>
 /// - [`ParseError::TimeOutOfRange`]: the time is 2^63 seconds or more. Git reads the commit.
 /// - [`ParseError::OutOfMemory`]: an allocation for the parents failed.
 pub fn parse<A: Allocator>(alloc: A, text: &[u8]) -> Result<Commit<A>, ParseError>
+    // The content is the one of a commit with these parents, in order, and this time.
     ensures read { IfOk result (λ c. IsCommit text.now c.parents.items c.time) }
+
+    // `BadTree`: the content does not begin with the line of a tree. `BadParent`: this line is
+    // there, and a parent line is malformed. `TimeOutOfRange`: the time is 2^63 or more.
     ensures refused { IfErr result (IsRefused text.now) }
 {
     let Some(tree) = line_id(text, b"tree ") else {

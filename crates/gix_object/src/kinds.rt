@@ -9,6 +9,7 @@ use gix_base::object::Kind;
 /// Returns the name of a kind, as git writes it (gitglossary, "object type").
 #[tactic(auto, unfolding(crate::specs::ObjectForm::kind_name))]
 pub fn kind_name(kind: Kind) -> &'static str
+    // The answer is the name of the kind.
     ensures { result.now ≡ kind_name kind }
 {
     match kind {

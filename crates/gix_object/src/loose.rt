@@ -69,10 +69,14 @@ fn kind_and_size(text: &[u8]) -> Option<(Kind, u64)>
 /// and a byte 0 (gitformat-loose). It has at most [`MOST_HEADER`] bytes, so that so many bytes of an
 /// object are enough. Sizes of 2^64 and more are refused.
 pub fn parse_header(bytes: &[u8]) -> Option<Header>
+    // The bytes begin with a header of this kind, size and length. `None` exactly if they begin
+    // with no header of a size below 2^64.
     ensures header { MatchOption result
         ((kind : Kind) → (size : ℕ) → (rest : List ℕ) → size < 2 ^ 64
         → ¬ HasHeader bytes.now kind size rest)
         (λ h. IsHeader bytes.now h.kind h.size h.len) }
+
+    // A header has at most 28 bytes.
     ensures short { IfSome result (λ h. h.len ≤ 28) }
 {
     let Some(text) = before(bytes, 0) else {
@@ -93,6 +97,8 @@ pub fn parse_header(bytes: &[u8]) -> Option<Header>
 /// Returns `None` if `bytes` do not begin with a header ([`parse_header`]), or if the content has
 /// another size than the header says.
 pub fn parse(bytes: &[u8]) -> Option<(Kind, &[u8])>
+    // The bytes are the loose object of this kind and content. `None` exactly if the bytes are no
+    // loose object.
     ensures { MatchOption result
         ((kind : Kind) → (content : List ℕ) → ¬ IsLoose bytes.now kind content)
         (λ p. IsLoose bytes.now p.0 p.1.now) }

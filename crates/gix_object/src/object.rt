@@ -14,6 +14,7 @@ use sha1::Sha1;
 /// The header has the kind and the size (gitglossary, "object name").
 #[tactic(auto, unfolding(crate::specs::ObjectForm::id_of_object))]
 pub fn object_id(kind: Kind, content: &[u8]) -> ObjectId
+    // The answer is the SHA-1 of the object with its header.
     ensures { result ≡ id_of_object kind content.now }
 {
     let mut size = Buffer::new();
@@ -32,7 +33,10 @@ pub fn object_id(kind: Kind, content: &[u8]) -> ObjectId
 ///
 /// The object's own id, if it is another one.
 pub fn verify(id: ObjectId, kind: Kind, content: &[u8]) -> Result<(), ObjectId>
+    // After a success, the SHA-1 of the object with its header is `id`.
     ensures same { OnOk result (id_of_object kind content.now ≡ id) }
+
+    // After an error, the error is this SHA-1, and it is not `id`.
     ensures other { IfErr result
         (λ own. (own ≡ id_of_object kind content.now) × (own ≢ id)) }
 {

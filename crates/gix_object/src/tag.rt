@@ -127,7 +127,12 @@ fn name_and_date(text: &[u8]) -> Option<(&[u8], u64)>
 /// - [`ParseError::UnknownType`]: the type is not one of the four.
 /// - [`ParseError::NoName`]: no `tag` line follows.
 pub fn parse(text: &[u8]) -> Result<Tag<'_>, ParseError>
+    // The content is the one of a tag of this object and this kind, with this name and this date.
     ensures read { IfOk result (λ tag. IsTag text.now tag.target tag.kind tag.name.now tag.date) }
+
+    // `BadObject`: the content has fewer than 64 bytes, or does not begin with the line of an
+    // object. `BadType`, `NoName`: this line is missing or malformed, and those before it are not.
+    // `UnknownType`: the line of the type is well-formed, and names none of the four kinds.
     ensures refused { IfErr result (IsRefused text.now) }
 {
     let Some(target) = object(text) else {

@@ -50,7 +50,8 @@ impl<A: Allocator + Copy> Question for Octopus<'_, A> {
 ///
 /// The answer is that of [`octopus_bases`].
 ///
-/// Premises: acyclic.
+/// Premises: acyclic, and ordered generations. Without ordered generations the answer has commits
+/// common to all ids, which together reach all such commits.
 #[derive(Clone, Copy)]
 pub struct OctopusBases<'a, A: Allocator + Copy = Global> {
     /// The memory of the answer.

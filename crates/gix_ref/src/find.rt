@@ -65,7 +65,12 @@ impl<F: Folders + Drop, A: Allocator + Copy> References<F, A> {
 
     /// Returns what a reference says. Reads its file unless the answer has read it.
     pub(crate) fn look_up(&mut self, name: &[u8]) -> Result<Option<Found<A>>, Fault>
+        // What was read of a file before is kept, so that one answer does not mix two values of a
+        // reference.
         ensures grows { Grows (known self.old) (known self.new) }
+
+        // What the loose file says that was read. Without a loose file: what the first line of
+        // `packed-refs` with the name says. More that is read later does not change this.
         ensures found { IfOk result (λ f. Settles (known self.new) (λ k. says k name.now) (option_map found_says f)) }
     {
         self.read_loose(name)?;
@@ -116,6 +121,9 @@ impl<F: Folders + Drop, A: Allocator + Copy> References<F, A> {
     /// - `Damaged` if `packed-refs` has a line that git does not write, or a name twice.
     /// - `OutOfMemory` if an allocation failed.
     pub fn find(&mut self, name: &[u8]) -> Result<Option<Target<A>>, Error>
+        // The answer is what the loose file says that was read, and without one what the first line
+        // of `packed-refs` with the name says. `None`: nothing does, or the text is no full name.
+        // `Broken`: it is garbage. More that is read later does not change this (`name_says`).
         ensures found { IfSome (answer_says result) (Settles (known self.new) (λ k. name_says k name.now)) }
     {
         self.begin();
@@ -140,6 +148,9 @@ impl<F: Folders + Drop, A: Allocator + Copy> References<F, A> {
     /// - Those of [`References::find`].
     /// - `TooDeep` if the fifth reference is symbolic, too.
     pub fn follow(&mut self, name: &[u8]) -> Result<Option<Reference<A>>, Error>
+        // The answer is where the reference leads by what was read (`name_leads`). `None`: a
+        // reference is not there, or the text is no full name. `Broken`: a reference says garbage.
+        // `TooDeep`: five references lead to no id. More that is read later does not change this.
         ensures followed { IfSome (answer_leads result) (Settles (known self.new) (λ k. name_leads k name.now)) }
     {
         self.begin();

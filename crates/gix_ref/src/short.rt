@@ -126,6 +126,9 @@ impl<F: Folders + Drop, A: Allocator + Copy> References<F, A> {
     /// - `Damaged` if `packed-refs` has a line that git does not write, or a name twice.
     /// - `OutOfMemory` if an allocation failed.
     pub fn short(&mut self, short: &[u8]) -> Result<Option<Named<A>>, Error>
+        // The answer has the full name by the first of git's six rules that leads to an id, where
+        // it leads, and whether a further rule leads to an id. `None` exactly if no rule leads to
+        // an id. More that is read later does not change this (`short_means`).
         ensures found { IfOk result (λ found. Settles (known self.new) (λ k. short_means k short.now) (option_map meant found)) }
     {
         self.begin();

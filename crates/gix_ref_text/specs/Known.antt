@@ -5,7 +5,9 @@ use Rattle.std.specs.Cmp.Lexicographic.{pointwise}
 use Rattle.gix_ref_text.specs.Loose.{Says, loose_says}
 use Rattle.gix_ref_text.specs.Packed.{packed_says}
 
--- What was read of a loose reference: its name, and the bytes of its file if there is one.
+-- What was read of a loose reference: its name, and the bytes of its file if there is one. It does
+-- not speak of symbolic links: the program reads most of those to a name below `refs/` as `ref:
+-- NAME`.
 pub record Read : Type 0 where
   pub name : List ℕ
   pub content : Option (List ℕ)

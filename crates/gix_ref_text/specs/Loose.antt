@@ -4,8 +4,8 @@ use Rattle.std.specs.Cmp.Lexicographic.{pointwise}
 use Rattle.gix_ref_text.specs.Lines.{before_zero, id_of}
 use Rattle.gix_ref_text.specs.Names.{is_name}
 
--- What a reference says: the bytes of an id, and of the object to which a tag of this id leads, if
--- that is known; or the name of a reference; or neither.
+-- What a reference says. HasId is an id, with the object to which a tag of this id leads, if that
+-- is known. LeadsTo is the name of another reference. IsGarbage is neither.
 pub data Says : Type 0 where
   HasId : List ℕ → Option (List ℕ) → Says
   LeadsTo : List ℕ → Says
@@ -35,7 +35,8 @@ abbrev pub ends_digits : List ℕ → Bool
 ends_digits [] = true
 ends_digits (b ∷ bs) = is_blank b
 
--- The bytes of the id whose digits a text begins with.
+-- The bytes of the id whose 40 digits a text begins with. White space or the end of the text has to
+-- follow.
 abbrev pub id_at_front : List ℕ → Option (List ℕ)
 id_at_front text = cond (ends_digits (drop 40 text)) (id_of (take 40 text)) None
 
@@ -48,7 +49,8 @@ abbrev pub says_id : Option (List ℕ) → Says
 says_id None = IsGarbage
 says_id (Some id) = HasId id None
 
--- What the text in the file of a reference says.
+-- What the text in the file of a reference says: after `ref:`, the name of a reference; otherwise
+-- the id at its front. If there is neither, it is garbage.
 abbrev pub text_says : List ℕ → Says
 text_says text = cond (pointwise nat_eq (take 4 text) (codes "ref:")) (says_name (trimmed_start (drop 4 text))) (says_id (id_at_front text))
 

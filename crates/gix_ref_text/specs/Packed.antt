@@ -9,11 +9,11 @@ abbrev pub is_named : List ℕ → List ℕ → Bool
 is_named [] name = false
 is_named (b ∷ rest) name = b == 32 && pointwise nat_eq rest name
 
--- The bytes of the id of a line `ID NAME` that tells of this name.
+-- The bytes of the id, if a line is `ID NAME` with this name.
 abbrev pub told_by : List ℕ → List ℕ → Option (List ℕ)
 told_by line name = cond (is_named (drop 40 line) name) (id_of (take 40 line)) None
 
--- The bytes of the id of a line `^ID`.
+-- The bytes of the id, if a line is `^ID`.
 abbrev pub peeled : List ℕ → Option (List ℕ)
 peeled line = cond (pointwise nat_eq (take 1 line) (codes "^")) (id_of (drop 1 line)) None
 
@@ -27,7 +27,8 @@ abbrev pub first_of : Option (List ℕ) → Option (List ℕ) → Option Says �
 first_of None peels others = others
 first_of (Some id) peels others = Some (HasId id peels)
 
--- What the first line says that tells of a name, with the line `^ID` behind it.
+-- The id of the first line `ID NAME` with this name. If the next line is `^ID`, that is the object
+-- to which the tag leads.
 abbrev pub lines_say : List (List ℕ) → List ℕ → Option Says
 lines_say [] name = None
 lines_say (line ∷ rest) name = first_of (told_by line name) (peeled_first rest) (lines_say rest name)

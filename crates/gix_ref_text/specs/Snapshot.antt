@@ -41,7 +41,7 @@ AreAll bytes places = (name : List ℕ) → packed_says bytes name ≡ places_sa
 abbrev pub SaysSorted : List ℕ → List ℕ → Bool → Type 0
 SaysSorted bytes places is_sorted = is_sorted ≡ true → AreSorted bytes places
 
--- There is at most one proof of it.
+-- There is at most one proof of SaysSorted.
 pub SaysSorted-prop : (bytes places : List ℕ) (is_sorted : Bool) → IsProp (SaysSorted bytes places is_sorted)
 SaysSorted-prop bytes places is_sorted = →_prop (IsStrictlySortedBy-prop (compare_at bytes) places)
 

@@ -48,6 +48,8 @@ pub enum Step<A: Allocator> {
 ///
 /// If nothing was found it leads nowhere, and if it says garbage, it is broken.
 pub fn next_step<A: Allocator>(name: Vec<u8, A>, found: Option<Found<A>>) -> Step<A>
+    // The step leads where a reference of this name leads by what was found, wherever the
+    // references after it lead (`leads_by`).
     ensures { (further : List ℕ → Leads) → step_to result further ≡ leads_by (option_map found_says found) name.items further }
 {
     match found {

@@ -32,8 +32,14 @@ fn tail(bytes: &[u8]) -> Option<&[u8]>
 
 /// Returns what comes before a byte, and what comes after it if it is there.
 pub fn cut(bytes: &[u8], at: u8) -> (&[u8], Option<&[u8]>)
+    // The first text is the first part of the bytes between bytes `at`. The other parts are those
+    // of the second text; there are none if there is no second text.
     ensures parts { parts at bytes.now ≡ result.0.now ∷ parts_after at (option_map (λ r. r.now) result.1) }
+
+    // The second text is shorter than the bytes.
     ensures shorter { IfSome result.1 (λ rest. length rest.now < length bytes.now) }
+
+    // The second text is the end of the bytes, from one byte past the length of the first text on.
     ensures behind { IfSome result.1 (λ rest. rest.now ≡ drop (length result.0.now + 1) bytes.now) }
 {
     let (front, rest) = bytes.split_at(len_before(bytes, at));

@@ -257,6 +257,9 @@ impl<A: Allocator> Reflog<A> {
     /// newest entry, or of the next older one whose old id is not zeros only, as in git. It is
     /// `None` if there is no such entry.
     pub fn nth(&self, n: usize) -> Option<ObjectId>
+        // The newest entry's new id if `n` is 0. Otherwise the old id of the `n`th newest entry, or
+        // of the next older one whose old id does not have only zeros. `None` exactly if there is
+        // no such entry.
         ensures { option_map (λ id. id.0) result ≡ changes_ago n self.now.entries.items }
     {
         let entries = self.entries.as_slice();

@@ -110,6 +110,7 @@ fn said_by(text: &[u8]) -> Said<'_>
 
 /// Tests whether git does not trim the file of a reference: that of `FETCH_HEAD` or `MERGE_HEAD`.
 pub fn is_untrimmed(name: &[u8]) -> bool
+    // `true` exactly if the name is `FETCH_HEAD` or `MERGE_HEAD`.
     ensures { result ≡ is_untrimmed name.now }
 {
     name == b"FETCH_HEAD".as_slice() || name == b"MERGE_HEAD".as_slice()
@@ -128,6 +129,8 @@ fn text_of<'a>(name: &[u8], bytes: &'a [u8]) -> &'a [u8]
 
 /// Returns what the file of the loose reference with a name says.
 pub fn read<'a>(name: &[u8], bytes: &'a [u8]) -> Said<'a>
+    // The answer is what the bytes of the file say (`loose_says`): an id, the name of a reference
+    // after `ref:`, or neither.
     ensures { said result ≡ loose_says name.now bytes.now }
 {
     said_by(text_of(name, bytes))

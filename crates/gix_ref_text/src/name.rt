@@ -77,6 +77,8 @@ fn are_parts(name: &[u8]) -> bool
 ///
 /// See git-check-ref-format, `--allow-onelevel`.
 pub fn is_full_name(name: &[u8]) -> bool
+    // `true` exactly for a name that git-check-ref-format accepts with `--allow-onelevel`
+    // (`is_name`).
     ensures { result ≡ is_name name.now }
 {
     are_plain(name)

@@ -163,6 +163,8 @@ fn peeled(line: &[u8]) -> Option<ObjectId>
 
 /// Returns the id of a line `^ID` that comes first in what follows a line.
 pub fn peeled_after(rest: Option<&[u8]>) -> Option<ObjectId>
+    // The id of the first line of `rest` if that is a line `^ID`. `None` exactly if there is no
+    // such line.
     ensures { option_map (λ id. id.0) result ≡ peeled_first (parts_after 10 (option_map (λ r. r.now) rest.entry)) }
 {
     match rest {

@@ -40,6 +40,8 @@ pub fn full_names<A: Allocator + Copy>(
     alloc: A,
     short: &[u8],
 ) -> Result<Vec<Vec<u8, A>, A>, AllocError>
+    // The answer has the full names of the short name by git's six rules, in the order of the
+    // rules.
     ensures { IfOk result (λ names. map (λ n. n.items) names.items ≡ full_names short.now) }
 {
     let mut names = Vec::new(alloc);
@@ -62,6 +64,8 @@ pub fn winner<A: Allocator>(
     led: Led<A>,
     others: Option<Named<A>>,
 ) -> Option<Named<A>>
+    // If `led` ends at an id: the name with where it leads, ambiguous exactly if `others` is not
+    // `None`. Otherwise the answer is `others`.
     ensures { option_map meant result ≡ wins (led_to led) name.items (option_map meant others) }
 {
     match led {

@@ -181,6 +181,7 @@ impl<A: Allocator + Copy> Snapshot<A> {
     /// Returns the snapshot with these bytes; `None` if the file counts as damaged, such as one with
     /// a name twice.
     pub fn new(alloc: A, bytes: Vec<u8, A>) -> Result<Option<Snapshot<A>>, AllocError>
+        // If there is a snapshot, it has these bytes.
         ensures { IfOk result (λ o. IfSome o (λ s. s.bytes.items ≡ bytes.items)) }
     {
         match sound_places(alloc, &bytes)? {
@@ -197,6 +198,8 @@ impl<A: Allocator + Copy> Snapshot<A> {
     ///
     /// If the names are sorted, it reads about log N of N lines.
     pub fn find(&self, name: &[u8]) -> Option<Packed>
+        // What the first line `ID NAME` with this name says, with the line `^ID` behind it if there
+        // is one. `None` exactly if no line has this name (`packed_says`).
         ensures { option_map packed_said result ≡ packed_says self.now.bytes.items name.now }
     {
         if self.is_sorted {

@@ -92,7 +92,7 @@ pub fn commits<S: Find, A: Allocator + Copy>(
     ensures meant { IfOk result
         (λ ids. ListsMeant (S.history graph.old.source) spec.now ids.items) }
 
-    // Also after an error the source's history is unchanged.
+    // The history of the source is unchanged, also after an error.
     ensures history { S.history graph.new.source ≡ S.history graph.old.source }
 
     // The fault count is one more exactly if the call returns `ListError::Source`. At `u64::MAX`
@@ -100,7 +100,7 @@ pub fn commits<S: Find, A: Allocator + Copy>(
     ensures count { S.fault_count graph.new.source
         ≡ count_after (is_list_source_fault result) (S.fault_count graph.old.source) }
 
-    // Also after an error the graph keeps every commit that it holds.
+    // The graph keeps every commit that it holds, also after an error.
     ensures held { KeepsHeld graph.old graph.new }
 
     // Also after an error each newly held commit is reachable from an id of the spec. If the spec
@@ -150,7 +150,7 @@ pub fn commits_early<S: Find, A: Allocator + Copy>(
     ensures meant { IfOk result
         (λ ids. ListsMeant (S.history graph.old.source) spec.now ids.items) }
 
-    // Also after an error the source's history is unchanged.
+    // The history of the source is unchanged, also after an error.
     ensures history { S.history graph.new.source ≡ S.history graph.old.source }
 
     // The fault count is one more exactly if the call returns `ListError::Source`. At `u64::MAX`
@@ -158,7 +158,7 @@ pub fn commits_early<S: Find, A: Allocator + Copy>(
     ensures count { S.fault_count graph.new.source
         ≡ count_after (is_list_source_fault result) (S.fault_count graph.old.source) }
 
-    // Also after an error the graph keeps every commit that it holds.
+    // The graph keeps every commit that it holds, also after an error.
     ensures held { KeepsHeld graph.old graph.new }
 
     // Also after an error each newly held commit is reachable from an id of the spec. If the spec
@@ -203,7 +203,7 @@ pub fn count_commits<S: Find, A: Allocator + Copy>(
     // The answer is how many commits the spec means.
     ensures size { IfOk result (λ n. HasSize (IsMeant (S.history graph.old.source) spec.now) n) }
 
-    // Also after an error the source's history is unchanged.
+    // The history of the source is unchanged, also after an error.
     ensures history { S.history graph.new.source ≡ S.history graph.old.source }
 
     // The fault count is one more exactly if the call returns `ListError::Source`. At `u64::MAX`
@@ -211,7 +211,7 @@ pub fn count_commits<S: Find, A: Allocator + Copy>(
     ensures count { S.fault_count graph.new.source
         ≡ count_after (is_list_source_fault result) (S.fault_count graph.old.source) }
 
-    // Also after an error the graph keeps every commit that it holds.
+    // The graph keeps every commit that it holds, also after an error.
     ensures held { KeepsHeld graph.old graph.new }
 
     // Also after an error each newly held commit is reachable from an id of the spec. If the spec
@@ -270,7 +270,7 @@ pub fn page<S: Find, A: Allocator + Copy>(
     ensures page { IfOk result
         (λ ids. IsPage (S.history graph.old.source) spec.now after limit ids.items) }
 
-    // Also after an error the source's history is unchanged.
+    // The history of the source is unchanged, also after an error.
     ensures history { S.history graph.new.source ≡ S.history graph.old.source }
 
     // The fault count is one more exactly if the call returns `ListError::Source`. At `u64::MAX`
@@ -278,7 +278,7 @@ pub fn page<S: Find, A: Allocator + Copy>(
     ensures count { S.fault_count graph.new.source
         ≡ count_after (is_list_source_fault result) (S.fault_count graph.old.source) }
 
-    // Also after an error the graph keeps every commit that it holds.
+    // The graph keeps every commit that it holds, also after an error.
     ensures held { KeepsHeld graph.old graph.new }
 
     // Also after an error each newly held commit is reachable from an id of the spec. If the spec

@@ -82,7 +82,7 @@ pub fn reachable<S: Find, A: Allocator + Copy>(
     ensures covers { IfOk result
         (λ ids. CoversBeyond (S.history graph.old.source) exclude.now include.now ids.items) }
 
-    // Also after an error the source's history is unchanged.
+    // The history of the source is unchanged, also after an error.
     ensures history { S.history graph.new.source ≡ S.history graph.old.source }
 
     // The fault count is one more exactly if the call returns `ListError::Source`. At `u64::MAX`
@@ -90,7 +90,7 @@ pub fn reachable<S: Find, A: Allocator + Copy>(
     ensures count { S.fault_count graph.new.source
         ≡ count_after (is_list_source_fault result) (S.fault_count graph.old.source) }
 
-    // Also after an error the graph keeps every commit that it holds.
+    // The graph keeps every commit that it holds, also after an error.
     ensures held { KeepsHeld graph.old graph.new }
 
     // Also after an error each newly held commit is reachable from an id of `include` or `exclude`.
@@ -152,7 +152,7 @@ pub fn reachable_newest_first<S: Find, A: Allocator + Copy>(
     // rising id. A missing generation number counts as infinity.
     ensures order { IfOk result (λ ids. IsInOrder (S.history graph.old.source) ids.items) }
 
-    // Also after an error the source's history is unchanged.
+    // The history of the source is unchanged, also after an error.
     ensures history { S.history graph.new.source ≡ S.history graph.old.source }
 
     // The fault count is one more exactly if the call returns `ListError::Source`. At `u64::MAX`
@@ -160,7 +160,7 @@ pub fn reachable_newest_first<S: Find, A: Allocator + Copy>(
     ensures count { S.fault_count graph.new.source
         ≡ count_after (is_list_source_fault result) (S.fault_count graph.old.source) }
 
-    // Also after an error the graph keeps every commit that it holds.
+    // The graph keeps every commit that it holds, also after an error.
     ensures held { KeepsHeld graph.old graph.new }
 
     // Also after an error each newly held commit is reachable from an id of `include` or `exclude`.
@@ -217,7 +217,7 @@ pub fn count_reachable<S: Find, A: Allocator + Copy>(
     ensures no_more { IfOk result
         (λ n. AtLeast n (IsAncestorOfOne (S.history graph.old.source) include.now)) }
 
-    // Also after an error the source's history is unchanged.
+    // The history of the source is unchanged, also after an error.
     ensures history { S.history graph.new.source ≡ S.history graph.old.source }
 
     // The fault count is one more exactly if the call returns `ListError::Source`. At `u64::MAX`
@@ -225,7 +225,7 @@ pub fn count_reachable<S: Find, A: Allocator + Copy>(
     ensures count { S.fault_count graph.new.source
         ≡ count_after (is_list_source_fault result) (S.fault_count graph.old.source) }
 
-    // Also after an error the graph keeps every commit that it holds.
+    // The graph keeps every commit that it holds, also after an error.
     ensures held { KeepsHeld graph.old graph.new }
 
     // Also after an error each newly held commit is reachable from an id of `include` or `exclude`.
@@ -391,7 +391,7 @@ pub fn ahead_behind<S: Find, A: Allocator + Copy>(
     ensures no_more_behind { IfOk result
         (λ r. AtLeast r.1 (IsAncestor (S.history graph.old.source) theirs)) }
 
-    // Also after an error the source's history is unchanged.
+    // The history of the source is unchanged, also after an error.
     ensures history { S.history graph.new.source ≡ S.history graph.old.source }
 
     // The fault count is one more exactly if the call returns `ListError::Source`. At `u64::MAX`
@@ -399,7 +399,7 @@ pub fn ahead_behind<S: Find, A: Allocator + Copy>(
     ensures count { S.fault_count graph.new.source
         ≡ count_after (is_list_source_fault result) (S.fault_count graph.old.source) }
 
-    // Also after an error the graph keeps every commit that it holds.
+    // The graph keeps every commit that it holds, also after an error.
     ensures held { KeepsHeld graph.old graph.new }
 
     // Also after an error each newly held commit is reachable from `ours` or `theirs`.

@@ -22,7 +22,8 @@ pub data Target : Type 0 where
   recursive_tag : Target
   path : List ℕ → Target
 
--- A call. A prefix is given by its digits in lower case, and an index entry by its path and stage.
+-- A call of the delegate with its arguments. A prefix is given by its digits in lower case, and an
+-- index entry by its path and stage.
 pub data Call : Type 0 where
   find_ref : (name : List ℕ) → Call
   prefix : (digits : List ℕ) → Option Hint → Call
@@ -36,11 +37,12 @@ pub data Call : Type 0 where
   index : (path : List ℕ) (stage : ℕ) → Call
   done : Call
 
--- A hint and a target of the code, with texts as lists of bytes.
+-- The hint that the code passes, with its text as a list of bytes.
 abbrev pub hint_of : PrefixHint → Hint
 hint_of MustBeCommit = must_be_commit
 hint_of (DescribeAnchor name generation) = describe_anchor name.now generation
 
+-- The target that the code passes, with its text as a list of bytes.
 abbrev pub target_of : PeelTo → Target
 target_of (peels.ObjectKind k) = object k
 target_of peels.ValidObject = valid_object

@@ -19,10 +19,11 @@ pub record Context : Type 0 where
 abbrev pub start : (now : Time) → Context
 start now = record { now = now; anchor = None; own_prefix = false }
 
--- The context after an accepted reference, and after an accepted prefix.
+-- The context m after the call for the ref name was accepted.
 abbrev pub after_reference : Context → (name : List ℕ) → Context
 after_reference m name = record { now = m.now; anchor = Some (find_ref name); own_prefix = false }
 
+-- The context m after the call for a prefix with these digits and this hint was accepted.
 abbrev pub after_prefix : Context → (digits : List ℕ) → Option Hint → Context
 after_prefix m digits hint = record { now = m.now; anchor = Some (prefix digits hint); own_prefix = true }
 
@@ -34,12 +35,13 @@ next_revision m = record { now = m.now; anchor = m.anchor; own_prefix = false }
 abbrev pub HEAD : List ℕ
 HEAD = codes "HEAD"
 
--- The call that the code's anchor stands for, and the context that the code keeps.
+-- The call that the code's anchor stands for.
 abbrev pub call_of : Anchor → Call
 call_of Head = find_ref HEAD
 call_of (Reference name) = find_ref name.now
 call_of (ByPrefix p hint) = prefix (prefix_text p) (option_map hint_of hint)
 
+-- The context that the code keeps.
 abbrev pub context_of : Kept → Context
 context_of kept = record { now = kept.now; anchor = option_map call_of kept.anchor; own_prefix = kept.own_prefix }
 

@@ -17,6 +17,7 @@ prefix_with digits hint =
     if list_all is_hex_digit digits && nat_le 4 (length digits) && nat_le (length digits) 40 then Some (str_to_ascii_lowercase digits, hint)
     else None
 
+-- The byte b is not a dash.
 abbrev pub is_no_dash : ℕ → Bool
 is_no_dash b = not (b == dash)
 
@@ -42,16 +43,19 @@ abbrev pub hint_by : (ref_name : List ℕ) → Option ℕ → Hint
 hint_by ref_name (Some generation) = describe_anchor ref_name generation
 hint_by ref_name None = must_be_commit
 
--- The hint of the text before the dash of the id. If it is a name, a dash and a number, the hint
--- names them.
+-- The hint of the text before the dash of the id, whose last dash is at place k. If a number
+-- follows that dash, the hint has the number and the name before the dash.
 abbrev pub hint_at : (before : List ℕ) → Option ℕ → Hint
 hint_at before None = must_be_commit
 hint_at before (Some k) = hint_by (take k before) (number_of (drop (k + 1) before))
 
+-- The hint of the text before the dash of the id. If it is a name, a dash and a number, the hint
+-- names them. Otherwise the id is a commit.
 unfoldable pub hint_of_text : (before : List ℕ) → Hint
 hint_of_text before = hint_at before (last_dash before)
 
--- The short form: the text before the last dash, if it is 4 to 40 hex digits.
+-- The short form `HEX-WORD`: the text before the last dash, if it is 4 to 40 hex digits, without a
+-- hint.
 abbrev pub short_form : (text : List ℕ) → Option ℕ → Option Attempt
 short_form text None = None
 short_form text (Some k) = prefix_with (take k text) None

@@ -65,7 +65,7 @@ fault_text PeelRefused = Some (codes "the delegate could not peel the object")
 fault_text UnknownTarget = Some (codes "cannot peel to unknown target")
 fault_text RepeatRefused = Some (codes "the delegate refused the repeated anchor")
 
--- The text that an error prints.
+-- The text that an error prints: `out of memory`, or the text of its fault.
 abbrev pub error_text : Error → Option (List ℕ)
 error_text OutOfMemory = Some (codes "out of memory")
 error_text (Refused f input first second) = fault_text f

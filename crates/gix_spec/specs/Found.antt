@@ -17,9 +17,11 @@ use Rattle.gix_spec.specs.DescribeText.{Attempt}
 use Rattle.gix_spec.specs.Number.{Signed, minus, plain}
 use Rattle.gix_spec.specs.Part.{Part, Way, onward, closed, refusal}
 
+-- The prefix call that the code tries first for a name: its digits and its hint.
 abbrev pub attempt_found : FoundAttempt → Attempt
 attempt_found a = (prefix_text a.prefix, option_map hint_of a.hint)
 
+-- A number of the code, with a minus sign or without one.
 abbrev pub signed_found : FoundSigned → Signed
 signed_found (signs.Minus n) = minus n
 signed_found (signs.Plain n) = plain n
@@ -29,9 +31,11 @@ abbrev pub FitsIsize : FoundSigned → Type 0
 FitsIsize (signs.Minus n) = n ≤ 2 ^ 63
 FitsIsize (signs.Plain n) = n < 2 ^ 63
 
+-- The bytes of a text of the code, if there is one.
 abbrev pub slice_of : Option (Bor (List ℕ)) → Option (List ℕ)
 slice_of input = option_map (λ x. x.now) input
 
+-- The piece that a piece of the code stands for.
 abbrev pub piece_of : FoundPiece → Piece
 piece_of found.Exclude = exclude
 piece_of (found.Regex wanted raw negated) = regex wanted.now raw.now negated
@@ -49,14 +53,17 @@ piece_of (found.WithoutParent n after rest) = without_parent n after.now rest.no
 piece_of (found.Range k) = range k
 piece_of found.Finish = finish
 
+-- The pieces of a part of the code, which has at most one.
 abbrev pub pieces_found : Option FoundPiece → List Piece
 pieces_found None = []
 pieces_found (Some p) = piece_of p ∷ []
 
+-- What follows a part of the code.
 abbrev pub way_of : FoundWay → Way
 way_of ways.Onward = onward
 way_of ways.Closed = closed
 
+-- The part that a part of the code stands for, or a refusal of the code.
 abbrev pub part_of : Result FoundPart Refusal → Part
 part_of (Ok p) = record { pieces = pieces_found p.piece; rest = p.rest.now; way = way_of p.way }
 part_of (Err r) = refusal r.fault (slice_of r.input)

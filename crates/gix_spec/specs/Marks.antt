@@ -2,36 +2,47 @@
 use Rattle.std.specs.Prelude.{ℕ, zero, suc, ◌+◌, ◌==◌, List, [], ◌∷◌, Option, Some, None, Bool, false, take, drop, if◌then◌else◌}
 use Rattle.std.specs.List.{prefix_len}
 
+-- The byte `~`.
 abbrev pub tilde : ℕ
 tilde = 126
 
+-- The byte `^`.
 abbrev pub caret : ℕ
 caret = 94
 
+-- The byte `:`.
 abbrev pub colon : ℕ
 colon = 58
 
+-- The byte `.`.
 abbrev pub dot : ℕ
 dot = 46
 
+-- The byte `@`.
 abbrev pub at_sign : ℕ
 at_sign = 64
 
+-- The byte `{`.
 abbrev pub brace : ℕ
 brace = 123
 
+-- The byte `\`.
 abbrev pub backslash : ℕ
 backslash = 92
 
+-- The byte `-`.
 abbrev pub dash : ℕ
 dash = 45
 
+-- The byte `+`.
 abbrev pub plus : ℕ
 plus = 43
 
+-- The byte `/`.
 abbrev pub slash : ℕ
 slash = 47
 
+-- The byte `!`.
 abbrev pub bang : ℕ
 bang = 33
 

@@ -19,7 +19,8 @@ attempt_by None text = describe_attempt text
 unfoldable pub attempt_of : (text : List ℕ) → Option Attempt
 attempt_of text = attempt_by (prefix_with text None) text
 
--- What an `@` after the name own asks for.
+-- What an `@` after the name own asks for. Without a brace after the `@`, it is the fault
+-- `AtWithoutBraces`.
 abbrev pub behind_at : (own after whole : List ℕ) → Part
 behind_at own after whole = if starts_with brace after then at_braces own after else refusal AtWithoutBraces (Some whole)
 

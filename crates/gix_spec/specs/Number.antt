@@ -19,19 +19,21 @@ pub data Signed : Type 0 where
   minus : ℕ → Signed
   plain : ℕ → Signed
 
--- The number after a minus sign, and a number without one, if an isize can hold it.
+-- The number after a minus sign, if an isize can hold it.
 abbrev pub minus_by : Option ℕ → Option Signed
 minus_by None = None
 minus_by (Some n) = if nat_le n (2 ^ 63) then Some (minus n) else None
 
+-- A number without a minus sign, if an isize can hold it.
 abbrev pub plain_by : Option ℕ → Option Signed
 plain_by None = None
 plain_by (Some n) = if nat_lt n (2 ^ 63) then Some (plain n) else None
 
--- The number that a text says. A sign may come first; no second sign may follow a minus sign.
+-- The number that text says after a minus sign. No second sign may follow.
 abbrev pub behind_minus : (text : List ℕ) → Option Signed
 behind_minus text = if starts_with plus text then None else minus_by (number_of text)
 
+-- The number that a text says, if an isize can hold it. A sign may come first.
 unfoldable pub signed_of : (text : List ℕ) → Option Signed
 signed_of [] = None
 signed_of (b ∷ rest) = if b == dash then behind_minus rest else plain_by (number_of (b ∷ rest))

@@ -11,11 +11,11 @@ use Rattle.gix_spec.specs.declared.spec.parse.fault.Fault.TheVariants.{UnclosedB
 use Rattle.gix_spec.specs.declared.spec.parse.braces.Braced.{Braced as FoundBraced}
 use Rattle.gix_spec.specs.Braces.{Braced, counted, close_of, braced_at}
 
--- As many braces close as open in the first n + 1 places of text; and n is the least place of text
--- for which this is so.
+-- As many braces close as open in the first n + 1 places of text.
 abbrev pub IsLevel : (text : List ℕ) → (n : ℕ) → Type 0
 IsLevel text n = counted 123 text (suc n) ≡ counted 125 text (suc n)
 
+-- The place n is the least place of text up to which as many braces close as open.
 abbrev pub IsClose : (text : List ℕ) → (n : ℕ) → Type 0
 IsClose text n = (n < length text) × IsLevel text n × ((k : ℕ) → k < n → IsLevel text k → ⊥)
 

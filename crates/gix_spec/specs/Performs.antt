@@ -60,5 +60,7 @@ DemandedBy (Err e) f input (Err err) = IsSomeAnd err (λ x. TellsOf e f input x)
 DemandedBy (Ok a) f input (Err err) = ⊥
 DemandedBy (Err e) f input (Ok b) = ⊥
 
+-- After a call that has to be accepted, the function goes on exactly if the answer accepted it.
+-- Otherwise the kept error is that of the refusal.
 pub record Demanded (answer : Result (Unit {0}) Exn) (f : Fault) (input : Option (List ℕ)) (out : Result (Unit {0}) Stopped) (error : Option Error) : Type 0 where
   pub demanded : DemandedBy answer f input (told_by out error)

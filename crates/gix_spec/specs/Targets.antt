@@ -38,13 +38,14 @@ regex_mark [] = Some (0, false)
 regex_mark (b ∷ rest) = if b == bang then banged_mark rest else Some (0, false)
 
 -- A regex after its slash: raw is the text as it is written, and meant is the text without escapes.
--- It may be empty.
+-- The regex may be empty. A `!` that begins no mark is the fault `RegexPrefix`.
 abbrev pub marked_regex : (raw meant rest : List ℕ) → Option (ℕ × Bool) → Part
 marked_regex raw meant rest None = refusal RegexPrefix (Some raw)
 marked_regex raw meant rest (Some mark) = piece (regex (drop mark.0 meant) (drop mark.0 raw) mark.1) rest
 
 -- In this file, after is the text after the `^`.
 
+-- The target that the braces name. A text that names no target is the fault `UnknownTarget`.
 abbrev pub peeled_to : Option Target → Braced → (after : List ℕ) → Part
 peeled_to None x after = refusal UnknownTarget (Some x.raw)
 peeled_to (Some target) x after = piece (peel target after) x.rest

@@ -42,21 +42,26 @@ attempts text whole (Some p) m onward =
     ask (prefix p.0 p.1) (onward (after_prefix m p.0 p.1))
     (λ e. ask (find_ref text) (onward (after_reference m text)) (λ d. leaf (faulty NameRefused (Some whole) (Some e) (Some d))))
 
--- The calls for an entry or a date in the reflog, and for a sibling branch.
+-- The call for an entry of the reflog. After an accepted prefix it is the fault
+-- `ReflogWithoutName`.
 abbrev pub reflog_calls : ReflogLookup → (own inner : List ℕ) → (own_prefix : Bool) → Tree → Tree
 reflog_calls query own inner own_prefix onward = of_reference own_prefix ReflogWithoutName own (demand (calls.reflog query) AtRefused (Some inner) onward)
 
+-- The call for a sibling branch. After an accepted prefix it is the fault `SiblingWithoutName`.
 abbrev pub sibling_calls : SiblingBranch → (own inner : List ℕ) → (own_prefix : Bool) → Tree → Tree
 sibling_calls which own inner own_prefix onward = of_reference own_prefix SiblingWithoutName own (demand (calls.sibling which) AtRefused (Some inner) onward)
 
+-- The call for the reflog entry at a time. After an accepted prefix it is the fault
+-- `ReflogWithoutName`.
 abbrev pub date_calls : Option Time → (own inner : List ℕ) → (own_prefix : Bool) → Tree → Tree
 date_calls time own inner own_prefix onward = of_reference own_prefix ReflogWithoutName own (at_time time inner onward)
 
--- The calls for `^!` and `^@`.
+-- The calls for `^!` and `^@`: the kind, then done. Both have to be accepted.
 abbrev pub closing_calls : Kind → (rest : List ℕ) → Tree → Tree
 closing_calls k rest onward = demand (kind k) (KindRefused k) (Some rest) (demand done DoneRefusedInNavigation (Some rest) onward)
 
--- The calls for `^-n`.
+-- The calls for `^-n`: the step to parent n, the kind of a range, the anchor once more, then done.
+-- All have to be accepted.
 abbrev pub without_parent_calls : (number : ℕ) (after rest : List ℕ) → Option Call → Tree → Tree
 without_parent_calls number after rest anchor onward =
     demand (traverse (NthParent number)) (TraverseRefused (NthParent number)) (Some after)
@@ -86,11 +91,12 @@ tree_of (finish ∷ ps) m = demand done DoneRefused None (tree_of ps m)
 tree_of (finished ∷ ps) m = tree_of ps m
 tree_of (fault f input ∷ ps) m = leaf (faulty f input None None)
 
--- Reading a piece may allocate memory only if it removes escapes.
+-- The piece takes memory: reading it removes escapes, for which the parser may allocate.
 abbrev pub takes_one : Piece → Bool
 takes_one unescaped = true
 takes_one _ = false
 
+-- One of the pieces takes memory.
 abbrev pub takes_memory : List Piece → Bool
 takes_memory [] = false
 takes_memory (p ∷ ps) = takes_one p || takes_memory ps

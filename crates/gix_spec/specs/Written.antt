@@ -84,11 +84,12 @@ abbrev pub Spells : List Piece → (text rest : List ℕ) → Type 0
 Spells [] text rest = text ≡ rest
 Spells (p ∷ ps) text rest = (own : List ℕ) × (more : List ℕ) × (text ≡ own ++ more) × IsWritten p own × Spells ps more rest
 
--- The piece is a fault; and none of the pieces is a fault.
+-- The piece is a fault.
 abbrev pub is_fault : Piece → Bool
 is_fault (fault f input) = true
 is_fault _ = false
 
+-- No piece is a fault.
 abbrev pub NoFault : List Piece → Type 0
 NoFault [] = Unit {0}
 NoFault (p ∷ ps) = (is_fault p ≡ false) × NoFault ps

@@ -47,6 +47,7 @@ pub enum Spec {
 impl Spec {
     /// Returns the form of this spec.
     pub fn kind(&self) -> Kind
+        // The answer is the form of the spec.
         ensures { result ≡ kind_of self.now }
     {
         match self {

@@ -53,6 +53,8 @@ pub use gix_base::date::Time;
 /// `parse` allocates nothing, so it never returns [`DateError::OutOfMemory`].
 #[tactic(auto, unfolding(crate::specs::Date::date_of))]
 pub fn parse(text: &[u8], now: Time) -> Result<Time, DateError>
+    // The answer is what the text stands for at the moment `now`: the time, `NotADate` or
+    // `OutOfRange` (`date_of`).
     ensures { result ≡ date_of text.now now }
 {
     if !shape::is_text(text) {

@@ -219,8 +219,8 @@ pub fn octopus_bases<S: Find, A: Allocator + Copy>(
 /// # Premises
 ///
 /// [Acyclic and ordered generations](crate#premises), for what the ids reach. Without ordered
-/// generations the answer is still an ancestor of all the ids, and `None` only if there is none.
-/// With a cycle the call returns, but which commit it answers is unspecified.
+/// generations the answer to different ids is still an ancestor of all of them, and `None` only if
+/// there is none. With a cycle the call returns, but which commit it answers is unspecified.
 ///
 /// # Graph
 ///

@@ -200,7 +200,7 @@ pub fn commits_newest_first<S: Find, A: Allocator + Copy>(
     // rising id. A missing generation number counts as infinity.
     ensures order { IfOk result (λ ids. IsInOrder (S.history graph.old.source) ids.items) }
 
-    // Also after an error the source's history is unchanged.
+    // The history of the source is unchanged, also after an error.
     ensures history { S.history graph.new.source ≡ S.history graph.old.source }
 
     // The fault count is one more exactly if the call returns `ListError::Source`. At `u64::MAX`
@@ -208,7 +208,7 @@ pub fn commits_newest_first<S: Find, A: Allocator + Copy>(
     ensures count { S.fault_count graph.new.source
         ≡ count_after (is_list_source_fault result) (S.fault_count graph.old.source) }
 
-    // Also after an error the graph keeps every commit that it holds.
+    // The graph keeps every commit that it holds, also after an error.
     ensures held { KeepsHeld graph.old graph.new }
 
     // Also after an error each newly held commit is reachable from an id of the spec. If the spec
@@ -276,7 +276,7 @@ pub fn newest_first<S: Find, A: Allocator + Copy>(
     ensures same { IfOk result (λ found. (c : ObjectId) → IsTrue (is_one_of found.items c)
         ↔ (IsTrue (is_one_of ids.now c) × Has (S.history graph.old.source) c)) }
 
-    // Also after an error the source's history is unchanged.
+    // The history of the source is unchanged, also after an error.
     ensures history { S.history graph.new.source ≡ S.history graph.old.source }
 
     // The fault count is one more exactly if the call returns `ListError::Source`. At `u64::MAX`
@@ -284,7 +284,7 @@ pub fn newest_first<S: Find, A: Allocator + Copy>(
     ensures count { S.fault_count graph.new.source
         ≡ count_after (is_list_source_fault result) (S.fault_count graph.old.source) }
 
-    // Also after an error the graph keeps every commit that it holds.
+    // The graph keeps every commit that it holds, also after an error.
     ensures held { KeepsHeld graph.old graph.new }
 
     // Also after an error each newly held commit is one of `ids`, and the source has it.

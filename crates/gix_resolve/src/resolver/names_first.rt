@@ -220,10 +220,10 @@ pub fn rev_parse<'a, S: Find, A: Allocator + Copy, I: Ids>(
     ensures count { S.fault_count graph.new.source
         ≡ count_after (is_fault result) (S.fault_count graph.old.source) }
 
-    // Also after an error the source's history is unchanged.
+    // The history of the source is unchanged, also after an error.
     ensures history { S.history graph.new.source ≡ S.history graph.old.source }
 
-    // Also after an error the graph keeps every commit that it holds.
+    // The graph keeps every commit that it holds, also after an error.
     ensures held { KeepsHeld graph.old graph.new }
 
     // A run as in `fault` leads from the old graph to the new one. Each call keeps held commits and

@@ -210,6 +210,9 @@ pub fn parens<'a, A: Allocator>(
     alloc: A,
     text: &'a [u8],
 ) -> Result<Option<(CowSlice<'a, u8, A>, &'a [u8], usize)>, Error<'a>>
+    // `None` exactly if the text does not begin with `{`. `UnclosedBrace`, with the whole text,
+    // exactly if the pair never closes. `OutOfMemory` only if the pair has an escape. A pair has
+    // its text without escapes (borrowed if it has none), the text after it, and its length.
     ensures { ParensGives text.now result }
 {
     if !begins(text) {

@@ -73,6 +73,8 @@ impl SiblingBranch {
     /// ASCII letters may be in upper or lower case. The answer is `None` for every other text. See
     /// gitrevisions, `@{upstream}` and `@{push}`.
     pub fn parse(text: &[u8]) -> Option<SiblingBranch>
+        // `Upstream` for `u` and `upstream`, `Push` for `push`, in any ASCII letter case. `None`
+        // for every other text.
         ensures { result ≡ sibling_of text.now }
     {
         if text.eq_ignore_ascii_case(b"u") || text.eq_ignore_ascii_case(b"upstream") {
@@ -102,6 +104,8 @@ pub trait Listener {
 pub trait Revision: Listener {
     /// Looks up a ref by its name, also `HEAD`.
     fn find_ref(&mut self, name: &[u8]) -> Result<(), Exn>
+        // The call for this name, with the answer that it got, is a `step` from the old state to
+        // the new one.
         ensures { Self.step self.old (find_ref name.now) (answer_of result) self.new };
 
     /// Looks up an abbreviated object name. If it is refused, `find_ref` of the whole name follows,
@@ -111,20 +115,28 @@ pub trait Revision: Listener {
         prefix: Prefix,
         hint: Option<PrefixHint<'_>>,
     ) -> Result<(), Exn>
+        // The call for the digits of this prefix and this hint, with the answer that it got, is a
+        // `step` from the old state to the new one.
         ensures { Self.step self.old
             (Call.prefix (prefix_text prefix) (option_map hint_of hint.entry))
             (answer_of result) self.new };
 
     /// Looks up an entry in the reflog of the ref, or of the current branch.
     fn reflog(&mut self, query: ReflogLookup) -> Result<(), Exn>
+        // The call for this entry or date, with the answer that it got, is a `step` from the old
+        // state to the new one.
         ensures { Self.step self.old (Call.reflog query) (answer_of result) self.new };
 
     /// Looks up the `branch_no`-th branch checked out before the current one.
     fn nth_checked_out_branch(&mut self, branch_no: usize) -> Result<(), Exn>
+        // The call for the branch of this number, with the answer that it got, is a `step` from the
+        // old state to the new one.
         ensures { Self.step self.old (branch branch_no) (answer_of result) self.new };
 
     /// Looks up a branch that belongs to the ref, or to the current branch.
     fn sibling_branch(&mut self, kind: SiblingBranch) -> Result<(), Exn>
+        // The call for this sibling branch, with the answer that it got, is a `step` from the old
+        // state to the new one.
         ensures { Self.step self.old (sibling kind) (answer_of result) self.new };
 }
 
@@ -132,6 +144,8 @@ pub trait Revision: Listener {
 pub trait Kind: Listener {
     /// Receives the form of the spec. This call may come twice, as for `a..b^!`.
     fn kind(&mut self, kind: spec::Kind) -> Result<(), Exn>
+        // The call for this kind of spec, with the answer that it got, is a `step` from the old
+        // state to the new one.
         ensures { Self.step self.old (Call.kind kind) (answer_of result) self.new };
 }
 
@@ -139,18 +153,26 @@ pub trait Kind: Listener {
 pub trait Navigate: Listener {
     /// Takes a step along the history.
     fn traverse(&mut self, kind: Traversal) -> Result<(), Exn>
+        // The call for this step, with the answer that it got, is a `step` from the old state to
+        // the new one.
         ensures { Self.step self.old (traverse kind) (answer_of result) self.new };
 
     /// Peels the object.
     fn peel_until(&mut self, kind: PeelTo<'_>) -> Result<(), Exn>
+        // The call for this target, with the answer that it got, is a `step` from the old state to
+        // the new one.
         ensures { Self.step self.old (peel (target_of kind.entry)) (answer_of result) self.new };
 
     /// Finds the youngest commit whose message the regex matches, or does not match if `negated`.
     fn find(&mut self, regex: &[u8], negated: bool) -> Result<(), Exn>
+        // The call for this regex, negated or not, with the answer that it got, is a `step` from
+        // the old state to the new one.
         ensures { Self.step self.old (find regex.now negated) (answer_of result) self.new };
 
     /// Looks up a path in the index, at a stage from 0 to 3.
     fn index_lookup(&mut self, path: &[u8], stage: u8) -> Result<(), Exn>
+        // The call for this path and stage, with the answer that it got, is a `step` from the old
+        // state to the new one.
         ensures { Self.step self.old (index path.now stage) (answer_of result) self.new };
 }
 
@@ -159,5 +181,7 @@ pub trait Delegate: Revision + Navigate + Kind {
     /// Receives the end of the expression. This call may come twice, if a closer such as `^!` ends
     /// the second revision.
     fn done(&mut self) -> Result<(), Exn>
+        // The call of `done`, with the answer that it got, is a `step` from the old state to the
+        // new one.
         ensures { Self.step self.old done (answer_of result) self.new };
 }

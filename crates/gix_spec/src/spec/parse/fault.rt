@@ -70,6 +70,7 @@ pub enum Fault {
 impl Fault {
     /// Returns the number of this fault: the place of its variant, from 1 to 27.
     pub fn number(&self) -> u8
+        // The answer is the place of the fault among its cases, from 1 to 27.
         ensures { result ≡ number_of self.now }
     {
         match self {

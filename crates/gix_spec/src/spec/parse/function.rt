@@ -340,8 +340,16 @@ pub fn parse<'a, A: Allocator + Copy, D: Delegate>(
     now: Time,
     delegate: &mut D,
 ) -> Result<(), Error<'a>>
+    // The result and the delegate's new state are those of a run of the text's tree (`meaning_of`).
+    // The run ends well for `Ok`, and for `Refused` in this fault, with its part and refusals. For
+    // `OutOfMemory` it ends at a call with that answer, or where the parser takes memory.
     ensures run { Parses D.step delegate.old (meaning_of input.now now) delegate.new result }
+
+    // Also after an error, a beginning of a run of this tree leads to the delegate's new state.
     ensures beginning { IsBeginning D.step delegate.old (meaning_of input.now now) delegate.new }
+
+    // If no piece of the text takes memory: after `OutOfMemory`, the run ends at a call of the
+    // delegate with that answer.
     ensures memory { takes_memory (pieces_of input.now) ≡ false
         → IsErrOf result Error.OutOfMemory
         → IsRun D.step delegate.old (meaning_of input.now now) delegate.new without_memory }
