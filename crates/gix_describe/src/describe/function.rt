@@ -165,7 +165,7 @@ pub fn counted_by<'name, S: Find, A: Allocator + Copy>(
         → IsTrue (nothing_to_find (names_of names.now.entries) (min manner.max_candidates 32))
         → IsOk result }
 
-    // Also after an error, the history of the source is unchanged.
+    // The history of the source is unchanged, also after an error.
     ensures history { S.history graph.new.source ≡ S.history graph.old.source }
 
     // After `ParentsOf` the fault count of the source is one more, up to `u64::MAX`. Otherwise the
@@ -274,7 +274,7 @@ pub fn counted<'name, S: Find, A: Allocator + Copy>(
     ensures no_walk { name_at (names_in options.entry) commit.now ≡ None
         → IsTrue (nothing_to_find (names_in options.entry) (cap_of options.entry)) → IsOk result }
 
-    // Also after an error, the history of the source is unchanged.
+    // The history of the source is unchanged, also after an error.
     ensures history { S.history graph.new.source ≡ S.history graph.old.source }
 
     // After `ParentsOf` the fault count of the source is one more, up to `u64::MAX`. Otherwise the
@@ -394,7 +394,7 @@ pub fn describe<'name, S: Find, A: Allocator + Copy>(
     ensures no_walk { name_at (names_in options.entry) commit.now ≡ None
         → IsTrue (nothing_to_find (names_in options.entry) (cap_of options.entry)) → IsOk result }
 
-    // Also after an error, the history of the source is unchanged.
+    // The history of the source is unchanged, also after an error.
     ensures history { S.history graph.new.source ≡ S.history graph.old.source }
 
     // After `ParentsOf` the fault count of the source is one more, up to `u64::MAX`. Otherwise the

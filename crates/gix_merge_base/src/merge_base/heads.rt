@@ -141,8 +141,9 @@ fn bases_of_heads<S: Find, A: Allocator + Copy>(
 /// # Premises
 ///
 /// [Acyclic and ordered generations](crate#premises), for what the ids reach. Without ordered
-/// generations the answer still contains only ancestors of all the ids, and for each such ancestor
-/// one that reaches it. With a cycle the call returns, but which commits it answers is unspecified.
+/// generations the answer to different ids still contains only ancestors of all of them, and for
+/// each such ancestor one that reaches it. With a cycle the call returns, but which commits it
+/// answers is unspecified.
 ///
 /// # Graph
 ///
