@@ -7,7 +7,7 @@ use Rattle.gix_resolve.specs.declared.lookup.Found.{Found}
 use Rattle.gix_resolve.specs.declared.lookup.Found.TheVariants.{Nothing, One, Many}
 use Rattle.gix_revwalk.specs.History.{is_one_of, same_id}
 
--- Whether nothing but id was found.
+-- Whether no other id than id was found.
 abbrev pub is_only : Found → ObjectId → Bool
 is_only Nothing id = true
 is_only (One other) id = same_id other id

@@ -45,13 +45,14 @@ abbrev pub entry_given : List (List ℕ) → ℤ → Bool → ℕ → Entry
 entry_given parents time known generation =
     record { parents = map id_of parents; time = time; generation = if known then Some generation else None }
 
--- The items of xs are counted. As many first ones as fit are written over the first items of the
--- buffer old, which is new then.
+-- The number of the items xs is count. The first ones, as many as fit, are written over the first
+-- items of the buffer old, which is new then. The rest of the buffer is unchanged.
 pub record IsWritten (xs old new : List (List ℕ)) (count : ℕ) : Type 0 where
   pub counted : count ≡ length xs
   pub written : new ≡ take (min (length xs) (length old)) xs ++ drop (min (length xs) (length old)) old
 
--- A list of exactly the merge bases of f and os, each once and in order, is counted and written.
+-- A list of exactly the merge bases of f and os, each once and in order, is counted and written
+-- (git-merge-base, "Description").
 pub record HasBases (h : History) (f : ObjectId) (os : List ObjectId) (old new : List (List ℕ)) (count : ℕ) : Type 0 where
   pub ids : List ObjectId
   pub bases : AreBases h f os ids
@@ -59,14 +60,14 @@ pub record HasBases (h : History) (f : ObjectId) (os : List ObjectId) (old new :
   pub order : IsInOrder h ids
   pub written : IsWritten (map bytes_in ids) old new count
 
--- The octopus base of f and os is written.
+-- The octopus base of f and os is written (git-merge-base, "--octopus").
 pub record HasOctopusBase (h : History) (f : ObjectId) (os : List ObjectId) (new : List ℕ) : Type 0 where
   pub id : ObjectId
   pub base : IsOctopusBase h f os (Some id)
   pub written : new ≡ bytes_in id
 
--- Those of ids that no other of them reaches, each once and in the order of first places, are
--- counted and written (git-merge-base, "--independent").
+-- Those of ids that no other one of ids reaches, each once and in the order of their first places,
+-- are counted and written (git-merge-base, "--independent").
 pub record HasIndependent (h : History) (ids : List ObjectId) (old new : List (List ℕ)) (count : ℕ) : Type 0 where
   pub left : List ObjectId
   pub independent : (c : ObjectId) → IsTrue (is_one_of left c) ↔ IsIndependent h ids c

@@ -8,7 +8,8 @@ use Rattle.gix_revwalk.specs.History.{History as Commits}
 use Rattle.gix_c_core.specs.declared.handle.Handle.{Handle}
 use Rattle.gix_c_core.specs.declared.history.History.{History}
 
--- The commits of a file, if there is one, and after them newer ones.
+-- The commits of a file, if there is one, and after them newer ones. If both have an id, the commit
+-- of the file counts.
 abbrev pub joined : {B : Type 0} → Joined Commits B → Commits
 joined j = in_file j.file ++ j.newer
 
@@ -17,6 +18,8 @@ joined j = in_file j.file ++ j.newer
 abbrev pub commits_in : History → Commits
 commits_in v = joined v.graph.source
 
+-- The commits of the history behind a handle: those of its files, if it has any, and those that
+-- were inserted.
 abbrev pub commits_of : Handle → Commits
 commits_of h = commits_in h.value
 

@@ -22,9 +22,9 @@ use Rattle.gix_c_core.specs.declared.file.Unopened.TheVariants.{NoGraph, NoLevel
 abbrev pub bytes_of : List Bytes → List (List ℕ)
 bytes_of files = map (λ (b : Bytes). b.bytes.now) files
 
--- The history v is complete and has exactly the commits of h. Its graph holds none of them yet, its
--- noted parents are right, it has no ref names, and abbreviated object names stand for the ids of
--- those commits alone.
+-- The history v is complete and has exactly the commits of h. Its graph holds none of them yet, it
+-- notes parents (Remembers), it has no ref names, and abbreviated object names stand for exactly
+-- the ids of those commits.
 pub record IsMadeOver (h : Commits) (v : History) : Type 0 where
   pub commits : (id : ObjectId) → entry_at (commits_in v) id ≡ entry_at h id
   pub held : (id : ObjectId) → held_at v.graph id ≡ None
@@ -48,9 +48,9 @@ abbrev pub HasLowest : List (List ℕ) → Type 0
 HasLowest [] = ⊥
 HasLowest (s ∷ files) = IsCommitGraph s
 
--- Why files are not opened: they are not a chain; or the lowest one is a commit-graph file, and a
--- commit of the files has no level, or a level that is not greater than its parents'; or an
--- allocation failed.
+-- Why files are not opened. NoGraph: they are not a chain. NoLevels: the lowest one is a
+-- commit-graph file, and the levels of the files do not fall (ChainFalls). OutOfMemory: no
+-- condition.
 abbrev pub TellsChainCause : List (List ℕ) → Unopened → Type 0
 TellsChainCause files NoGraph = ¬ IsChain files
 TellsChainCause files NoLevels = HasLowest files × (¬ ChainFalls files)

@@ -16,11 +16,11 @@ use Rattle.gix_c_core.specs.declared.describe.Name.{Name}
 use Rattle.gix_c_core.specs.declared.describe.How.{How}
 use Rattle.gix_c_core.specs.declared.status.TheConstants.{OUT_OF_MEMORY, NO_COMMIT, TOO_MANY}
 
--- The names that are passed, as pairs of an id and a text. Of several names of one commit the first
--- counts.
+-- The name n that is passed, as a pair of an id and a text.
 abbrev pub given_pair : Name → ObjectId × List ℕ
 given_pair n = (id_of n.id, n.text.now)
 
+-- The names that are passed. If a commit has several, the first one counts.
 abbrev pub names_given : List Name → Names
 names_given ns = map given_pair ns
 
@@ -28,6 +28,7 @@ names_given ns = map given_pair ns
 abbrev pub named_by : Name → ObjectId → Option (List ℕ)
 named_by n q = name_at (given_pair n ∷ []) q
 
+-- The first of two values that exists, if one does.
 abbrev pub first_of : {X : Type 0} → Option X → Option X → Option X
 first_of None b = b
 first_of (Some a) b = Some a
@@ -36,19 +37,21 @@ first_of (Some a) b = Some a
 abbrev pub AreNames : {A : Type 0} → List (ObjectId × CowSlice ℕ A) → Names → Type 0
 AreNames entries names = (q : ObjectId) → name_at (names_of entries) q ≡ name_at names q
 
--- The manner m says what was passed.
+-- The manner m has the number of candidates, the fallback and the first-parent flag of the options
+-- how.
 pub record IsManner (how : How) (m : Manner) : Type 0 where
   pub candidates : m.max_candidates ≡ how.max_candidates
   pub fallback : m.fallback_to_oid ≡ how.fallback_to_id
   pub first_parent : m.first_parent ≡ how.first_parent
 
--- The description r describes s by the names, of which at most 32 are weighed against each other.
+-- The answer r describes s by the names and the options how, as IsDescribed says (git-describe). At
+-- most 32 names are weighed against each other.
 abbrev pub IsDescribedSo : History → ObjectId → Names → How → Option Description → Type 0
 IsDescribedSo h s names how r =
     IsDescribed (followed how.first_parent h) s names (min how.max_candidates 32) how.fallback_to_id r
 
--- The bytes of the text are counted. As many first ones as fit are written over the first bytes of
--- the buffer old, which is new then.
+-- The number of the bytes of the text is len. The first ones, as many as fit, are written over the
+-- first bytes of the buffer old, which is new then. The rest of the buffer is unchanged.
 pub record IsText (text old new : List ℕ) (len : ℕ) : Type 0 where
   pub counted : len ≡ length text
   pub written : new ≡ take (min (length text) (length old)) text ++ drop (min (length text) (length old)) old
@@ -60,12 +63,12 @@ printed_text s d how =
     if how.hex_len == 0 then described_text d.name (hex_text s 40) 0 false
     else described_text d.name (hex_text s how.hex_len) d.depth how.long_form
 
--- The description d of s is printed.
+-- The text of the description d of s is written, and depth is its depth.
 pub record IsPrinted (s : ObjectId) (d : Description) (how : How) (old new : List ℕ) (len depth : ℕ) : Type 0 where
   pub text : IsText (printed_text s d how) old new len
   pub depth_is : depth ≡ d.depth
 
--- A description that describes s is printed.
+-- A description of s by the names and the options how is printed (git-describe, "Description").
 pub record HasDescription (h : History) (s : ObjectId) (names : Names) (how : How) (old new : List ℕ) (len depth : ℕ) : Type 0 where
   pub description : Description
   pub described : IsDescribedSo h s names how (Some description)
@@ -75,8 +78,8 @@ pub record HasDescription (h : History) (s : ObjectId) (names : Names) (how : Ho
 abbrev pub NeedsWalkSo : ObjectId → Names → How → Type 0
 NeedsWalkSo s names how = NeedsWalk s names (min how.max_candidates 32)
 
--- The code says why s is not described: an allocation failed, the history h does not have s, or 2^32
--- commits are reached.
+-- The code says why s is not described. An allocation failed, the history h does not have s, or s
+-- reaches 2^32 commits or more, along first parents if first is set.
 abbrev pub IsUndescribed : History → ObjectId → Bool → ℤ → Type 0
 IsUndescribed h s first code =
     (code ≡ OUT_OF_MEMORY) ⊎ (((code ≡ NO_COMMIT) × (¬ Has h s))

@@ -7,8 +7,8 @@ use Rattle.gix_revision.specs.Types.Error.{Error}
 use Rattle.gix_revision.specs.Types.Error.TheVariants.{OutOfMemory, Refused}
 use Rattle.gix_c_core.specs.declared.faults.FaultPlace.{FaultPlace}
 
--- The part begins at its last occurrence in the text. If there is no part, then start and len are
--- 0.
+-- The part has len bytes, and its last occurrence in the text begins at start. If there is no part,
+-- start and len are 0.
 abbrev pub IsPartAt : (text : List ℕ) → Option (List ℕ) → (start len : ℕ) → Type 0
 IsPartAt text None start len = (start ≡ 0) × (len ≡ 0)
 IsPartAt text (Some part) start len = (len ≡ length part) × FindsLastNeedle text part (Some start)

@@ -26,6 +26,7 @@ pub record HasContent (content : List ℕ) (id : ObjectId) (old new : History) :
   pub put : (q : ObjectId) → entry_at new q ≡ (if same_id id q then Some commit else entry_at old q)
 
 -- The content is not read as a commit: it does not begin with the line of a tree, a line of a
--- parent is malformed, or the committer's time is 2^63 seconds or more.
+-- parent is malformed, or the committer's time is 2^63 seconds or more (git-commit-tree,
+-- "Description").
 abbrev pub IsMisshapen : List ℕ → Type 0
 IsMisshapen content = IsRefused content BadTree ⊎ (IsRefused content BadParent ⊎ IsRefused content TimeOutOfRange)

@@ -15,8 +15,8 @@ pub record ListsMissing (h : History) (ids : List ObjectId) : Type 0 where
   pub missing : (p : ObjectId) → IsTrue (is_one_of ids p) ↔ IsMissing h p
   pub rising : IsStrictlySortedBy id_order ids
 
--- The first missing parents that are greater than the bound, as many as fit, are counted and
--- written.
+-- The missing parents that are greater than the bound are written by rising id, each once and as
+-- many as fit. Without a bound, all missing parents count. The number of those written is count.
 pub record HasMissing (h : History) (bound : Option ObjectId) (old new : List (List ℕ)) (count : ℕ) : Type 0 where
   pub all : List ObjectId
   pub lists : ListsMissing h all
@@ -32,6 +32,7 @@ pub record AreLacked (h : History) (ids found : List ObjectId) : Type 0 where
   pub lacked : (p : ObjectId) → IsTrue (is_one_of found p) ↔ (IsTrue (is_one_of ids p) × (¬ Has h p))
   pub rising : IsStrictlySortedBy id_order found
 
--- The noted parents of a history are right. They are in a new history, and each call keeps them so.
+-- The history of a handle notes parents: its list of them has only parents of its commits, and
+-- every missing one.
 abbrev pub IsNoted : Handle → Type 0
 IsNoted h = Remembers (commits_of h) h.value.named.items

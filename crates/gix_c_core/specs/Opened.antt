@@ -13,8 +13,9 @@ use Rattle.gix_c_core.specs.declared.handle.Handle.{Handle}
 use Rattle.gix_c_core.specs.declared.history.History.{History}
 
 -- The history v is complete and has exactly the commits of the file. Its graph holds none of them
--- yet, its noted parents are right, it has no ref names, and abbreviated object names stand for the
--- ids of those commits alone.
+-- yet, it notes parents (Remembers), it has no ref names, and abbreviated object names stand for
+-- exactly the ids of those commits. Each commit has a level, and its parents are commits of the
+-- file with lesser ones.
 pub record IsMadeOf (file : List ℕ) (v : History) : Type 0 where
   pub commits : commits_in v ≡ history_in file
   pub held : (id : ObjectId) → held_at v.graph id ≡ None

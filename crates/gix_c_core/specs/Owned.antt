@@ -27,7 +27,7 @@ abbrev pub owns_some : Global → Ptr → Option Handle → Fml
 owns_some alloc p None = ftrue
 owns_some alloc p (Some h) = owns_handle alloc p h
 
--- There is a handle. Its history is complete and has no commit, its noted parents are right, it has
+-- There is a handle. Its history is complete and has no commit, it notes parents (IsNoted), it has
 -- no ref names, and abbreviated object names stand for no id.
 abbrev pub IsNew : Option Handle → Type 0
 IsNew o =

@@ -9,8 +9,8 @@ use Rattle.gix_c_core.specs.declared.handle.Handle.{Handle}
 use Rattle.gix_c_core.specs.declared.history.History.{History}
 use Rattle.gix_c_core.specs.declared.status.TheConstants.{OUT_OF_MEMORY, WANTS}
 
--- The whole history of which the commits of h were put in. If it is partial, it may have others
--- beyond them.
+-- The whole history, if the commits of h were put in. A complete history has these only. A partial
+-- one also has the commits of beyond; if both have an id, the commit of h counts.
 abbrev pub whole : Extent → (h beyond : Commits) → Commits
 whole Complete h beyond = h
 whole (Partial wanted) h beyond = h ++ beyond
@@ -19,14 +19,17 @@ whole (Partial wanted) h beyond = h ++ beyond
 abbrev pub HasAllOf : (more h : Commits) → Type 0
 HasAllOf more h = (q : ObjectId) (commit : Entry) → entry_at h q ≡ Some commit → entry_at more q ≡ Some commit
 
--- Each history that has the commits of h is, commit by commit, h and then itself. So a partial
--- history may be each history that has the commits that were put in.
+-- If the history more has the commits of h, then h followed by more has the same commit under each
+-- id as more. The whole history of a partial one can therefore be any history that has the commits
+-- that were put in.
 abbrev pub EachIsWhole : Type 0
 EachIsWhole = (h more : Commits) → HasAllOf more h → (q : ObjectId) → entry_at (h ++ more) q ≡ entry_at more q
 
+-- The whole history of v, with the commits of beyond if v is partial.
 abbrev pub whole_in : History → Commits → Commits
 whole_in v beyond = whole v.extent (commits_in v) beyond
 
+-- The whole history behind a handle, with the commits of beyond if it is partial.
 abbrev pub whole_of : Handle → Commits → Commits
 whole_of handle beyond = whole_in handle.value beyond
 
@@ -40,14 +43,15 @@ abbrev pub is_partial : Extent → Bool
 is_partial Complete = false
 is_partial (Partial wanted) = true
 
--- A question wants a commit, which is noted and was not put in.
+-- The history new notes as wanted a commit that old does not have, neither in its files nor
+-- inserted.
 pub record Wants (old new : History) : Type 0 where
   pub wanted : ObjectId
   pub noted : new.extent ≡ Partial (Some wanted)
   pub lacking : ¬ Has (commits_in old) wanted
 
--- The code says why a question has no answer: an allocation failed, and what is wanted is as before;
--- or it wants a commit.
+-- The code says why a question has no answer. Either an allocation failed, and what is wanted is
+-- unchanged. Or the question wants a commit.
 abbrev pub IsTold : ℤ → (old new : History) → Type 0
 IsTold code old new = ((code ≡ OUT_OF_MEMORY) × (new.extent ≡ old.extent)) ⊎ ((code ≡ WANTS) × Wants old new)
 

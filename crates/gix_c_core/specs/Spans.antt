@@ -14,7 +14,8 @@ use Rattle.gix_c_core.specs.FaultPlaces.{IsFaultAt}
 use Rattle.gix_c_core.specs.declared.faults.FaultPlace.{FaultPlace}
 use Rattle.gix_c_core.specs.declared.revisions.Span.{Span}
 
--- The spec that the kind and the two ids of s stand for, if the kind is a known one.
+-- The spec that the kind and the ids of s stand for, if the kind is one from 0 to 5 (gitrevisions,
+-- "Specifying Ranges").
 abbrev pub spec_at : Span → Option Spec
 spec_at s =
     (if s.kind == 0 then Some (Include (id_of s.first)) else
@@ -50,7 +51,7 @@ pub record HasPage (h : History) (span : Span) (bound : Option ObjectId) (old ne
   pub page : IsPage h spec bound (length old) ids
   pub written : IsWritten (map bytes_in ids) old new count
 
--- The span has exactly count commits.
+-- The span has exactly count commits (git-rev-list, "--count").
 pub record HasCount (h : History) (span : Span) (count : ℕ) : Type 0 where
   pub spec : Spec
   pub stands : spec_at span ≡ Some spec

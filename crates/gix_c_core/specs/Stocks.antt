@@ -38,8 +38,9 @@ pub record IsListOfMissing (h : History) (o : Option StockHandle) : Type 0 where
   pub lists : ListsMissing h all
   pub holds : list.value.ids.items ≡ map bytes_in all
 
--- As many items of xs as fit, from the given place on, are written over the first items of the
--- buffer old, which is new then. They are count items.
+-- The items of xs from the given place on, as many as fit, are written over the first items of the
+-- buffer old, which is new then. The rest of the buffer is unchanged. The number of items written
+-- is count.
 pub record IsRead (xs : List (List ℕ)) (from : ℕ) (old new : List (List ℕ)) (count : ℕ) : Type 0 where
   pub counted : count ≡ min (length xs - from) (length old)
   pub written : new ≡ take count (drop from xs) ++ drop count old

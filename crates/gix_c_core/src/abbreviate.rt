@@ -49,8 +49,14 @@ fn is_alone(ids: &BTreeSet<ObjectId>, id: ObjectId, len: usize) -> bool
 /// Returns the least number of digits from `least` on, with which no other of the ids than `id`
 /// begins, or 40.
 pub fn shortest(ids: &BTreeSet<ObjectId>, id: ObjectId, least: usize) -> usize
+    // `least` is at least 4.
     requires least { 4 ≤ least }
+
+    // `least` is at most 40.
     requires most { least ≤ 40 }
+
+    // The answer is the least number, from `least` to 39, such that no other of the ids begins with
+    // so many first digits of `id`. If there is no such number, the answer is 40.
     ensures { IsShort ids.now.keys id least result }
 {
     for len in least..40 {

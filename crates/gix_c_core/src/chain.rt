@@ -33,12 +33,26 @@ impl AsSlice<u8> for Bytes<'_> {
 
 /// Opens copies of the files of a chain, the lowest first, and checks their levels.
 pub fn read_chain(alloc: Global, files: &[Bytes<'_>], seed: Seed) -> Result<Chain<Global>, Unopened>
+    // After a success, the files are a chain, the lowest first.
     ensures chain { OnOk result (IsChain (bytes_of files.now)) }
+
+    // After a success, each commit of the files has a level, and its parents are commits of the
+    // chain with lower levels. The parents of a commit of the lowest file are in that file.
     ensures fall { OnOk result (ChainFalls (bytes_of files.now)) }
+
+    // After a success, each commit of the chain's history has a generation number, and its parents
+    // are commits of that history with lower ones.
     ensures levelled { OnOk result (IsLevelled (chain_in (bytes_of files.now))) }
+
+    // The answer has exactly the commits of the chain.
     ensures commits { IfOk result (λ chain. (q : ObjectId)
         → entry_at (joined chain.commits) q ≡ entry_at (chain_in (bytes_of files.now)) q) }
+
+    // The ids of the answer are those of the chain's commits, in order, from the lowest file on.
     ensures ids { IfOk result (λ chain. chain.ids.items ≡ ids_of (chain_in (bytes_of files.now))) }
+
+    // After `NoGraph`, the files are not a chain. After `NoLevels`, the lowest file is a
+    // commit-graph file, and the levels of the files are not as `fall` says.
     ensures refused { IfErr result (TellsChainCause (bytes_of files.now)) }
 {
     let Some((lowest, upper)) = files.split_first() else {

@@ -17,9 +17,15 @@ pub struct CommitFields {
 
 /// Returns the fields of a commit.
 pub fn fields_of(commit: &SourceCommit) -> CommitFields
+    // The answer has the date of the commit.
     ensures time { result.time ≡ commit.now.time }
+
+    // `has_generation` says whether the commit has a generation number. If it has one, `generation`
+    // is that number.
     ensures generation { (if result.has_generation then Some result.generation else None)
         ≡ commit.now.generation }
+
+    // `parents_len` is the number of the parents.
     ensures parents { result.parents_len ≡ length commit.now.parents.items }
 {
     CommitFields {

@@ -64,6 +64,8 @@ pub fn first_names<'a>(
     seed: Seed,
     names: &[Name<'a>],
 ) -> Result<Names<'a>, AllocError>
+    // The answer gives each commit the first name that `names` has for the commit, and gives the
+    // other commits none.
     ensures { IfOk result (λ map. AreNames map.entries (names_given names.now)) }
 {
     let mut map = HashMap::with_hasher(alloc, seed);
@@ -92,6 +94,8 @@ pub fn copied_names(
     seed: Seed,
     names: &[Name<'_>],
 ) -> Result<Names<'static>, AllocError>
+    // The answer gives each commit the first name that `names` has for the commit, and gives the
+    // other commits none.
     ensures { IfOk result (λ map. AreNames map.entries (names_given names.now)) }
 {
     let mut map = HashMap::with_hasher(alloc, seed);
@@ -174,27 +178,55 @@ pub fn describe_by<K: Beyond>(
     len: &mut usize,
     depth: &mut u32,
 ) -> i32
+    // Let `given` name each commit as `names` does. After `OK`, text and depth describe the commit
+    // by `given` in the whole history. After `NONE`, it has no name, `fallback_to_id` is not set,
+    // and either no name can be taken, or the history has it and no followed ancestor has a name.
     ensures described { (given : Given) → AreNames names.now.entries given → ByCode result
         (HasDescription (whole_in history.old K.beyond) (id_of commit.now) given how.now
         out.old out.new len.new depth.new)
         (IsDescribedSo (whole_in history.old K.beyond) (id_of commit.now) given how.now None)
         ⊤ }
+
+    // After `NONE` and after an error code, `out`, `len` and `depth` are unchanged.
     ensures unwritten { ByCode result ⊤
         ((out.new ≡ out.old) × (len.new ≡ len.old) × (depth.new ≡ depth.old))
         ((out.new ≡ out.old) × (len.new ≡ len.old) × (depth.new ≡ depth.old)) }
+
+    // `NO_COMMIT` only if the whole history does not have the commit.
     ensures no_commit { result ≡ NO_COMMIT → ¬ Has (whole_in history.old K.beyond) (id_of commit.now) }
+
+    // `TOO_MANY` only if the commit reaches 2^32 commits or more, along the followed parents.
     ensures too_many { result ≡ TOO_MANY → AtLeast (2 ^ 32)
         (IsAncestor (followed how.now.first_parent (whole_in history.old K.beyond)) (id_of commit.now)) }
+
+    // `NO_COMMIT` and `TOO_MANY` only if the history has to be walked: the commit has no name,
+    // there are names, and at least one may be taken.
     ensures walk { (given : Given) → AreNames names.now.entries given
         → (result ≡ NO_COMMIT) ⊎ (result ≡ TOO_MANY) → NeedsWalkSo (id_of commit.now) given how.now }
+
+    // `NO_HOW` only if the size of the options is not 32.
     ensures no_how { result ≡ NO_HOW → how.now.size ≢ 32 }
+
+    // `WANTS` only if the history is partial. The history then notes as wanted a commit that was
+    // neither added nor in its files.
     ensures wants { result ≡ WANTS → IsTrue (is_partial history.old.extent)
         × Wants history.old history.new }
+
+    // An error code is `NO_HOW`, `NO_COMMIT`, `TOO_MANY`, `WANTS` or `OUT_OF_MEMORY`.
     ensures refused { ByCode result ⊤ ⊤ ((result ≡ NO_HOW) ⊎ ((result ≡ NO_COMMIT)
         ⊎ ((result ≡ TOO_MANY) ⊎ ((result ≡ WANTS) ⊎ (result ≡ OUT_OF_MEMORY))))) }
+
+    // Unless the code is `WANTS`, the history is unchanged.
     ensures kept { result ≢ WANTS → history.new ≡ history.old }
+
+    // Also after an error, the graph is unchanged, and with it the commits of the history.
     ensures graph { history.new.graph ≡ history.old.graph }
+
+    // Also after an error, the noted parents are unchanged.
     ensures named { history.new.named ≡ history.old.named }
+
+    // Also after an error, the ref names, and the ids that abbreviated object names stand for, are
+    // unchanged.
     ensures table { history.new.table ≡ history.old.table }
 {
     if how.size != HOW_SIZE as usize {

@@ -25,8 +25,15 @@ pub enum Unopened {
 
 /// Opens a copy of the bytes of a commit-graph file, and checks its levels.
 pub fn read_file(alloc: Global, bytes: &[u8]) -> Result<LevelledGraph, Unopened>
+    // The answer has the same bytes.
     ensures same { IfOk result (λ file. file ≡ bytes.now) }
+
+    // After a success, the bytes are a commit-graph file. Each commit of the file has a level, and
+    // its parents are commits of the file with lower levels.
     ensures opened { OnOk result (IsCommitGraph bytes.now × LevelsFall bytes.now) }
+
+    // After `NoGraph`, the bytes are not a commit-graph file. After `NoLevels`, they are one, and
+    // its levels are not as `opened` says.
     ensures refused { IfErr result (TellsCause bytes.now) }
 {
     let Ok(bytes) = bytes.to_vec(alloc) else {

@@ -7,6 +7,7 @@ use gix_revision::commit_graph::OpenFault;
 
 /// Returns the number by which C names a fault.
 pub fn number_of(fault: OpenFault) -> u32
+    // The answer is the number of the fault, from 1 to 20.
     ensures { result ≡ graph_fault_number fault }
 {
     match fault {

@@ -65,7 +65,11 @@ impl Handle {
 
     /// Borrows the history.
     pub fn get_mut(&mut self) -> &mut History
+        // When the borrow ends, the handle has the last history behind the answer, and is otherwise
+        // unchanged.
         ensures* writes_back { sem 𝓛 (lends_value self.entry result) }
+
+        // The answer is the history of the handle.
         ensures value { result.now ≡ self.old.value }
     {
         unsafe { &mut *(self.at as *mut History) }

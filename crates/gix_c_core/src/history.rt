@@ -59,10 +59,19 @@ impl History {
     /// Makes a history without commits, with hash maps seeded with `seed`.
     #[tactic(auto, using(crate::proofs::Lacking::noted_empty))]
     pub fn new(alloc: Global, seed: Seed) -> History
+        // The answer has no commit.
         ensures empty { (id : ObjectId) → entry_at (commits_in result) id ≡ None }
+
+        // The answer has no ref names.
         ensures names { result.table.names.entries ≡ [] }
+
+        // Abbreviated object names stand for no id.
         ensures ids { result.table.ids.keys ≡ [] }
+
+        // The answer notes parents: only parents of its commits, and every missing one.
         ensures noted { Remembers (commits_in result) result.named.items }
+
+        // The answer is complete.
         ensures extent { result.extent ≡ Extent.Complete }
     {
         let commits = Commits::with_seed(alloc, None, seed);
@@ -72,6 +81,9 @@ impl History {
     /// Makes a history of the commits of a file, with hash maps seeded with `seed`, and copies the
     /// ids of the file.
     pub fn over(alloc: Global, file: LevelledGraph, seed: Seed) -> Result<History, AllocError>
+        // The answer is complete, has exactly the commits of the file, and holds none yet. It notes
+        // parents, and has no ref names. Abbreviated object names stand for exactly the ids of the
+        // file. Each commit has a level, and its parents are in the file with lower ones.
         ensures { IfOk result (IsMadeOf file) }
     {
         // No parent of the file's commits is missing.
@@ -87,12 +99,23 @@ impl History {
         chain: Chain<Global>,
         seed: Seed,
     ) -> Result<History, AllocError>
+        // The answer has exactly the commits of the chain.
         ensures commits { IfOk result (λ v. commits_in v ≡ joined chain.commits) }
+
+        // The graph of the answer holds no commit yet.
         ensures held { IfOk result (λ v. (id : ObjectId) → held_at v.graph id ≡ None) }
+
+        // The list of noted parents is empty.
         ensures named { IfOk result (λ v. v.named.items ≡ []) }
+
+        // The answer has no ref names.
         ensures names { IfOk result (λ v. v.table.names.entries ≡ []) }
+
+        // Abbreviated object names stand for exactly the ids in the list of the chain.
         ensures ids { IfOk result (λ v. (id : ObjectId)
             → is_one_of v.table.ids.keys id ≡ is_one_of chain.ids.items id) }
+
+        // The answer is complete.
         ensures extent { IfOk result (λ v. v.extent ≡ Extent.Complete) }
     {
         let Chain {

@@ -11,6 +11,7 @@ use std::alloc::{AllocError, Global};
 
 /// Makes ids of 20 bytes each.
 pub fn ids_of(alloc: Global, bytes: &[[u8; 20]]) -> Result<Vec<ObjectId>, AllocError>
+    // The answer has the ids with these bytes, in the same order.
     ensures { IfOk result (λ ids. ids.items ≡ map id_of bytes.now) }
 {
     bytes.iter().map(|id| ObjectId(*id)).collect(alloc)
@@ -18,6 +19,7 @@ pub fn ids_of(alloc: Global, bytes: &[[u8; 20]]) -> Result<Vec<ObjectId>, AllocE
 
 /// Returns the bytes of an id.
 pub fn bytes_of(id: &ObjectId) -> [u8; 20]
+    // The answer is the 20 bytes of the id.
     ensures { result ≡ bytes_in id.now }
 {
     let bytes = id.0;
@@ -26,6 +28,7 @@ pub fn bytes_of(id: &ObjectId) -> [u8; 20]
 
 /// Returns the bytes of each id.
 pub fn bytes_of_each(alloc: Global, ids: &[ObjectId]) -> Result<Vec<[u8; 20]>, AllocError>
+    // The answer has the bytes of each id, in the same order.
     ensures { IfOk result (λ bytes. bytes.items ≡ map bytes_in ids.now) }
 {
     let bytes = ids
@@ -56,6 +59,8 @@ pub(crate) fn bytes_of_found(
 
 /// Writes as many first items as fit into `out`, and stores in `count` how many there are.
 pub fn write(bytes: &[[u8; 20]], out: &mut [[u8; 20]], count: &mut usize)
+    // `count` is the number of the items. `out` begins with the first items, as many as fit, and
+    // its rest is unchanged.
     ensures { IsWritten bytes.now out.old out.new count.new }
 {
     let len = bytes.len().min(out.len());
@@ -70,8 +75,12 @@ pub fn write_found(
     out: &mut [[u8; 20]],
     count: &mut usize,
 ) -> Result<(), AllocError>
+    // After a success, `count` is the number of the ids. `out` begins with the bytes of the first
+    // ids, as many as fit, and its rest is unchanged.
     ensures written { OnOk result
         (IsWritten (map bytes_in (ids_in found.now)) out.old out.new count.new) }
+
+    // After an error, `out` and `count` are unchanged.
     ensures refused { OnErr result ((out.new ≡ out.old) × (count.new ≡ count.old)) }
 {
     let bytes = bytes_of_found(alloc, found)?;

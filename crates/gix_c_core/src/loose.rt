@@ -6,6 +6,7 @@ ghost use Rattle.std.specs.Box.Ownership.{box_owns};
 use std::alloc::Allocator;
 use std::marker::Model;
 
+/// The pointer of a box, with the allocator that frees it. A `Loose` owns what the box owned.
 pub struct Loose<T, A: Allocator> {
     pub at: *mut T,
     pub alloc: A,
@@ -17,6 +18,7 @@ impl<T, A: Allocator> Model for Loose<T, A> {
 }
 
 impl<T: Drop, A: Allocator> Loose<T, A> {
+    /// Takes a box apart.
     pub(crate) fn of(value: Box<T, A>) -> Loose<T, A>
         ensures { result.value ≡ value.value }
     {
@@ -24,7 +26,9 @@ impl<T: Drop, A: Allocator> Loose<T, A> {
         Loose { at, alloc }
     }
 
+    /// Makes a box again of its pointer and allocator.
     pub fn into_box(self) -> Box<T, A>
+        // The box has the same value.
         ensures { result.value ≡ self.value }
     {
         let Loose { at, alloc } = self;

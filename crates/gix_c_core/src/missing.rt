@@ -68,11 +68,23 @@ fn rising(alloc: Global, set: BTreeSet<ObjectId>) -> Result<Vec<ObjectId>, Alloc
 
 /// Sifts the noted parents: those that the history does not have stay, each once, by rising id.
 pub fn sift(alloc: Global, history: &mut History) -> Result<(), AllocError>
+    // After a success, exactly those noted parents stay that the history does not have, each once,
+    // by rising id.
     ensures sifted { OnOk result
         (AreLacked (commits_in history.old) history.old.named.items history.new.named.items) }
+
+    // After an error, the noted parents are unchanged.
     ensures refused { OnErr result (history.new.named ≡ history.old.named) }
+
+    // Also after an error, the graph is unchanged, and with it the commits of the history.
     ensures graph { history.new.graph ≡ history.old.graph }
+
+    // Also after an error, the ref names, and the ids that abbreviated object names stand for, are
+    // unchanged.
     ensures table { history.new.table ≡ history.old.table }
+
+    // Also after an error, the history is complete or partial as before, and the wanted commit is
+    // unchanged.
     ensures extent { history.new.extent ≡ history.old.extent }
 {
     let found = lacked(alloc, &history.named, history.graph.source())?;
@@ -97,6 +109,8 @@ pub fn page_of(
     bound: Option<ObjectId>,
     limit: usize,
 ) -> Result<Vec<[u8; 20]>, AllocError>
+    // The answer has the bytes of the first `limit` ids that are greater than the bound, in the
+    // same order. Without a bound, all ids count.
     ensures { IfOk result
         (λ bytes. bytes.items ≡ map bytes_in (take limit (past bound ids.now))) }
 {

@@ -81,11 +81,27 @@ impl History {
         alloc: Global,
         question: &Q,
     ) -> Result<Q::Answer, i32>
+        // The answer is what `Q.means` allows for the question in the whole history. If the history
+        // is partial, the whole history also has the commits of `K.beyond`.
         ensures means { IfOk result (Q.means question.now (whole_in self.old K.beyond)) }
+
+        // After `OUT_OF_MEMORY`, the history is complete or partial as before, and the wanted
+        // commit is unchanged. The only other error code is `WANTS`, of a partial history, which
+        // then notes as wanted a commit that was neither added nor in its files.
         ensures refused { IfErr result (λ code. IsUnanswered code self.old self.new) }
+
+        // Also after an error, the commits of the history are unchanged.
         ensures commits { commits_in self.new ≡ commits_in self.old }
+
+        // Also after an error, the noted parents are unchanged.
         ensures named { self.new.named ≡ self.old.named }
+
+        // Also after an error, the ref names, and the ids that abbreviated object names stand for,
+        // are unchanged.
         ensures table { self.new.table ≡ self.old.table }
+
+        // After a success, the history is complete or partial as before, and the wanted commit is
+        // unchanged.
         ensures extent { OnOk result (self.new.extent ≡ self.old.extent) }
     {
         match self.extent {

@@ -37,6 +37,7 @@ impl Place {
 
     /// Boxes a history, and makes the place of its handle.
     pub fn holding(alloc: Global, history: History) -> Result<Place, AllocError>
+        // The answer holds a handle of this history.
         ensures { IfOk result (λ place.
             (handle : Handle) × (place.value ≡ Some handle) × (handle.value ≡ history)) }
     {

@@ -158,13 +158,30 @@ impl History {
         now: Time,
         refs_first: bool,
     ) -> Result<Reading, i32>
+        // The answer is the set that the text means over the names and the whole history, the fault
+        // that it has there with its place, or `OutOfMemory`. If `refs_first` is set, the rules are
+        // those of `rev_parse`, otherwise those of `resolve`.
         ensures reading { IfOk result (IsReading
             (MeansBy refs_first text.now now
             (known_in self.old) (whole_in self.old K.beyond)) text.now) }
+
+        // After `OUT_OF_MEMORY`, the history is complete or partial as before, and the wanted
+        // commit is unchanged. The only other error code is `WANTS`, of a partial history, which
+        // then notes as wanted a commit that was neither added nor in its files.
         ensures refused { IfErr result (λ code. IsUnanswered code self.old self.new) }
+
+        // Also after an error, the commits of the history are unchanged.
         ensures commits { commits_in self.new ≡ commits_in self.old }
+
+        // Also after an error, the noted parents are unchanged.
         ensures named { self.new.named ≡ self.old.named }
+
+        // Also after an error, the ref names, and the ids that abbreviated object names stand for,
+        // are unchanged.
         ensures table { self.new.table ≡ self.old.table }
+
+        // After a success, the history is complete or partial as before, and the wanted commit is
+        // unchanged.
         ensures extent { OnOk result (self.new.extent ≡ self.old.extent) }
     {
         match self.extent {

@@ -50,6 +50,8 @@ pub(crate) fn span_of(spec: Spec) -> Span
 
 /// Converts a span into a spec. Returns `None` if its kind is none of the known ones.
 pub fn spec_of(span: &Span) -> Option<Spec>
+    // The answer is the spec that the kind and the ids of the span stand for. It is `None` exactly
+    // if the kind is not from 0 to 5.
     ensures { result ≡ spec_at span.now }
 {
     let first = ObjectId(span.first);

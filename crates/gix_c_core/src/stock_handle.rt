@@ -65,7 +65,11 @@ impl StockHandle {
 
     /// Borrows the stock.
     pub fn get_mut(&mut self) -> &mut Stock
+        // When the borrow ends, the handle has the last stock behind the answer, and is otherwise
+        // unchanged.
         ensures* writes_back { sem 𝓛 (lends_stock self.entry result) }
+
+        // The answer is the stock of the handle.
         ensures value { result.now ≡ self.old.value }
     {
         unsafe { &mut *(self.at as *mut Stock) }

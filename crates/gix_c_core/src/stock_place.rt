@@ -37,6 +37,7 @@ impl StockPlace {
 
     /// Boxes a stock, and makes the place of its handle.
     pub fn holding(alloc: Global, stock: Stock) -> Result<StockPlace, AllocError>
+        // The answer holds a handle of this stock.
         ensures { IfOk result (λ place.
             (handle : StockHandle) × (place.value ≡ Some handle) × (handle.value ≡ stock)) }
     {

@@ -24,13 +24,15 @@ hash_of s = drop (length s - 20) s
 abbrev pub chunk_bytes : List ℕ → Chunk → List ℕ
 chunk_bytes s c = take (c.end - c.start) (drop c.start s)
 
--- The file s names as its base graphs the files with these hashes, one after another, and no others.
+-- The base graphs of the file s are the files with these hashes: its header has their number, and
+-- its chunk BASE has exactly the hashes, one after another, the lowest first.
 pub record IsOver (hashes s : List ℕ) : Type 0 where
   pub count : 20 * slice_index s 7 ≡ length hashes
   pub named : option_map (chunk_bytes s) (chunk_at s base) ≡ Some hashes
 
 -- The file s is one of a chain over files with these hashes, and with n commits in all. It is
--- well-formed, and the hash at its end is right.
+-- well-formed, and the hash at its end is right. The positions of its parents are less than n plus
+-- the number of its own commits.
 pub record IsLayer (hashes : List ℕ) (n : ℕ) (s : List ℕ) : Type 0 where
   pub header : HasHeader s
   pub table : HasTable s
@@ -45,13 +47,15 @@ IsFresh h s =
     (i : ℕ) → i < (layout_of s).table.count
     → entry_at (h ++ rows_from s (layout_of s).table (entry_in (ids_of h) s (layout_of s)) 0 i) (id_of s (layout_of s).table i) ≡ None
 
--- The files are the upper ones of a chain over files with these hashes and the history h.
+-- The files are the upper ones of a chain over files with these hashes and the history h. Each is
+-- as IsLayer and IsFresh say, over the files below it.
 abbrev pub AreLayers : List ℕ → History → List (List ℕ) → Type 0
 AreLayers hashes h [] = ⊤
 AreLayers hashes h (s ∷ files) =
     IsLayer hashes (length (ids_of h)) s × IsFresh h s × AreLayers (hashes ++ hash_of s) (h ++ layer_in h s) files
 
--- The files are a chain, the lowest first.
+-- The files are a chain, the lowest first. The lowest is a commit-graph file without base graphs.
+-- An empty list is not a chain.
 abbrev pub IsChain : List (List ℕ) → Type 0
 IsChain [] = ⊥
 IsChain (s ∷ files) = IsCommitGraph s × AreLayers (hash_of s) (history_in s) files

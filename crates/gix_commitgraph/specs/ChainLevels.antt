@@ -12,8 +12,8 @@ use Rattle.gix_commitgraph.specs.ChainCommits.{chain_in, ids_of, layers_in}
 abbrev pub is_low : History → ℕ → ObjectId → Bool
 is_low h n b = is_some (entry_at h b) && nat_lt (generation_of h b) n
 
--- The commit e has a generation number, and all its parents are commits of the history h with lesser
--- ones.
+-- The commit e has a generation number less than infinity, and all its parents are commits of the
+-- history h with smaller ones.
 abbrev pub is_over : History → Entry → Bool
 is_over h e =
     nat_lt (unwrap_or e.generation (2 ^ 32 - 1)) (2 ^ 32 - 1) && list_all (is_low h (unwrap_or e.generation (2 ^ 32 - 1))) e.parents

@@ -8,7 +8,7 @@ use Rattle.gix_ids.specs.declared.table.Table.{Table}
 use Rattle.gix_commitgraph.specs.ChainCommits.{ids_of}
 use Rattle.gix_commitgraph.specs.ChainFormat.{IsFresh, IsLayer}
 
--- The history h and the rows before one of the table t have a commit with the id of that row.
+-- The id of a row of the table t is in the history h, or is the id of a row before it.
 abbrev pub IsTwice : History → List ℕ → Table → (ℕ → Entry) → Type 0
 IsTwice h s t f = (i : ℕ) × (i < t.count) × Has (h ++ rows_from s t f 0 i) (id_of s t i)
 
@@ -19,7 +19,7 @@ pub record Holds (h : History) (hashes : List ℕ) (j : History) (ids : List Obj
   pub same_ids : ids ≡ ids_of h
   pub same_hashes : own ≡ hashes
 
--- The file s is the next one of a chain over the history h.
+-- The file s is the next one of a chain over files with these hashes and the history h.
 abbrev pub IsNext : List ℕ → History → List ℕ → Type 0
 IsNext hashes h s = IsLayer hashes (length (ids_of h)) s × IsFresh h s
 

@@ -41,7 +41,8 @@ module _ (s : List ℕ) (l : Layout) where
   abbrev pub EndsBefore : ℕ → ℕ → Type 0
   EndsBefore i j = HasList i → HasList j → list_end i ≤ list_start j
 
-  -- The commits are sound, and the positions of their parents are less than n.
+  -- The commits are sound: the ids are sorted, CDAT and EDGE are inside the bytes, the positions of
+  -- parents are less than n, and the lists in EDGE end, are in order and do not overlap.
   pub record IsSoundIn (n : ℕ) : Type 0 where
     pub sorted : IsSorted s l.table
     pub fits : Fits s l

@@ -5,16 +5,19 @@ use Rattle.gix_ids.specs.TableBytes.{word, long}
 use Rattle.gix_commitgraph.specs.declared.commit_graph.layout.Chunk.{Chunk}
 use Rattle.gix_commitgraph.specs.declared.commit_graph.layout.Layout.{Layout}
 
--- The chunk ids OIDF, OIDL, CDAT and EDGE, as the numbers of their 4 letters.
+-- The chunk id OIDF, as the number of its 4 letters. The chunk has the fanout table.
 abbrev pub oidf : ℕ
 oidf = 0x4f49_4446
 
+-- The chunk id OIDL, as the number of its 4 letters. The chunk has the ids of the commits.
 abbrev pub oidl : ℕ
 oidl = 0x4f49_444c
 
+-- The chunk id CDAT, as the number of its 4 letters. The chunk has a row for each commit.
 abbrev pub cdat : ℕ
 cdat = 0x4344_4154
 
+-- The chunk id EDGE, as the number of its 4 letters. The chunk has the lists of further parents.
 abbrev pub edge : ℕ
 edge = 0x4544_4745
 
@@ -39,10 +42,12 @@ chunk_of s i = record { start = long s (12 + 12 * i); end = long s (24 + 12 * i)
 unfoldable pub chunk_at : List ℕ → ℕ → Option Chunk
 chunk_at s tag = option_map (chunk_of s) (row_from s tag 0 (row_count s))
 
+-- The offset at which a chunk begins; 0 if there is no chunk.
 abbrev pub start_of : Option Chunk → ℕ
 start_of None = 0
 start_of (Some c) = c.start
 
+-- The number of bytes of a chunk; 0 if there is no chunk.
 abbrev pub size_of : Option Chunk → ℕ
 size_of None = 0
 size_of (Some c) = c.end - c.start

@@ -39,7 +39,8 @@ module _ (s : List ℕ) (l : Layout) where
   abbrev pub others : ℕ → List ℕ
   others p = cond (nat_eq p 0x7000_0000) [] (cond (nat_lt p (2 ^ 31)) (p ∷ []) (edge_list (p - 2 ^ 31) (l.edge_count - (p - 2 ^ 31))))
 
-  -- The positions of all parents of the commit at position i.
+  -- The positions of all parents of the commit at position i. 0x70000000 as the first number of its
+  -- row means no parents.
   abbrev pub parents_at : ℕ → List ℕ
   parents_at i = cond (nat_eq (row_word i 20) 0x7000_0000) [] (row_word i 20 ∷ others (row_word i 24))
 
@@ -47,8 +48,8 @@ module _ (s : List ℕ) (l : Layout) where
   abbrev pub level_at : ℕ → ℕ
   level_at i = level_of (row_word i 28)
 
-  -- The commit at position i. Its time is the lower 34 of the last 64 bits of its row, and its
-  -- generation number is its topological level.
+  -- The commit at position i, with the ids of its parents. Its time is the lower 34 of the last 64
+  -- bits of its row, and its generation number is its topological level.
   abbrev pub entry_of_row : ℕ → Entry
   entry_of_row i = record {
     parents = map (id_of s l.table) (parents_at i);

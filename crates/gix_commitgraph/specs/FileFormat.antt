@@ -44,6 +44,8 @@ pub record HasChunks (s : List ℕ) : Type 0 where
   pub rows : MustHave (chunk_at s cdat) (36 * (layout_of s).table.count)
   pub edges : MayHave (chunk_at s edge) (4 * (layout_of s).edge_count)
 
+-- The bytes s are a well-formed commit-graph file without base graphs: header, table of contents,
+-- chunks and commits are as HasHeader, HasTable, HasChunks and IsSound say.
 pub record IsCommitGraph (s : List ℕ) : Type 0 where
   pub header : HasHeader s
   pub no_base : slice_index s 7 ≡ 0

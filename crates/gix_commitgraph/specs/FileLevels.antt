@@ -26,8 +26,8 @@ LevelsFall s = (i : ℕ) → i < (layout_of s).table.count → is_above s (layou
 abbrev pub GenerationsFall : History → Type 0
 GenerationsFall h = (a b : ObjectId) → IsEdge h a b → generation_of h b < generation_of h a
 
--- Each commit of the history h has a generation number. Each of its parents is a commit of the
--- history, and has a lesser one.
+-- Each commit of the history h has a generation number less than infinity, the greatest u32. Each
+-- of its parents is a commit of the history, and has a smaller one.
 pub record IsLevelled (h : History) : Type 0 where
   pub known : (a : ObjectId) → Has h a → generation_of h a < 2 ^ 32 - 1
   pub closed : (a b : ObjectId) → IsTrue (is_one_of (parents_in (entry_at h a)) b) → Has h b

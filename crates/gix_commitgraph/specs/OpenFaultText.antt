@@ -3,6 +3,7 @@ use Rattle.std.specs.Prelude.{ℕ, List, codes}
 use Rattle.gix_commitgraph.specs.declared.commit_graph.fault.OpenFault.{OpenFault}
 use Rattle.gix_commitgraph.specs.declared.commit_graph.fault.OpenFault.TheVariants.{TooShort, Signature, Version, Hash, BaseGraphs, NoChunkId, Repeated, ChunkPlace, TableEnd, NoFanout, NoIds, NoRows, ChunkSize, Fanout, IdOrder, IdPlace, Parent, EdgeParent, EdgeEnd, EdgeOrder}
 
+-- The text that a fault prints.
 abbrev pub open_fault_text : OpenFault → List ℕ
 open_fault_text TooShort = codes "the file is too short"
 open_fault_text Signature = codes "no commit-graph file"

@@ -18,6 +18,7 @@ pub trait Counted {
 
     /// Returns the number of commits of the file.
     fn count(&self) -> u32
+        // The answer is the number of commits of the file.
         ensures { result ≡ commits self.now };
 }
 
@@ -25,8 +26,12 @@ pub trait Counted {
 ///
 /// Returns `None` if the files have fewer commits.
 pub fn locate<F: Counted>(files: &[F], position: u32) -> Option<Place>
+    // The answer says which row of which file is at `position` of the chain. It is `None` exactly
+    // if the files have no commit at `position`.
     ensures place { MatchOption result (sum_by F.commits files.now ≤ position)
         (λ p. IsPlace F.commits files.now position p.layer p.row) }
+
+    // The number of the file is less than the number of files.
     ensures within { IfSome result (λ p. p.layer < length files.now) }
 {
     let mut row = position;

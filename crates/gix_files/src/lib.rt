@@ -48,11 +48,13 @@ pub trait Opened: Drop {
     ///
     /// It should read none only if `buf` is empty or the file ends there. No contract says so.
     fn read_part(&self, at: u64, buf: &mut [u8]) -> Result<usize, FileError>
+        // The answer is at most the length of `buf`.
         ensures { IfOk result (λ n. n ≤ length buf.new) };
 }
 
 /// Opens files and lists folders. Nothing is promised of what is in them.
 pub trait Folders {
+    /// An open file of one of these folders.
     type Opened: Opened;
 
     /// Opens a file for reading. Returns `None` if there is no such file.

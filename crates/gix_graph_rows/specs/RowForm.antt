@@ -14,7 +14,7 @@ module _ (row : List ℕ) where
   date_in = date_of (word row 28) (word row 32)
 
   -- The row says that its commit has n parents. 0x70000000 stands for no parent. If the highest bit
-  -- of the second number is set, there is a list of further parents elsewhere.
+  -- of the second number is set, there is a list of further parents elsewhere, and n is at least 2.
   abbrev pub HasCount : ℕ → Type 0
   HasCount n =
       cond (nat_eq (word row 20) 0x7000_0000) (n ≡ 0)

@@ -141,6 +141,9 @@ impl<F: Folders + Drop, A: Allocator + Copy> GraphRows<F, A> {
     ///
     /// The call can be repeated. Other commits can be looked up.
     pub fn commit(&mut self, alloc: A, id: ObjectId) -> Result<Option<SourceCommit<A>>, Error>
+        // If a commit is found, there are 36 bytes that say its date, its generation number and its
+        // number of parents, as a row of a commit-graph file does. A row that names a list of
+        // further parents only says that there are at least two parents.
         ensures { IfOk result (λ found. IfSome found (λ c. IsSaid (entry_of c))) }
     {
         let known = self.hints.place(id, self.layers.len());

@@ -22,8 +22,8 @@ IsFailure id NoCopy = Unit {0}
 IsFailure id (OtherObject other) = IsOther id other
 IsFailure id (InFile fault) = Unit {0}
 
--- An error of the read of id. `Missing` and `Altered` name this id. None is about what the object
--- says.
+-- An error of the read of id. `Missing` and `Altered` name this id, and `Altered` also names another
+-- id, which an object has. None is about what the object says.
 abbrev pub IsRefused : ObjectId → Error → Type 0
 IsRefused id (Missing other) = other ≡ id
 IsRefused id (Altered wanted other) = (wanted ≡ id) × IsOther id other

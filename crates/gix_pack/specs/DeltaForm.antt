@@ -70,14 +70,15 @@ insert_at count text =
     else if nat_le count (length text) then Ok (record { added = take count text; rest = drop count text })
     else Err Truncated
 
--- The instruction at the beginning of text. The highest bit of its first byte is set if it is a
--- copy.
+-- What the instruction at the beginning of text adds, or its fault. The highest bit of its first
+-- byte is set if it is a copy.
 unfoldable pub step_at : List ℕ → List ℕ → Result Addition DeltaFault
 step_at base text =
     if nat_lt (slice_index text 0) 128 then insert_at (slice_index text 0) (drop 1 text)
     else copy_at base (slice_index text 0) (drop 1 text)
 
--- The instructions of a text, all of them well-formed, make a target of base.
+-- The instructions of a text, all of them well-formed, make a target of base. Each adds to what
+-- those before it made.
 pub data Makes (base : List ℕ) : List ℕ → List ℕ → Type 0 where
   nothing : Makes base [] []
   more : (text : List ℕ) (step : Addition) (target : List ℕ) → 0 < length text → step_at base text ≡ Ok step → Makes base step.rest target → Makes base text (step.added ++ target)
@@ -99,13 +100,14 @@ target_size delta = low_first (number_bytes (behind_number delta))
 abbrev pub instructions : List ℕ → List ℕ
 instructions delta = behind_number (behind_number delta)
 
--- The delta is for the base. git refuses deltas of fewer than 4 bytes.
+-- The delta is for the base: it begins with the size of the base. git refuses deltas of fewer than
+-- 4 bytes.
 pub record IsFor (base delta : List ℕ) : Type 0 where
   pub long : 4 ≤ length delta
   pub number : HasNumber delta
   pub source : source_size delta ≡ length base
 
--- The delta makes the target of the base.
+-- The delta is for the base, says the size of the target, and its instructions make the target.
 pub record IsDelta (base delta target : List ℕ) : Type 0 where
   pub source : IsFor base delta
   pub number : HasNumber (behind_number delta)

@@ -27,8 +27,9 @@ type_number Tree = 2
 type_number Blob = 3
 type_number Tag = 4
 
--- An entry of a type has the body that type and rest say, if rest is what follows type and size. It
--- uses n bytes of rest: the distance of a base, or the id of a base.
+-- An entry of a type is a whole object, a delta to the object at a distance before it, or a delta
+-- to the object with an id. rest is what follows type and size. Its first n bytes are the distance
+-- or the id of the base.
 abbrev pub HasBody : ℕ → List ℕ → Body → ℕ → Type 0
 HasBody type rest (Whole kind) n = (type ≡ type_number kind) × (n ≡ 0)
 HasBody type rest (OffsetDelta distance) n = (type ≡ 6) × HasNumber rest × (distance ≡ high_first (number_bytes rest)) × (n ≡ number_length rest)

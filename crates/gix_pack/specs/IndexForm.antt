@@ -10,7 +10,8 @@ use Rattle.gix_pack.specs.declared.index.fault.OpenFault.TheVariants.{TooShort, 
 use Rattle.gix_pack.specs.declared.part.Offset.{Offset}
 use Rattle.gix_pack.specs.declared.part.Offset.TheVariants.{Small, Large}
 
--- An index begins with a signature and a version, and then has a fanout table of 256 numbers.
+-- The index s begins with its signature and version 2, and has room for a fanout table of 256
+-- numbers.
 pub record HasHeader (s : List ℕ) : Type 0 where
   pub long : 1032 ≤ length s
   pub signature : take 4 s ≡ 0xff ∷ 0x74 ∷ 0x4f ∷ 0x63 ∷ []
@@ -41,12 +42,13 @@ large_count s = (length s - (large_from s + 40)) / 8
 abbrev pub short_offset : List ℕ → ℕ → ℕ
 short_offset s i = word s (offsets_from s + 4 * i)
 
--- What such a number says: with its highest bit clear it is the offset. Otherwise the other bits
--- name an offset of 8 bytes.
+-- What the 4 bytes for an offset say, as a number n. With its highest bit clear, n is the offset.
+-- Otherwise the other bits are the number of an offset of 8 bytes.
 unfoldable pub offset_said : ℕ → Offset
 offset_said n = if nat_lt n (2 ^ 31) then Small n else Large (n - 2 ^ 31)
 
--- The offset in the pack that an answer leads to.
+-- The offset in the pack that an Offset stands for: the offset itself, or the offset of 8 bytes
+-- that it names.
 abbrev pub offset_behind : List ℕ → Offset → ℕ
 offset_behind s (Small offset) = offset
 offset_behind s (Large entry) = long s (large_from s + 8 * entry)
@@ -59,10 +61,12 @@ offset_at s i = offset_behind s (offset_said (short_offset s i))
 abbrev pub HasOffset : List ℕ → ℕ → Type 0
 HasOffset s i = 2 ^ 31 ≤ short_offset s i → short_offset s i - 2 ^ 31 < large_count s
 
--- The tables and the two hashes fill the file.
+-- The tables and two hashes of 20 bytes fill the file.
 abbrev pub HasSize : List ℕ → Type 0
 HasSize s = large_from s + 8 * large_count s + 40 ≡ length s
 
+-- The bytes s are a well-formed index of version 2. The tables and two hashes fill the file, the
+-- ids rise and are where the fanout table says, and the index has the offset of each object.
 pub record IsIndex (s : List ℕ) : Type 0 where
   pub header : HasHeader s
   pub size : HasSize s

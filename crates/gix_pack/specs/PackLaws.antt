@@ -24,7 +24,7 @@ OneHeader = (text : List ℕ) (body other : Body) (size more len end : ℕ) → 
 abbrev pub OneTarget : Type 0
 OneTarget = (base delta target other : List ℕ) → IsDelta base delta target → IsDelta base delta other → target ≡ other
 
--- A delta that is refused, but for memory, makes no target of at most limit bytes.
+-- A delta that is refused, except for memory, makes no target of at most limit bytes.
 abbrev pub RefusedIsNoDelta : Type 0
 RefusedIsNoDelta = (base delta : List ℕ) (limit : ℕ) (error : ApplyError) (target : List ℕ) → error ≢ OutOfMemory → IsRefused base delta limit error → length target ≤ limit → ¬ IsDelta base delta target
 

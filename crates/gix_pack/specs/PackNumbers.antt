@@ -3,8 +3,8 @@
 use Rattle.std.specs.Prelude.{ℕ, ◌+◌, ◌*◌, ◌%◌, ◌<◌, List, [], ◌∷◌, length, take, drop, slice_index, nat_le}
 use Rattle.std.specs.List.{prefix_len}
 
--- The number of bytes at the beginning of text that have their highest bit set. A byte of the same
--- number follows each of them.
+-- The number of bytes at the beginning of text that have their highest bit set. The byte after each
+-- of them belongs to the same number.
 unfoldable pub going_on : List ℕ → ℕ
 going_on text = prefix_len (λ b. nat_le 128 b) text
 

@@ -82,6 +82,8 @@ fn size(bytes: &[u8]) -> u64
 /// bytes. A header has at most 29 bytes; those after it do not matter. See gitformat-pack, "Object
 /// types" and "Size encoding".
 pub fn header(text: &[u8]) -> Option<Entry>
+    // The answer is the header with which the text begins. It is `None` exactly if the text begins
+    // with none.
     ensures { MatchOption result ((body : Body) → (size : ℕ) → (len : ℕ) → ¬ IsHeader text.now body size len) (λ h. IsHeader text.now h.body h.size h.len) }
 {
     let Some(n) = numbers::number_length(text) else {
@@ -103,6 +105,8 @@ pub fn header(text: &[u8]) -> Option<Entry>
 /// Returns `None` if the distance is 0, or if the base would begin at or before the start of the
 /// pack.
 pub fn base_offset(offset: u64, distance: u64) -> Option<u64>
+    // The answer is `offset - distance`. It is `None` exactly if `distance` is 0, or is not less
+    // than `offset`.
     ensures { SomeIff result ((0 < distance) × (distance < offset)) (offset - distance) }
 {
     if distance == 0 || offset <= distance {

@@ -74,9 +74,15 @@ fn high_first(bytes: &[u8]) -> u64
 ///
 /// Returns `None` if the text does not begin with a number of at most 9 bytes.
 pub fn distance(text: &[u8]) -> Option<(u64, usize)>
+    // The answer is the distance with which the text begins, and its length in bytes. It is `None`
+    // exactly if the text does not begin with a number of at most 9 bytes.
     ensures number { MatchOption result (¬ HasNumber text.now) (λ p. HasNumber text.now
         × (p.0 ≡ high_first (number_bytes text.now)) × (p.1 ≡ number_length text.now)) }
+
+    // The length is at most that of the text.
     ensures within { IfSome result (λ p. p.1 ≤ length text.now) }
+
+    // The length is at most 9.
     ensures short { IfSome result (λ p. p.1 ≤ 9) }
 {
     let n = number_length(text)?;

@@ -94,9 +94,17 @@ impl<B: AsSlice<u8> + Drop> Head<B> {
     ///
     /// Returns the bytes, with one thing that is wrong with them.
     pub fn open(bytes: B) -> Result<Head<B>, OpenError<B>>
+        // The answer has these bytes.
         ensures same { IfOk result (λ head. head ≡ B.items bytes) }
+
+        // The call succeeds exactly if the bytes begin with the header of an index of version 2,
+        // and with a fanout table that does not fall.
         ensures opened { IsOk result ↔ IsHead (B.items bytes) }
+
+        // The error returns the bytes.
         ensures back { IfErr result (λ error. error.bytes ≡ bytes) }
+
+        // What the fault of the error says of the bytes is true.
         ensures refused { IfErr result (λ error. IsFaulty (B.items bytes) error.fault) }
     {
         match check_head(bytes.as_slice()) {
@@ -107,7 +115,10 @@ impl<B: AsSlice<u8> + Drop> Head<B> {
 
     /// Returns the number of objects.
     pub fn len(&self) -> usize
+        // The answer is the number of objects: the last number of the fanout table.
         ensures value { result ≡ count_of self.now }
+
+        // The answer is less than 2^32.
         ensures small { result < 2 ^ 32 }
     {
         word_at(self.bytes.as_slice(), 1028)
@@ -115,9 +126,16 @@ impl<B: AsSlice<u8> + Drop> Head<B> {
 
     /// Returns the positions of the ids whose first byte is `byte`, by the fanout table.
     pub fn span(&self, byte: u8) -> Span
+        // `low` is the number of ids whose first byte is less than `byte`, by the fanout table.
         ensures low { result.low ≡ fan_below self.now (table_of self.now) byte }
+
+        // `high` is the number of ids whose first byte is at most `byte`, by the fanout table.
         ensures high { result.high ≡ fan self.now (table_of self.now) byte }
+
+        // `low` is at most `high`.
         ensures order { result.low ≤ result.high }
+
+        // `high` is at most the number of objects.
         ensures within { result.high ≤ count_of self.now }
     {
         span(self.bytes.as_slice(), byte)
@@ -126,6 +144,7 @@ impl<B: AsSlice<u8> + Drop> Head<B> {
     /// Returns the offset in the index of the id at `position`. The next id follows its 20 bytes.
     #[tactic(auto, unfolding(crate::specs::IndexForm::table_of))]
     pub fn id_place(&self, position: u32) -> u64
+        // The answer is the offset at which the ids begin, and 20 more for each earlier position.
         ensures { result ≡ (table_of self.now).ids + 20 * position }
     {
         HEAD_LEN as u64 + 20 * u64::from(position)
@@ -133,6 +152,8 @@ impl<B: AsSlice<u8> + Drop> Head<B> {
 
     /// Returns the offset in the index of the 4 bytes for [`read_offset`] of the object at `position`.
     pub fn offset_place(&self, position: u32) -> u64
+        // The answer is the offset at which the offsets of 4 bytes begin, and 4 more for each
+        // earlier position.
         ensures { result ≡ offsets_from self.now + 4 * position }
     {
         1032 + 24 * self.len() as u64 + 4 * u64::from(position)
@@ -143,6 +164,8 @@ impl<B: AsSlice<u8> + Drop> Head<B> {
     ///
     /// A malformed index may not have them. Its last 40 bytes are hashes.
     pub fn large_place(&self, entry: u32) -> u64
+        // The answer is the offset at which the offsets of 8 bytes begin, and 8 more for each
+        // earlier entry.
         ensures { result ≡ large_from self.now + 8 * entry }
     {
         1032 + 28 * self.len() as u64 + 8 * u64::from(entry)
@@ -155,6 +178,8 @@ impl<B: AsSlice<u8> + Drop> Head<B> {
 /// the last whole id do not matter. If the ids do not rise, an error may be the answer although they
 /// have `id`.
 pub fn search(ids: &[u8], id: ObjectId) -> Result<usize, usize>
+    // A success is the position of `id`. If the ids rise, an error is the position before which
+    // `id` would be: the ids before it are less, and the others are greater.
     ensures { MatchResult result (IsAt ids.now (part_of ids.now) id) (λ k. AreRising ids.now → IsGap ids.now (part_of ids.now) id k) }
 {
     let count = ids.len() / 20;
@@ -172,6 +197,7 @@ pub fn search(ids: &[u8], id: ObjectId) -> Result<usize, usize>
 
 /// Returns the position of `id` among `ids`, as [`search`] does, or `None` instead of its error.
 pub fn position(ids: &[u8], id: ObjectId) -> Option<usize>
+    // The answer is the position of `id`. If it is `None`, and the ids rise, they do not have `id`.
     ensures { MatchOption result (AreRising ids.now → IsAbsent ids.now (part_of ids.now) id) (IsAt ids.now (part_of ids.now) id) }
 {
     match search(ids, id) {
@@ -194,6 +220,8 @@ pub enum Told {
 
 /// Returns what `ids` in a row, which have 20 bytes each, tell of `id`.
 pub fn near(ids: &[u8], id: ObjectId) -> Told
+    // `At` has the position of `id`. If the ids rise, `Absent` comes only if `id` is between two
+    // neighbouring ids. `Elsewhere` says nothing.
     ensures { IsTold ids.now id result }
 {
     match search(ids, id) {
@@ -215,9 +243,16 @@ fn guess(id: ObjectId, count: usize) -> usize {
 /// Returns the positions of up to [`NEAR`] ids around the one where `id` should be, within the
 /// positions of the ids with its first byte.
 pub fn around(id: ObjectId, span: Span) -> Span
+    // The answer does not begin before `span`.
     ensures low { span.low ≤ result.low }
+
+    // The answer does not end before it begins.
     ensures order { result.low ≤ result.high }
+
+    // If `span` does not end before it begins, then the answer does not end after `span`.
     ensures high { span.low ≤ span.high → result.high ≤ span.high }
+
+    // The answer has at most 256 positions.
     ensures few { result.high ≤ result.low + 256 }
 {
     let count = span.high.saturating_sub(span.low);
@@ -230,6 +265,7 @@ pub fn around(id: ObjectId, span: Span) -> Span
 
 /// Returns the id at a position of `ids`, which have 20 bytes each; `None` past the last one.
 pub fn id_in(ids: &[u8], position: usize) -> Option<ObjectId>
+    // The answer is the id at `position`. It is `None` exactly past the last id.
     ensures { MatchOption result ((part_of ids.now).count ≤ position) (λ id. IsAt ids.now (part_of ids.now) id position) }
 {
     if position < ids.len() / 20 {
@@ -266,6 +302,8 @@ pub(crate) fn offset_said(word: usize) -> Offset
 /// If their highest bit is set, they name an offset of 8 bytes. See gitformat-pack, "A table of
 /// 4-byte offset values".
 pub fn read_offset(bytes: [u8; 4]) -> Offset
+    // If the highest bit is clear, the 4 bytes are the offset. Otherwise the other bits are the
+    // number of an offset of 8 bytes.
     ensures { result ≡ offset_said (word bytes 0) }
 {
     offset_said(word_at(&bytes, 0))
@@ -273,6 +311,7 @@ pub fn read_offset(bytes: [u8; 4]) -> Offset
 
 /// Reads an offset of 8 bytes.
 pub fn read_large_offset(bytes: [u8; 8]) -> u64
+    // The answer is the number in the 8 bytes, the most significant byte first.
     ensures { result ≡ long bytes 0 }
 {
     long_at(&bytes, 0) as u64

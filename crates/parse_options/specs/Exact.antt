@@ -24,7 +24,9 @@ held_of holds.NextWord = next_word
 abbrev pub IsJoined : (rest : List ℕ) → Held → Type 0
 IsJoined rest held = (value : List ℕ) × (rest ≡ codes "=" ++ value) × (held ≡ text value)
 
--- The word of an option holds this, if rest is behind the name in the word.
+-- What the word of an option holds of the value, if rest is behind the name in the word. The value
+-- is nowhere, joined by "=", the next word, or right behind the name (git-rev-list, "Commit
+-- Limiting"; git-rev-parse, "Options").
 abbrev pub IsHeld : Takes → (rest : List ℕ) → Held → Type 0
 IsHeld Nothing rest held = (rest ≡ []) × (held ≡ nothing)
 IsHeld Joined rest held = ((rest ≡ []) × (held ≡ nothing)) ⊎ IsJoined rest held
@@ -33,13 +35,15 @@ IsHeld Word rest held = ((rest ≡ []) × (held ≡ next_word)) ⊎ IsJoined res
 IsHeld NextWord rest held = (rest ≡ []) × (held ≡ next_word)
 IsHeld Glued rest held = ((rest ≡ []) × (held ≡ next_word)) ⊎ ((rest ≢ []) × (held ≡ text rest))
 
--- An option has a name, says where its value is, and which option it is.
+-- The name of an option, with its dashes.
 abbrev pub name : {K : Type 0} → Exact K → List ℕ
 name option = option.0.now
 
+-- Where an option has its value.
 abbrev pub takes : {K : Type 0} → Exact K → Takes
 takes option = option.1
 
+-- What says which option it is.
 abbrev pub key : {K : Type 0} → Exact K → K
 key option = option.2
 

@@ -11,7 +11,7 @@ also Nothing true place is_no = One (record { place = place; is_no = is_no })
 also (One m) true place is_no = Many
 also Many true place is_no = Many
 
--- The option that was found alone.
+-- The option that was found, if no other one was found.
 abbrev pub one_of : Found → Option Meant
 one_of Nothing = None
 one_of (One m) = Some m

@@ -26,6 +26,7 @@ left line letters words only = record { choices = line.choices; letters = letter
 
 -- WHAT IS AHEAD, whichever options a command takes
 
+-- What is ahead on a command line, whichever options a command takes (gitcli).
 pub data Ahead : Type 0 where
   -- nothing
   over : Ahead
@@ -38,11 +39,11 @@ pub data Ahead : Type 0 where
   -- a short option, and the letters behind it in its word
   short : (letter : ℕ) → (letters : List ℕ) → Ahead
 
--- A word is an argument if it is "-" or does not begin with "-".
+-- A word is an argument if it is "-" or does not begin with "-" (gitcli).
 abbrev pub IsArgument : List ℕ → Type 0
 IsArgument word = (word ≡ codes "-") ⊎ ((rest : List ℕ) → word ≢ codes "-" ++ rest)
 
--- These words end the options.
+-- The words "--" and "--end-of-options" end the options (gitcli).
 abbrev pub EndsOptions : List ℕ → Type 0
 EndsOptions word = (word ≡ codes "--") ⊎ (word ≡ codes "--end-of-options")
 
@@ -69,6 +70,7 @@ pub data Next (K : Type 0) : Type 0 where
   argument : List ℕ → Next K
   nothing : Next K
 
+-- The bytes of a text, if there is one.
 abbrev pub slice_of : Option (Bor (List ℕ)) → Option (List ℕ)
 slice_of text = option_map (λ x. x.now) text
 
@@ -84,8 +86,9 @@ abbrev pub IsCut : (text name : List ℕ) → (joined : Option (List ℕ)) → T
 IsCut text name None = (text ≡ name) × (Contains name 61 → ⊥)
 IsCut text name (Some value) = (text ≡ name ++ (61 ∷ value)) × (Contains name 61 → ⊥)
 
--- An option that takes a value sees the text that is joined to it and the words behind it. It has
--- this value, if it has one, and these words are left. None: the value is missing or not allowed.
+-- The value that an option takes from the text joined to it or from the words behind it, if it
+-- takes one, and the words that are left (gitcli, "Separating argument from the option"). None: the
+-- value is missing or not allowed.
 abbrev pub value_of : Value → (joined : Option (List ℕ)) → (words : List (List ℕ)) → Option (Option (List ℕ) × List (List ℕ))
 value_of Never None words = Some (None, words)
 value_of Never (Some text) words = None
@@ -97,17 +100,18 @@ value_of UnlessLast (Some text) words = Some (Some text, words)
 value_of UnlessLast None [] = Some (None, [])
 value_of UnlessLast None (word ∷ words) = Some (Some word, words)
 
--- An option that is taken back has no value.
+-- What value an option has in a form. In the form no-NAME it has none.
 abbrev pub kind_of : {K : Type 0} → Choice K → (is_no : Bool) → Value
 kind_of choice false = choice.value
 kind_of choice true = Never
 
--- The letters behind a short option that are joined to it as its value.
+-- The letters behind a short option that are joined to it as its value, if there are any.
 abbrev pub joined_of : List ℕ → Option (List ℕ)
 joined_of [] = None
 joined_of (b ∷ bs) = Some (b ∷ bs)
 
--- An option was given in a form, with a text joined to it or none, before these words.
+-- An option is ahead in a form, with a text joined to it or none, before these words. The next
+-- thing is this option with its value, and the line after it has the words that are left.
 abbrev pub Gives : {K : Type 0} → Line K → Choice K → (is_no : Bool) → (joined : Option (List ℕ)) → (words : List (List ℕ)) → Next K → Line K → Type 0
 Gives line choice is_no joined words next after = (value : Option (List ℕ)) × (rest : List (List ℕ))
     × (value_of (kind_of choice is_no) joined words ≡ Some (value, rest))
@@ -121,7 +125,8 @@ IsShort choice letter = (choice.short ≡ letter) × (letter ≢ 0)
 abbrev pub HasLetter : {K : Type 0} → List (Choice K) → (letter : ℕ) → Choice K → Type 0
 HasLetter choices letter choice = (place : ℕ) × (slice_get choices place ≡ Some choice) × IsShort choice letter
 
--- A short option without a value leaves the letters behind it. Another one takes them as its value.
+-- A short option without a value leaves the letters behind it as options. Another one takes them as
+-- its value (gitcli, "Aggregating short options").
 abbrev pub GivesShort : {K : Type 0} → Line K → Choice K → (letters : List ℕ) → (words : List (List ℕ)) → Next K → Line K → Type 0
 GivesShort line choice letters words next after =
     ((choice.value ≡ Never) × (next ≡ option choice.key None false) × (after ≡ left line letters words line.only_arguments))
@@ -150,18 +155,18 @@ Reads {K} line (long text) words next after = (choice : Choice K) × (is_no : Bo
 Reads {K} line (short letter letters) words next after = (choice : Choice K) × HasLetter line.choices letter choice
     × GivesShort line choice letters words next after
 
--- The error quotes the option, which no option of the table is.
+-- The error says that no option of the table is meant, and quotes the text of the option.
 abbrev pub IsUnread : Error → List ℕ → Type 0
 IsUnread (Unread shown) text = shown.now ≡ text
 IsUnread (BadValue shown) text = ⊥
 
--- The error quotes the option, whose value is missing or not allowed.
+-- The error says that a value is missing or not allowed, and quotes the text of the option.
 abbrev pub IsBadValue : Error → List ℕ → Type 0
 IsBadValue (Unread shown) text = ⊥
 IsBadValue (BadValue shown) text = shown.now ≡ text
 
--- An option is ahead that is not read: none of the table is meant, or its value is missing or not
--- allowed.
+-- An option is ahead that is not read, and the error quotes it. It means none of the table, or its
+-- value is missing or not allowed.
 abbrev pub Refuses : {K : Type 0} → Line K → Ahead → (words : List (List ℕ)) → Error → Type 0
 Refuses line over words error = ⊥
 Refuses line (plain text) words error = ⊥

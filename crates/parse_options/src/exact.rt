@@ -71,6 +71,8 @@ fn value_in<'w, K>(option: &Exact<K>, word: &'w [u8]) -> Option<Holds<'w>>
 ///
 /// Returns `None` if the word is no option of the table.
 pub fn exact_option<'w, K: Copy>(options: &[Exact<K>], word: &'w [u8]) -> Option<(K, Holds<'w>)>
+    // The answer is the key of the first option of the table that the word is, and what the word
+    // holds of the value. It is `None` exactly if the word is no option of the table.
     ensures { MatchOption result ((place : ℕ) → ReadsAt options.now place word.now → ⊥)
         (λ r. IsFirst options.now word.now r.0 (held_of r.1)) }
 {

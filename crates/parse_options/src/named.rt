@@ -119,6 +119,8 @@ fn only_begun<K>(choices: &[Choice<K>], name: &[u8]) -> Option<Meant>
 /// The name is a long name, alone or behind `no-`. Returns `None` if no option has the name, and
 /// none or several have a name that begins so.
 pub fn option_named<K>(choices: &[Choice<K>], name: &[u8]) -> Option<Meant>
+    // The name means the option at the place of the answer, in the form of the answer. The answer
+    // is `None` exactly if the name means no option.
     ensures { MatchOption result
         ((place : ℕ) (is_no : Bool) → Means choices.now name.now place is_no → ⊥)
         (λ m. Means choices.now name.now m.place m.is_no) }

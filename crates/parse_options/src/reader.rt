@@ -115,6 +115,8 @@ fn kind<K>(choice: &Choice<K>, is_no: bool) -> Value
 impl<'w, K: Copy + 'static> Reader<'w, K> {
     /// Begins with the first word. The table says which options there are.
     pub fn new(choices: &'static [Choice<K>], words: &'w [&'w [u8]]) -> Reader<'w, K>
+        // All words are left to read, and no letters of short options. The options have not ended.
+        // The table is `choices`.
         ensures { result ≡ record { choices = choices.now; letters = []; words = texts words.now; only_arguments = false } }
     {
         Reader {
@@ -363,6 +365,9 @@ impl<'w, K: Copy + 'static> Reader<'w, K> {
     /// - `Unread` for an option that is not in the table, and for a name that begins several.
     /// - `BadValue` for a value that is missing or that the option cannot have.
     pub fn read(&mut self) -> Result<Option<Item<'w, K>>, Error<'w>>
+        // The answer is the next option or argument of the line, or `None` at the end, and the rest
+        // of the line is left. `Unread` and `BadValue` quote the next option, which means none of
+        // the table, or whose value is missing or not allowed.
         ensures { MatchResult result
             (λ x. IsNext self.old (next_of x) self.new)
             (λ e. IsRefused self.old e) }

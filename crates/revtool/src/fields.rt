@@ -120,6 +120,8 @@ impl<'t> Iterator for Fields<'t> {
 // Splits off the first field of a line. Also returns what follows the space after it, if there is
 // one.
 fn split_field<'t>(line: &'t [u8]) -> (&'t [u8], Option<&'t [u8]>)
+    // The fields of the line are the first part of the answer, and then those of the second part,
+    // if there is one.
     ensures { fields_of line.now ≡ result.0.now ∷ fields_of_rest (option_copied result.1) }
 {
     match line.find_byte(b' ') {
@@ -138,7 +140,10 @@ pub(crate) fn read_id(field: &[u8]) -> Result<ObjectId, LineFault> {
 
 /// Reads a time: digits after an optional minus sign, of a number that fits into an `i64`.
 pub(crate) fn read_time(field: &[u8]) -> Option<i64>
+    // The answer has a time exactly if the field is one (`IsTime`).
     ensures some { IsSome result ↔ IsTime field.now }
+
+    // The time is the number that the digits mean, with the sign.
     ensures value { IfSome result (λ time. time ≡ signed_digits_value 10 field.now) }
 {
     text_of(field)?.parse().ok()
@@ -146,7 +151,10 @@ pub(crate) fn read_time(field: &[u8]) -> Option<i64>
 
 /// Reads a generation: `-` for a missing one, or digits of a number that fits into a `u32`.
 pub(crate) fn read_generation(field: &[u8]) -> Option<Option<u32>>
+    // The generation number is missing exactly if the field is `-`.
     ensures absent { (result ≡ Some None) ↔ (field.now ≡ codes "-") }
+
+    // The generation number is n exactly if the field is digits (`IsNumber`) that mean n.
     ensures number { (n : ℕ)
         → (result ≡ Some (Some n)) ↔ (IsNumber field.now × (n ≡ digits_value 10 field.now)) }
 {

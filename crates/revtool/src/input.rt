@@ -19,7 +19,11 @@ pub(crate) fn read_all<R: Read, A: Allocator + Copy>(
     alloc: A,
     input: &mut R,
 ) -> Result<Vec<u8, A>, Stop>
+    // If the input is a known stream, the answer has the bytes that the input lost, each once and
+    // in order.
     ensures bytes { IfOk result (λ v. TakesMore (R.remaining input.old) (R.remaining input.new) [] v.items) }
+
+    // After a success, no byte of the input is left, if it is a known stream.
     ensures end { OnOk result (IsAtEnd (R.remaining input.new)) }
 {
     let mut text = Vec::new(alloc);

@@ -38,6 +38,11 @@ use stop::Stop;
 /// - 2: `output` can't be written. Nothing more is written to it, and nothing to `faults`.
 ///
 /// A failed write to `faults` does not change the status.
+///
+/// # Known streams
+///
+/// A stream is known if its contract says which bytes it has left or holds. Slices and `Vec` are
+/// known streams. Files and the standard streams are not.
 pub fn run<R: Read, W: Write, E: Write, A: Allocator + Copy>(
     alloc: A,
     refusals: Global,
@@ -45,10 +50,17 @@ pub fn run<R: Read, W: Write, E: Write, A: Allocator + Copy>(
     output: &mut W,
     faults: &mut E,
 ) -> u8
+    // The status is at most 2.
     ensures status { result ≤ 2 }
+
+    // If the status is 0 and the input is a known stream, the input was read to its end.
     ensures read { result ≡ 0 → IsAtEnd (R.remaining input.new) }
+
+    // If the status is 0 and `faults` is a known stream, the bytes of `faults` are unchanged.
     ensures quiet { result ≡ 0 → Keeps (E.contents faults.old) (E.contents faults.new) }
-    // Nothing was written to one of the two.
+
+    // If `faults` and `output` are known streams, at least one of them has the same bytes
+    // as before.
     ensures untouched { Keeps (E.contents faults.old) (E.contents faults.new)
         ⊎ Keeps (W.contents output.old) (W.contents output.new) }
 {
@@ -64,10 +76,17 @@ pub fn run_with_seed<R: Read, W: Write, E: Write, A: Allocator + Copy>(
     output: &mut W,
     faults: &mut E,
 ) -> u8
+    // The status is at most 2.
     ensures status { result ≤ 2 }
+
+    // If the status is 0 and the input is a known stream, the input was read to its end.
     ensures read { result ≡ 0 → IsAtEnd (R.remaining input.new) }
+
+    // If the status is 0 and `faults` is a known stream, the bytes of `faults` are unchanged.
     ensures quiet { result ≡ 0 → Keeps (E.contents faults.old) (E.contents faults.new) }
-    // Nothing was written to one of the two.
+
+    // If `faults` and `output` are known streams, at least one of them has the same bytes
+    // as before.
     ensures untouched { Keeps (E.contents faults.old) (E.contents faults.new)
         ⊎ Keeps (W.contents output.old) (W.contents output.new) }
 {
@@ -89,7 +108,11 @@ fn answer_input<R: Read, W: Write, A: Allocator + Copy>(
     input: &mut R,
     output: &mut W,
 ) -> Result<Outcome, Stop>
+    // After a success, the input was read to its end, if it is a known stream.
     ensures read { OnOk result (IsAtEnd (R.remaining input.new)) }
+
+    // After an error other than a failed write, the bytes of `output` are unchanged, if it is a
+    // known stream.
     ensures untouched { IfErr result (λ stop. stop ≢ Stop.UnwritableOutput
         → Keeps (W.contents output.old) (W.contents output.new)) }
 {

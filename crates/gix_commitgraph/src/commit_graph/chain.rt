@@ -82,19 +82,36 @@ impl<A: Allocator + Copy> Chain<A> {
         files: &[T],
         seed: Seed,
     ) -> Result<Chain<A>, ChainFault>
+        // After a success, `files` are the upper files of a chain over `lowest`.
         ensures chain { OnOk result (AreLayers (hash_of lowest) (history_in lowest) (map T.items files.now)) }
+
+        // The commits of the answer are exactly those of `lowest` and `files`, each under its id.
         ensures commits { IfOk result (λ chain. (q : ObjectId)
             → entry_at (in_file chain.commits.file ++ chain.commits.newer) q
             ≡ entry_at (history_in lowest ++ layers_in (history_in lowest) (map T.items files.now)) q) }
+
+        // The ids of the answer are those of the commits of all files, by their positions in the
+        // chain.
         ensures ids { IfOk result (λ chain. chain.ids.items
             ≡ ids_of (history_in lowest ++ layers_in (history_in lowest) (map T.items files.now))) }
+
+        // After a success, each commit of the chain has a generation number less than infinity. Its
+        // parents are commits of the chain, and have smaller generation numbers.
         ensures levelled { OnOk result
             (IsLevelled (history_in lowest ++ layers_in (history_in lowest) (map T.items files.now))) }
+
+        // After a success, each commit of `files` has a generation number less than infinity. Its
+        // parents are commits of the chain, and have smaller generation numbers.
         ensures falls { OnOk result (list_all
             (is_high (history_in lowest ++ layers_in (history_in lowest) (map T.items files.now)))
             (ids_of (layers_in (history_in lowest) (map T.items files.now))) ≡ true) }
+
+        // `NoChain` comes only if `files` are not the upper files of a chain over `lowest`.
         ensures no_chain { IfErr result (λ e. e ≡ ChainFault.NoChain
             → ¬ AreLayers (hash_of lowest) (history_in lowest) (map T.items files.now)) }
+
+        // `NoLevels` comes only if a commit of `files` has no generation number less than infinity,
+        // has a parent outside the chain, or has a parent whose generation number is not smaller.
         ensures no_levels { IfErr result (λ e. e ≡ ChainFault.NoLevels → ¬ (list_all
             (is_high (history_in lowest ++ layers_in (history_in lowest) (map T.items files.now)))
             (ids_of (layers_in (history_in lowest) (map T.items files.now))) ≡ true)) }
@@ -159,17 +176,30 @@ impl<A: Allocator + Copy> Chain<A> {
     /// - [`ChainFault::NoChain`]: the file is not the next one of the chain.
     /// - [`ChainFault::OutOfMemory`]: an allocation failed.
     pub fn add(&mut self, alloc: A, bytes: &[u8]) -> Result<(), ChainFault>
+        // If the chain has the commits and ids of a history and the hashes of its files, then after
+        // a success `bytes` is the next file of a chain over this history and these hashes.
         ensures next { OnOk result ((h : History) → (hashes : List ℕ)
             → Holds h hashes (in_file self.old.commits.file ++ self.old.commits.newer) self.old.ids.items self.old.hashes.items
             → IsNext hashes h bytes.now) }
+
+        // If the chain has the commits and ids of a history and the hashes of its files, then after
+        // a success the chain has, after these, also the commits, the ids and the hash of `bytes`.
         ensures added { OnOk result ((h : History) → (hashes : List ℕ)
             → Holds h hashes (in_file self.old.commits.file ++ self.old.commits.newer) self.old.ids.items self.old.hashes.items
             → Holds (h ++ layer_in h bytes.now) (hashes ++ hash_of bytes.now)
             (in_file self.new.commits.file ++ self.new.commits.newer) self.new.ids.items self.new.hashes.items) }
+
+        // Also after an error, the lowest file is unchanged.
         ensures file { self.new.commits.file ≡ self.old.commits.file }
+
+        // If the chain has the commits and ids of a history and the hashes of its files, then
+        // `NoChain` comes only if `bytes` is not the next file of a chain over this history and
+        // these hashes.
         ensures no_chain { IfErr result (λ e. e ≡ ChainFault.NoChain → (h : History) → (hashes : List ℕ)
             → Holds h hashes (in_file self.old.commits.file ++ self.old.commits.newer) self.old.ids.items self.old.hashes.items
             → ¬ IsNext hashes h bytes.now) }
+
+        // `NoLevels` never comes.
         ensures levels { IfErr result (λ e. e ≢ ChainFault.NoLevels) }
     {
         let ids = self.ids.as_slice();

@@ -86,9 +86,17 @@ impl<B: AsSlice<u8> + Drop> CommitGraph<B> {
     ///
     /// Returns the bytes, with one thing that is wrong with them.
     pub fn open(bytes: B) -> Result<CommitGraph<B>, OpenError<B>>
+        // The answer has these bytes.
         ensures same { IfOk result (λ graph. graph ≡ B.items bytes) }
+
+        // The call succeeds exactly if the bytes are a well-formed commit-graph file of version 1,
+        // with SHA-1 ids and without base graphs.
         ensures opened { IsOk result ↔ IsCommitGraph (B.items bytes) }
+
+        // The error returns the bytes.
         ensures back { IfErr result (λ error. error.bytes ≡ bytes) }
+
+        // What the fault of the error says of the bytes is true.
         ensures refused { IfErr result (λ error. IsRefused (B.items bytes) error.fault) }
     {
         match read(bytes.as_slice()) {
@@ -103,6 +111,7 @@ impl<B: AsSlice<u8> + Drop> CommitGraph<B> {
 
     /// Returns the bytes of the file.
     pub fn into_bytes(self) -> B
+        // The answer has the bytes of the file.
         ensures { B.items result ≡ self }
     {
         let CommitGraph {
@@ -118,6 +127,7 @@ impl<B: AsSlice<u8> + Drop> CommitGraph<B> {
     /// Look-ups through [`Find`] cache the positions of parents in the source that they ask. Graphs
     /// that share a file are therefore fastest if each has a source of its own.
     pub fn lend(&self) -> CommitGraph<&[u8]>
+        // The answer has the same bytes.
         ensures { result ≡ self.now }
     {
         CommitGraph {
@@ -129,6 +139,7 @@ impl<B: AsSlice<u8> + Drop> CommitGraph<B> {
 
     /// Returns the number of commits.
     pub fn len(&self) -> usize
+        // The answer is the number of commits of the file.
         ensures { result ≡ length (history_in self.now) }
     {
         self.layout.table.count
@@ -154,8 +165,12 @@ impl<B: AsSlice<u8> + Drop> CommitGraph<B> {
     /// All commits together have at most two parents for each commit, and one more for each entry
     /// of `EDGE`. That is at most a third of the number of bytes.
     pub fn parents_are_few(&self)
+        // All commits together have at most two parents for each commit, and one more for each
+        // number of `EDGE`. A parent of two commits counts twice.
         ensures entries { parent_count (history_in self.now)
             ≤ 2 * length (history_in self.now) + (layout_of self.now).edge_count }
+
+        // The number of parents of all commits is at most a third of the number of bytes.
         ensures bytes { 3 * parent_count (history_in self.now) ≤ length self.now }
     {
         let _bytes = &self.bytes;
@@ -165,6 +180,8 @@ impl<B: AsSlice<u8> + Drop> CommitGraph<B> {
     ///
     /// Ids rise with their positions.
     pub fn id(&self, position: usize) -> Option<ObjectId>
+        // The answer is the id of the commit at `position`. It is `None` exactly past the last
+        // commit.
         ensures { result ≡ option_map (λ e. e.0) (slice_get (history_in self.now) position) }
     {
         if position < self.layout.table.count {
@@ -179,8 +196,14 @@ impl<B: AsSlice<u8> + Drop> CommitGraph<B> {
     /// The file need not have `id`. If every id is less, the answer is the number of commits. The
     /// call allocates nothing, and compares about as many ids as [`CommitGraph::get`].
     pub fn position_from(&self, id: ObjectId) -> usize
+        // The answer is the position of the first id that is not less than `id`. If every id is
+        // less, the answer is the number of commits.
         ensures first { IsFirstFrom (ids_in self.now) id result }
+
+        // The ids of the file rise with their positions, and each occurs once.
         ensures rising { IsStrictlySortedBy compare_ids (ids_in self.now) }
+
+        // The answer is less than 2^32.
         ensures small { result < 2 ^ 32 }
     {
         match search(self.bytes.as_slice(), self.layout.table, id) {
@@ -195,7 +218,12 @@ impl<B: AsSlice<u8> + Drop> CommitGraph<B> {
     /// Files that git writes have such levels (git's technical/commit-graph, "generation number").
     /// The history is then acyclic and has ordered generations. The call reads every commit.
     pub fn levels_fall(&self) -> bool
+        // The answer is true exactly if each commit of the file has a level greater than 0, and its
+        // parents are commits of the file with smaller levels.
         ensures value { IsTrue result ↔ LevelsFall self.now }
+
+        // If the answer is true, each commit of the file has a generation number less than
+        // infinity. Its parents are commits of the file, and have smaller generation numbers.
         ensures levelled { IsTrue result → IsLevelled (history_in self.now) }
     {
         levels::fall(self.bytes.as_slice(), self.layout)
@@ -205,6 +233,7 @@ impl<B: AsSlice<u8> + Drop> CommitGraph<B> {
     ///
     /// See gitformat-commit-graph, "TRAILER". The call reads all bytes.
     pub fn hash_is_right(&self) -> bool
+        // The answer is true exactly if the last 20 bytes are the SHA-1 of the bytes before them.
         ensures { IsTrue result ↔ HashIsRight self.now }
     {
         trailer::hash_is_right(self.bytes.as_slice())
@@ -212,6 +241,7 @@ impl<B: AsSlice<u8> + Drop> CommitGraph<B> {
 
     /// Returns whether the file has the commit `id`. Allocates nothing.
     pub fn contains(&self, id: ObjectId) -> bool
+        // The answer is true exactly if the file has the commit `id`.
         ensures { result ≡ is_some (entry_at (history_in self.now) id) }
     {
         position(self.bytes.as_slice(), self.layout.table, id).is_some()
@@ -229,6 +259,8 @@ impl<B: AsSlice<u8> + Drop> CommitGraph<B> {
         alloc: A,
         id: ObjectId,
     ) -> Result<Option<SourceCommit<A>>, AllocError>
+        // The answer is the commit `id`: its parents in order, its date and its generation number.
+        // It is `None` exactly if the file does not have the commit.
         ensures { IfOk result (λ found. option_map entry_of found ≡ entry_at (history_in self.now) id) }
     {
         let bytes = self.bytes.as_slice();

@@ -42,8 +42,12 @@ impl<S: Find, B: AsSlice<u8> + Drop> Joined<S, B> {
     /// No commit of the file has a parent outside it, and a missing generation number counts as
     /// infinity.
     pub fn premises(&self)
+        // If the newer commits are acyclic, then so are all commits together.
         ensures acyclic { IsAcyclic (S.history self.now.newer)
             → IsAcyclic (in_file self.now.file ++ S.history self.now.newer) }
+
+        // If no newer commit has a generation number other than infinity, then all commits together
+        // have ordered generations.
         ensures never_rise { HasNoGenerations (S.history self.now.newer)
             → GenerationsNeverRise (in_file self.now.file ++ S.history self.now.newer) }
     {
@@ -115,8 +119,13 @@ impl<A: Allocator + Copy> Joined<MemorySource<A>> {
     /// The hash map of the newer commits has the default seed. If strangers choose their ids, use
     /// [`Joined::with_seed`].
     pub fn new(alloc: A, file: Option<LevelledGraph>) -> Self
+        // The file of the answer is `file`.
         ensures file { result.file ≡ file }
+
+        // There are no newer commits.
         ensures empty { (id : ObjectId) → entry_at result.newer id ≡ None }
+
+        // The history of the answer is that of the file, or empty if there is no file.
         ensures commits { in_file result.file ++ result.newer ≡ in_file file }
     {
         Joined::with_seed(alloc, file, Seed::default())
@@ -125,8 +134,13 @@ impl<A: Allocator + Copy> Joined<MemorySource<A>> {
     /// Makes a source of the commits of `file`, if there is one, without newer commits. The hash
     /// map of newer commits is seeded with `seed`.
     pub fn with_seed(alloc: A, file: Option<LevelledGraph>, seed: Seed) -> Self
+        // The file of the answer is `file`.
         ensures file { result.file ≡ file }
+
+        // There are no newer commits.
         ensures empty { (id : ObjectId) → entry_at result.newer id ≡ None }
+
+        // The history of the answer is that of the file, or empty if there is no file.
         ensures commits { in_file result.file ++ result.newer ≡ in_file file }
     {
         Joined {
@@ -149,6 +163,8 @@ impl<M: Allocator, B: AsSlice<u8> + Drop> Joined<MemorySource<M>, B> {
         alloc: A,
         id: ObjectId,
     ) -> Result<Option<SourceCommit<A>>, AllocError>
+        // The answer is the commit `id` of the file, or else the newer one: its parents in order,
+        // its date and its generation number. It is `None` exactly if neither has the commit.
         ensures { IfOk result (λ found.
             option_map entry_of found ≡ entry_at (in_file self.now.file ++ self.now.newer) id) }
     {
@@ -163,7 +179,11 @@ impl<M: Allocator, B: AsSlice<u8> + Drop> Joined<MemorySource<M>, B> {
     /// Graphs that share the commits are fastest if each has a source of its own: see
     /// [`CommitGraph::lend`](crate::commit_graph::CommitGraph::lend).
     pub fn lend(&self) -> Joined<&MemorySource<M>, &[u8]>
+        // The commits of the file are the same in the answer. A missing file counts as one without
+        // commits.
         ensures file { in_file result.file ≡ in_file self.now.file }
+
+        // The newer commits of the answer are the same.
         ensures newer { result.newer.now ≡ self.now.newer }
     {
         Joined {
@@ -220,7 +240,11 @@ impl<M: Allocator, B: AsSlice<u8> + Drop> Find for &Joined<MemorySource<M>, B> {
     }
 
     fn generations(&self) -> Generations
+        // What the answer says of the generation numbers of all commits together is true.
         ensures so { AreSo result (in_file self.now.now.file ++ self.now.now.newer) }
+
+        // If there is a file, and no newer commit has a generation number other than infinity, the
+        // answer is `NeverRise`.
         ensures known { IsTrue (is_some self.now.now.file) → HasNoGenerations self.now.now.newer
             → result ≡ NeverRise }
     {
@@ -239,13 +263,24 @@ impl<M: Allocator + Copy, B: AsSlice<u8> + Drop> Insert for Joined<MemorySource<
     ghost says_why = { SaysWhy };
 
     fn insert(&mut self, id: ObjectId, commit: SourceCommit<M>) -> Result<(), InsertError<M>>
+        // The call succeeds only if neither the file nor the newer commits have a commit `id` yet.
         ensures new { OnOk result (entry_at (in_file self.old.file ++ self.old.newer) id ≡ None) }
+
+        // After a success, the history has this commit under `id`. Under every other id it has the
+        // same commit as before, or none if it had none.
         ensures put { OnOk result ((q : ObjectId)
             → entry_at (in_file self.new.file ++ self.new.newer) q
             ≡ (if same_id id q then Some (entry_of commit)
             else entry_at (in_file self.old.file ++ self.old.newer) q)) }
+
+        // Also after an error, the file is unchanged.
         ensures file { self.new.file ≡ self.old.file }
+
+        // After an error, the source is unchanged.
         ensures refused { OnErr result (self.new ≡ self.old) }
+
+        // The error returns the commit. `AlreadyThere` comes only if the history has a commit `id`,
+        // and `OutOfMemory` only if it has none.
         ensures cause { IfErr result
             (SaysWhy (in_file self.old.file ++ self.old.newer) id commit) }
     {

@@ -44,8 +44,14 @@ impl<B: AsSlice<u8> + Drop> LevelledGraph<B> {
     /// Returns `graph` if a commit has no level, or if a parent's level is not less than its
     /// child's.
     pub fn new(graph: CommitGraph<B>) -> Result<LevelledGraph<B>, CommitGraph<B>>
+        // The call succeeds exactly if each commit of `graph` has a level greater than 0, and its
+        // parents are commits of `graph` with smaller levels.
         ensures fall { IsOk result ↔ LevelsFall graph }
+
+        // The answer has the bytes of `graph`.
         ensures same { IfOk result (λ levelled. levelled ≡ graph) }
+
+        // After an error, the file that comes back has the bytes of `graph`.
         ensures back { IfErr result (λ refused. refused ≡ graph) }
     {
         if graph.levels_fall() {
@@ -59,8 +65,14 @@ impl<B: AsSlice<u8> + Drop> LevelledGraph<B> {
     ///
     /// The history is acyclic and has ordered generations.
     pub fn premises(&self)
+        // Each commit of the file has a generation number less than infinity. Its parents are
+        // commits of the file, and have smaller generation numbers.
         ensures levelled { IsLevelled (history_in self.now) }
+
+        // The history of the file is acyclic.
         ensures acyclic { IsAcyclic (history_in self.now) }
+
+        // The history of the file has ordered generations.
         ensures never_rise { GenerationsNeverRise (history_in self.now) }
     {
         let _graph = &self.graph;
@@ -68,6 +80,7 @@ impl<B: AsSlice<u8> + Drop> LevelledGraph<B> {
 
     /// Returns the file.
     pub fn graph(&self) -> &CommitGraph<B>
+        // The answer has the same bytes.
         ensures { result.now ≡ self.now }
     {
         &self.graph
@@ -75,6 +88,7 @@ impl<B: AsSlice<u8> + Drop> LevelledGraph<B> {
 
     /// Returns a source over the same bytes, with a cache of its own: see [`CommitGraph::lend`].
     pub fn lend(&self) -> LevelledGraph<&[u8]>
+        // The answer has the same bytes.
         ensures { result ≡ self.now }
     {
         LevelledGraph {
@@ -97,6 +111,7 @@ impl<B: AsSlice<u8> + Drop> LevelledGraph<B> {
 
     /// Turns the levelled graph back into its file.
     pub fn into_graph(self) -> CommitGraph<B>
+        // The answer has the same bytes.
         ensures { result ≡ self }
     {
         let LevelledGraph { graph } = self;
@@ -122,7 +137,10 @@ impl<B: AsSlice<u8> + Drop> Find for LevelledGraph<B> {
     }
 
     fn generations(&self) -> Generations
+        // What the answer says of the generation numbers of the file is true.
         ensures so { AreSo result (history_in self.now) }
+
+        // The answer is `NeverRise`.
         ensures known { result ≡ NeverRise }
     {
         self.premises();
@@ -149,7 +167,10 @@ impl<B: AsSlice<u8> + Drop> Find for &LevelledGraph<B> {
     }
 
     fn generations(&self) -> Generations
+        // What the answer says of the generation numbers of the file is true.
         ensures so { AreSo result (history_in self.now.now) }
+
+        // The answer is `NeverRise`.
         ensures known { result ≡ NeverRise }
     {
         (**self).generations()

@@ -80,7 +80,11 @@ pub fn apply<A: Allocator>(
     delta: &[u8],
     limit: usize,
 ) -> Result<Vec<u8, A>, ApplyError>
+    // The delta makes the returned target of `base`, and the target has at most `limit` bytes.
     ensures made { IfOk result (λ target. IsDelta base.now delta.now target.items × (length target.items ≤ limit)) }
+
+    // `Malformed` comes only with a fault that the delta has for `base`. `TooLarge` comes only if
+    // the delta is for `base`, and says a target of more than `limit` bytes.
     ensures refused { IfErr result (IsRefused base.now delta.now limit) }
 {
     let Some(rest) = behind_source(base, delta) else {

@@ -64,9 +64,16 @@ impl<B: AsSlice<u8> + Drop> Index<B> {
     ///
     /// Returns the bytes, with one thing that is wrong with them.
     pub fn open(bytes: B) -> Result<Index<B>, OpenError<B>>
+        // The answer has these bytes.
         ensures same { IfOk result (λ index. index ≡ B.items bytes) }
+
+        // The call succeeds exactly if the bytes are a well-formed index of version 2.
         ensures opened { IsOk result ↔ IsIndex (B.items bytes) }
+
+        // The error returns the bytes.
         ensures back { IfErr result (λ error. error.bytes ≡ bytes) }
+
+        // What the fault of the error says of the bytes is true.
         ensures refused { IfErr result (λ error. IsFaulty (B.items bytes) error.fault) }
     {
         match read(bytes.as_slice()) {
@@ -77,6 +84,7 @@ impl<B: AsSlice<u8> + Drop> Index<B> {
 
     /// Returns the number of objects.
     pub fn len(&self) -> usize
+        // The answer is the number of objects of the index.
         ensures { result ≡ length (objects_in self.now) }
     {
         self.table.count
@@ -86,6 +94,8 @@ impl<B: AsSlice<u8> + Drop> Index<B> {
     ///
     /// Ids rise with their positions.
     pub fn id(&self, position: usize) -> Option<ObjectId>
+        // The answer is the id of the object at `position`. It is `None` exactly past the last
+        // object.
         ensures { result ≡ option_map (λ e. e.0) (slice_get (objects_in self.now) position) }
     {
         if position < self.table.count {
@@ -99,6 +109,8 @@ impl<B: AsSlice<u8> + Drop> Index<B> {
     ///
     /// The offset is the one that the index says. It may be past the end of the pack.
     pub fn find(&self, id: ObjectId) -> Option<usize>
+        // The answer is the offset that the index has for `id`. It is `None` exactly if the index
+        // does not have `id`.
         ensures { result ≡ lookup (same_id id) (objects_in self.now) }
     {
         let bytes = self.bytes.as_slice();
@@ -113,8 +125,14 @@ impl<B: AsSlice<u8> + Drop> Index<B> {
     /// The index need not have `id`. If every id is less, the answer is the number of objects. With
     /// it, abbreviated object names are looked up.
     pub fn position_from(&self, id: ObjectId) -> usize
+        // The answer is the position of the first id that is not less than `id`. If every id is
+        // less, the answer is the number of objects.
         ensures first { IsFirstFrom (ids_in self.now) id result }
+
+        // The ids of the index rise with their positions, and each occurs once.
         ensures rising { IsStrictlySortedBy compare_ids (ids_in self.now) }
+
+        // The answer is less than 2^32.
         ensures small { result < 2 ^ 32 }
     {
         match search(self.bytes.as_slice(), self.table, id) {
