@@ -1,4 +1,11 @@
 //! Reads config files with the files that they include (git-config, "Includes").
+//!
+//! # Algorithm
+//!
+//! 1. For the settings, read all config files in git's order. The settings of an included file are
+//!    put before the settings that wait, so that no call recurses.
+//! 2. `gix_config` makes a list of names and values of the text of each file (`text.rt`). A name is
+//!    one text, such as `branch.main.remote`. Look-ups compare it as a whole (`name.rt`).
 
 use crate::command_line;
 use crate::environment::{Environment, Variable};

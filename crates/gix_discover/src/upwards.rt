@@ -1,4 +1,15 @@
 //! Finds the repository of the current folder (git, "Environment variables"; git-worktree).
+//!
+//! # Algorithm
+//!
+//! 1. Look for `.git` and for a git folder in the current folder, then in `..`, `../..` and so on.
+//!    The path of the current folder may have any bytes. It only says how often to go up, and where
+//!    a ceiling is.
+//! 2. A file `.git` leads to another folder, and `commondir` to the one that worktrees share
+//!    (`gitfile.rt`).
+//! 3. Compare the owner of the folders with the user (`owner.rt`). `safe.directory` counts only if
+//!    it is in the files of the system or the user, or in the environment.
+//! 4. Read `config` without its includes, for the version and the extensions (`format.rt`).
 
 use crate::environment::{Environment, Variable};
 use crate::error::{DiscoverError, Reason, about};

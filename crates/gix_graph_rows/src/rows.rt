@@ -1,4 +1,22 @@
 //! Has the commit-graph of an `objects` folder.
+//!
+//! # Algorithm
+//!
+//! 1. `open` takes `info/commit-graph`, or else the files that the chain names (`chain.rt`). Of
+//!    each it reads header, table of contents, base graphs and fanout table (`front.rt`).
+//! 2. `commit` first looks among the places of parents that were just read (`hints.rt`).
+//! 3. Otherwise it looks into each file, the last one first (`place.rt`). The fanout gives the ids
+//!    with the same first byte, and `gix_pack` finds the id there. Only 256 of them are read,
+//!    around the place that the next bytes of the id suggest (`parts.rt`). If the id may be
+//!    elsewhere, all ids with this first byte are read and kept. The same happens if many of them
+//!    were looked up.
+//! 4. Read the row (`row.rt`), from a block of 4 KiB that is kept (`blocks.rt`). `gix_commitgraph`
+//!    (`row.rt`) takes level and date from the same 64 bits.
+//! 5. Find the file of each parent by its position (`position.rt` of `gix_commitgraph`), and read
+//!    there its level and id (`commit.rt`). Further parents are in `EDGE` of the child's file.
+//!
+//! Positions are in the order of hashes, so the rows of a walk are far apart. Blocks are therefore
+//! small, and a walk near the tips reads a few KiB a commit.
 
 ghost use Rattle.std.specs.Prelude.{IfOk, IfSome};
 ghost use Rattle.gix_revwalk.specs.Held.{entry_of};

@@ -1,4 +1,29 @@
 //! Reads commits ahead of a question, the newest first.
+//!
+//! # Algorithm
+//!
+//! 1. If a commit that the question names is not known, read all commits that it names, and 64 of
+//!    their ancestors. Ancestors are read by their commit dates, the newest first.
+//! 2. Ask over `Partial`, a source over the commits that were read (`partial.rt`). A look-up of any
+//!    other commit fails, and notes that this commit is wanted.
+//! 3. If the question has an answer, return it. The history of `Partial` is the commits that were
+//!    read, and then those of a type parameter `K`. Nothing is assumed of `K`. So the contract of
+//!    the walk says that the answer is right for every history that has the commits that were read.
+//! 4. Otherwise read the wanted commit, and then ancestors of all that this call has met. Read as
+//!    many of them as the call has read so far, and at least 64. A commit that is read ahead and
+//!    fails is left unread. A count or list of all that some commits reach needs all of these
+//!    (`Question::needs_all`), so steps 1 and 4 then read them at once.
+//! 5. Commits that earlier calls have read are passed over on the way. They count as read, except
+//!    those newer than the wanted commit: a walk that takes the newest first has visited them as
+//!    well.
+//! 6. Ask again, with a new graph.
+//!
+//! What a call has read doubles from try to try, so there are few tries. A question is a type with
+//! the trait `Question`. Its ghost member `means` says what an answer means in a history.
+//! `gix_history` has the trait, and `gix_questions` the questions.
+//!
+//! `Known` is the part without a reader, for callers that cannot pass one. `try_ask` answers or
+//! names the wanted commit, and `give` adds a commit whose content the caller has read.
 
 ghost use Rattle.std.specs.Prelude.{◌≡◌, None};
 ghost use Rattle.gix_revwalk.specs.History.{entry_at};

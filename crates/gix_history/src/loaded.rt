@@ -1,4 +1,18 @@
 //! All that some tips reach, each commit the content of its id, with levels.
+//!
+//! # Algorithm
+//!
+//! 1. Put a tip on a path, a stack of commits that wait for their parents.
+//! 2. Take the last commit of the path, and go on over its parents that are loaded. The level grows
+//!    to one more than each of theirs. Levels are in a map beside the commits, so no commit is
+//!    copied.
+//! 3. If a parent is not loaded, read it, and put both on the path. Refuse a commit that is not
+//!    authentic.
+//! 4. If all are loaded, the commit is loaded with this level.
+//!
+//! The loaded commits are closed, and each has a greater level than its parents, at each moment.
+//! The type keeps this as its invariant. So of the premises of questions about them only *older
+//! parents* is left, for the depth of a description (`Loaded::premises`).
 
 ghost use Rattle.std.specs.Prelude.{◌≡◌, ◌++◌, IfOk, IfSome, OnOk, List, None, Some, length};
 ghost use Rattle.std.specs.List.{All};

@@ -1,4 +1,12 @@
 //! Reads all that some commits reach, and counts it.
+//!
+//! # Algorithm
+//!
+//! A count of all that some commits reach (`Question::counts`) needs no walk if nothing was read
+//! before. One list has these commits, and then the parents of each commit that was read. Each
+//! commit of the list is read and counted unless it is known. At the end of the list, the commits
+//! that are known are exactly those that are reached. If a commit fails, the steps of `ahead.rt`
+//! follow.
 
 ghost use Rattle.std.specs.Prelude.{◌≡◌, ◌++◌, ◌+◌, ℕ, List, IfOk, IfSome, IsTrue, Some, None};
 ghost use Rattle.gix_base.specs.declared.hash.ObjectId.{ObjectId};

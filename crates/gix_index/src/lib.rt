@@ -11,6 +11,17 @@
 //!
 //! A split index and a sparse index are not supported. Filters are not run and line ends are not
 //! converted: a file to which git might do either is left undecided.
+//!
+//! # Algorithm
+//!
+//! 1. Read the entries of the index one behind another (`entry.rt`). A path that leads out of the
+//!    working tree, or into the git folder, ends the reading (`path.rt`).
+//! 2. Compare each entry with what the system says of its file (`compare.rt`). Only if that does
+//!    not decide, read the file and compare its id (`look.rt`). A file that git might convert is
+//!    left undecided.
+//! 3. Read the files of the commit from its trees, in the order of the index (`tree.rt`).
+//! 4. Pass over the entries whose files are missing, and compare the others with the files of the
+//!    commit, one by one (`clean.rt`). The first pair that differs is the answer.
 #![tactic(auto)]
 
 mod attributes;

@@ -1,4 +1,34 @@
 //! The store, which reads objects by their ids.
+//!
+//! # Algorithm
+//!
+//! 1. Look the id up in the index of each pack, the pack that had the last object first
+//!    (`index.rt`). The fanout is read when an index is opened. Of the ids with the same first
+//!    byte, 256 are read around the place that the next bytes of the id suggest. If the id may be
+//!    elsewhere, all ids with this first byte are read and kept, with their offsets. The same
+//!    happens if many ids with this first byte were looked up.
+//! 2. Follow the deltas from the object down to one that is whole, or that is kept since it was
+//!    just made (`chain.rt`). If there are more links than objects, they lead in a circle.
+//! 3. From there up, inflate one delta at a time, and apply it. Keep each object that is made. If
+//!    all have 64 MiB together, drop them (`cache.rt`).
+//! 4. Inflate a stream from a window of the pack (`windows.rt`). Only if it does not end there,
+//!    read four times as many bytes, and so on (`stream.rt`).
+//! 5. If no pack has the object, read its loose file in each folder (`loose.rt`).
+//! 6. Compare the SHA-1 with the id (`object.rt`). If it differs, go on with the next copy.
+//! 7. If there is no authentic copy, list the packs again, since git may just have repacked, and
+//!    begin again. If the same packs are listed twice, return the first failure. If other packs are
+//!    listed ten times, fail: a pack that is gone since it was listed may have the object.
+//!
+//! The `objects` folders are found when the store is opened (`alternates.rt`). One that cannot be
+//! read is passed over, as in git, and its failure is returned in place of `Missing`. `Store::has`
+//! and `Store::completions` read indexes and names of loose files alone (`store/finds.rt`); the
+//! completions are collected in an ordered set (`completions.rt`). `Store::told_kind` reads headers
+//! (`store/kinds.rt`): the first bytes of a loose file, or the entries of a pack down a chain of
+//! deltas.
+//!
+//! A size that a file only claims takes no memory. The store writes content as it inflates it, and
+//! requests at most four times as many bytes as the file has given. After a failed call the store
+//! can be used again, and it opens a pack whose copy failed anew.
 
 ghost use Rattle.std.specs.Prelude.{◌≤◌, ℕ, List, length, IfOk, IfErr, All};
 ghost use Rattle.std.specs.List.Sorted.{IsStrictlySortedBy};

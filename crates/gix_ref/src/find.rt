@@ -1,4 +1,28 @@
 //! Finds a reference by its full name, and follows symbolic references.
+//!
+//! # Algorithm
+//!
+//! `gix_ref` reads the files (`store.rt`, `short.rt`). The other files are of `gix_ref_text`.
+//!
+//! 1. Read the loose file of the name, unless this answer has read it before (`store.rt`). If there
+//!    is a loose file, its content is what the reference says (`loose.rt`). A symbolic link to a
+//!    name below `refs/` counts as a symbolic reference. For a link to nothing, or a name below a
+//!    file, the call fails if `packed-refs` has the reference.
+//! 2. If there is none, read `packed-refs`, unless it was read before. One pass checks each line,
+//!    and notes where the lines `ID NAME` begin (`snapshot.rt`: `places_in`). The pass also
+//!    compares each name with the one before it. If the names do not rise, they are sorted once,
+//!    and a file with one name twice is refused (`sound_places`).
+//! 3. If the names rise in byte order, bisect the places (`find_sorted`). A look-up then reads
+//!    about log N of N lines. Otherwise read the lines in their order (`find_first`).
+//! 4. The line `^ID` behind the line is the object to which a tag leads (`packed.rt`:
+//!    `first_told`).
+//! 5. To follow a reference, repeat this for each one that it leads to, at most five in all
+//!    (`follow_on`). `leads.rt` (`next_step`) decides where a reference leads by what was found.
+//! 6. For a short name, follow its full names by git's six rules, the last rule first (`short.rt`:
+//!    `first_found`). `rules.rt` (`winner`) decides whether a rule wins over the further ones.
+//!
+//! The places take 8 bytes a reference. Both searches are proved to return what the first line of
+//! the file with this name says.
 
 ghost use Rattle.std.specs.Prelude.{◌≡◌, [], IfOk, IfSome, OnErr, Some};
 ghost use Rattle.std.specs.Option.{option_map, unwrap_or};

@@ -6,6 +6,29 @@
 //!
 //! The *spot* of an id is its place in this memory. A spot that a caller passes is a guess: the id
 //! stored there is compared, and a wrong guess costs a look-up by hash.
+//!
+//! # What a graph keeps
+//!
+//! - **Nodes.** Held commits, in the order in which they came. A number is the place of a node, and
+//!   the calls of `graph` are written over those of `numbers`.
+//! - **Marks.** They count only in the turn of the walk that made them, so that no walk clears any.
+//! - **Rows.** The parents of a node as numbers, once a walk over `numbers` has met them. A row is
+//!   kept only if the source has all these parents, and therefore stays right when the source
+//!   grows.
+//! - **Memory**. A map in the order of insertion (`indexmap`) has the last number of each id that
+//!   was ever held. The place of an id there is its spot. If a walk of `describe` met the commit,
+//!   its time and parents are there, too. An id is held if the node of that number has it. `clear`
+//!   drops nodes and rows, without a hash, and keeps this memory. A further `describe` asks the
+//!   source only for commits that none before it has met.
+//! - **Missing ids.** They are not remembered, and each walk that meets one asks again. Of a commit
+//!   with a missing parent the parents' ids are remembered, as in the commit itself, but not their
+//!   numbers.
+//! - **Guesses.** A spot that is passed in is a guess. The id stored there is compared, by words of
+//!   eight bytes (`past::is_same`). If it differs, the map is searched. No contract says what a
+//!   spot is good for, and guesses at parents' spots have no invariant.
+//! - **Growth.** `Graph::insert` (`graph/insert.rt`) puts a commit into any source with the trait
+//!   `Insert`; no row is forgotten and no node is touched. Such sources are `MemorySource` and a
+//!   commit-graph file with newer commits (`commit_graph::Commits`), which `gix_c_core` uses.
 
 ghost use Rattle.std.specs.Prelude.{IsTrue, ◌≡◌, ◌<◌, ◌≤◌, ◌+◌, [], is_some, false, cond, Some, None, IfSome, IfOk, OnOk, OnErr, map, take, drop, length};
 ghost use Rattle.std.specs.Option.{option_map};

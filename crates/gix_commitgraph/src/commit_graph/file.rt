@@ -1,4 +1,25 @@
 //! A commit-graph file as a source of commits.
+//!
+//! # Algorithm
+//!
+//! 1. `open` finds the chunks (`layout.rt`) and checks all ids and rows (`check.rt`).
+//!    `LevelledGraph::new` compares the level of each commit with its parents' (`levels.rt`).
+//! 2. A look-up by a walk first tries a cached position, and compares the id stored there
+//!    (`hints.rt`).
+//! 3. Otherwise `gix_ids` looks the id up (`lookup.rt`). The fanout gives the positions of the ids
+//!    with the same first byte.
+//! 4. At most six guesses follow, by the next four bytes, between the ids seen so far. Halving then
+//!    finds the id, or the place before which it would be.
+//! 5. Read the row as a commit (`commit.rt`), and cache the positions of its first two parents.
+//!
+//! All functions over the bytes take a slice and its layout under one premise, `IsSound`, or only
+//! the layout's table of ids under `IsSorted`. `open` checks both, and the type keeps them as its
+//! invariant, so that the types over any owner of the bytes are thin. A walk usually asks next for
+//! the parents of the commit it has just read, hence the cache. Graphs can share a file:
+//! `CommitGraph::lend` gives each a cache of its own. `joined.rt` adds newer commits to a file.
+//! `chain.rt` inserts the commits of the upper files of a chain as newer commits. `layer.rt` checks
+//! such a file by the same functions, with a greater bound for the positions of parents.
+//! `falling.rt` then compares the levels by look-ups.
 
 ghost use Rattle.std.specs.Prelude.{◌≡◌, ◌↔◌, ◌+◌, ◌*◌, ◌<◌, ◌≤◌, ◌^◌, ◌++◌, length, slice_get, IsOk, IfOk, IfErr, OnOk, IsTrue, is_some};
 ghost use Rattle.std.specs.Option.{option_map};

@@ -1,5 +1,31 @@
 //! The walk, which may stop early: it pops the newest of the queued commits, and queues its
 //! parents.
+//!
+//! # Algorithm
+//!
+//! 1. Answer without a walk if the commit has a name, or if there is no name to find. Otherwise
+//!    empty the graph and queue the commit.
+//! 2. Pop the newest commit; on equal times, the one with the smaller id.
+//! 3. If it has a name, it becomes a candidate with a mark bit of its own. If there is no room for
+//!    one more (`max_candidates`, at most 32), put it back and go to step 5.
+//! 4. Count the commit for each candidate whose mark it lacks, hand its marks to its parents, and
+//!    queue those that are new to the graph. Stop if the popped commit was the last one and has the
+//!    marks of all nearest candidates, or if the queue is empty.
+//! 5. Choose the nearest candidate, then the smaller name, then the smaller id. If there was no
+//!    room, go on until all that is queued has its mark; each popped commit without it adds one to
+//!    the depth.
+//!
+//! What makes it fast:
+//!
+//! - A queue entry has the key (time and id), the commit's number, and a guess at its spot in what
+//!   the graph remembers. A commit that is queued alone bypasses the heap (`queue.rt`).
+//! - The parents of a popped commit are read at that spot, each with a guess at its own (`met.rt`).
+//!   An edge that a walk has followed before needs no hash; a new one looks up the parent's id.
+//! - The sieve has 4,096 bits (`sieve.rt`). A commit whose bit is clear has no name, without a
+//!   look-up.
+//! - In step 5 a running count says how many queued commits lack the mark (`tally.rt`), so that no
+//!   walk scans its queue. The graph notes what has left the queue; the count begins with the held
+//!   commits that are neither noted nor marked.
 
 ghost use Rattle.std.specs.Prelude.{◌≡◌, ◌≤◌, ◌<◌, ◌+◌, ◌^◌, ◌++◌, ◌∷◌, [], ℕ, IfOk, IfErr, IfSome, IsNone, OnOk, Some, None, List, cond, bit_or, length, get_or, MatchBool, MatchOption, false};
 ghost use Rattle.std.specs.Option.{option_map};

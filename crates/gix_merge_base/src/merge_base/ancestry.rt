@@ -1,4 +1,13 @@
 //! Tests whether one commit is reachable from another.
+//!
+//! # Algorithm
+//!
+//! 1. If both ids are equal, look up that id only.
+//! 2. Otherwise look up both; if one is missing, the answer is no.
+//! 3. Mark the second commit with the reduction's mark, and queue it.
+//! 4. Pop by generation number, then time, and mark the parents.
+//! 5. Answer yes when the first commit is marked. Answer no when the popped commit has a smaller
+//!    generation number than the first, or when the queue is empty.
 
 ghost use Rattle.std.specs.Prelude.{◌≡◌, ◌<◌, ◌∷◌, [], ◌⊎◌, ◌↔◌, IfOk, IfErr, OnOk, IsTrue, is_some};
 ghost use Rattle.std.specs.Option.{option_map};

@@ -2,6 +2,14 @@
 //!
 //! The reduction hands on `STALE` alone. There the count is that of the ids that are not stale:
 //! each of them counts as queued once, without an entry.
+//!
+//! # What a function says
+//!
+//! Painting, the reduction and `is_ancestor` share `hand.rt`: a `Walk` has a `Front` (the queue
+//! with its count) and room for the numbers of parents. A function that changes it states what it
+//! did (`HandsOn`, `Pops`) and what stayed right (`Keeps`, `IsRight`). It also states what became
+//! of the graph: `HoldsSame` if only marks changed, else `Meets`. All of these are in
+//! `specs/Front.antt`.
 
 ghost use Rattle.std.specs.Prelude.{◌≡◌, ◌<◌, ◌-◌, ◌^◌, ◌∷◌, [], OnOk, IfOk, IfSome, IsNone, IsTrue, cond};
 ghost use Rattle.gix_base.specs.declared.hash.ObjectId.{ObjectId};

@@ -1,4 +1,14 @@
 //! The octopus bases of several heads.
+//!
+//! # Algorithm
+//!
+//! 1. If all heads are equal, answer that id.
+//! 2. Look up each distinct head; if one is missing, nothing is common.
+//! 3. Sort the heads, the newest first: along a chain each walk then goes on where the last one
+//!    ended. The newest is the only base so far.
+//! 4. For each head: if it is a base, it becomes the only one. Otherwise painting and reduction
+//!    find the best common ancestors of the head and a merge of the bases, which are the new bases.
+//! 5. `octopus_bases` answers the bases in order, `octopus` the first of them.
 
 ghost use Rattle.std.specs.Prelude.{◌≡◌, ◌∷◌, [], ◌⊎◌, Some, IfOk, Ok, IfErr, IsTrue, false};
 ghost use Rattle.std.specs.List.{list_all};

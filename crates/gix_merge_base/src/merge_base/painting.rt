@@ -1,4 +1,20 @@
 //! Painting: finds common ancestors, and counts its pops.
+//!
+//! # Algorithm
+//!
+//! 1. Mark `first` with `COMMIT1` and each of `others` with `COMMIT2`, and queue them.
+//! 2. Pop the commit with the greatest generation number, then the latest time.
+//! 3. If it has both marks, and is neither stale nor a result yet, it becomes a result. A commit
+//!    with both marks hands on `STALE` as well.
+//! 4. Hand its marks to its parents, and queue each parent that lacked one of them, again if need
+//!    be.
+//! 5. Stop when every queued commit is stale, which the count of the others (`open_entries`) shows.
+//!
+//! `paint` drops its walk then. `merge_base` keeps it (`paint_with`), for the reduction.
+//!
+//! With generation numbers the walk visits the commits between the ids and the bases, and enough
+//! below the bases to be sure. Without, it visits all commits that are newer than the oldest commit
+//! between the ids and the bases. After wrong clocks it then visits all that the ids reach.
 
 ghost use Rattle.std.specs.Prelude.{◌≡◌, ◌≤◌, ◌+◌, ◌*◌, ◌∷◌, [], ◌⊎◌, ℕ, length, IsTrue, IfErr, IfOk, OnOk};
 ghost use Rattle.std.specs.List.{IsDistinct};

@@ -1,4 +1,23 @@
 //! Reduces ids to those that no other one of them reaches.
+//!
+//! # Algorithm
+//!
+//! 1. Give each id a number. Each counts as queued once, so that `open_entries` counts the ids not
+//!    met.
+//! 2. Sort the ids by generation number, mark all their parents as met, and queue these.
+//! 3. Pop a commit, and skip it if its generation number is less than the least one of the ids not
+//!    met.
+//! 4. Otherwise mark its parents as met, and queue the new ones. In the sorted list, the place of
+//!    the first id that is not met only moves forward.
+//! 5. Stop when one id is left or the queue is empty, and drop the ids that were met.
+//!
+//! That is `reduce`. `merge_base` reduces the candidates of painting, and goes on with its queue
+//! and marks (`reduce_painted`). There stale means met. A stale commit is an ancestor of a
+//! candidate's parent. All parents of candidates are stale, and so are those of a stale commit that
+//! is not queued. The candidates get numbers and are sorted, `open_entries` becomes the number of
+//! those that are not stale, and the walk goes on at step 3.
+//!
+//! Without generation numbers nothing is skipped. Afterwards `in_order` sorts what is left.
 
 ghost use Rattle.std.specs.Prelude.{◌≡◌, ◌+◌, ◌++◌, ◌∷◌, [], length, is_some, ◌⊎◌, ◌↔◌, IsTrue, OnOk, IfOk, IfErr};
 ghost use Rattle.std.specs.List.Sorted.{IsPermutation};

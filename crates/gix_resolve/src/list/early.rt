@@ -3,6 +3,15 @@
 //! If the source reports that generation numbers never rise, `a..b` and `a...b` are walked from
 //! both sides ([`crate::reach`]), no further than generation numbers ask for. Every other spec or
 //! source gets the plain walk ([`crate::list::members`]).
+//!
+//! # Which walk
+//!
+//! `commits_early`, `commits_newest_first` and `count_commits` take the two-sided walk for `a..b`
+//! and `a...b` if the source reports `NeverRise` (`Find::generations`, `list/early.rt`), and else
+//! the plain one. `commits_newest_first` and `reachable_newest_first` sort by keys that they read
+//! by the walk's numbers (`list/newest.rt`). No id is looked up, and a stable sort uses the runs
+//! that walks produce. `newest_first` makes no walk: it looks up each id once, sorts, and drops
+//! repeated ids.
 
 ghost use Rattle.std.specs.Prelude.{◌≡◌, IfOk, IsOkAnd, IsTrue, Ok, []};
 ghost use Rattle.gix_revwalk.specs.Faults.{is_source_fault};

@@ -5,6 +5,30 @@
 //! can be wanted, and each open commit has a smaller generation number than every commit that was
 //! not hidden when it was taken. If no generation number rises from child to parent, no wanted
 //! commit lies below them.
+//!
+//! # Algorithm
+//!
+//! The two-sided walk serves `reachable`, `count_reachable` and `ahead_behind`:
+//!
+//! 1. Mark the commits where each side begins. A commit is *open* while its parents may lack a
+//!    mark.
+//! 2. A commit is *hidden* once no further mark can make it wanted: the second side reaches it or,
+//!    if both sides are wanted, both do. It needs no further mark.
+//! 3. Take an open commit of the greatest generation number (`reach/front.rt`), and mark its
+//!    parents.
+//! 4. Stop when all open commits are hidden and each has a smaller generation number than any
+//!    commit that was taken while it was not hidden.
+//! 5. List or count the met commits that have the wanted marks.
+//!
+//! The plain walk does the same whatever the source knows. Without generation numbers, the
+//! two-sided walk goes to the roots:
+//!
+//! - It takes hidden commits first. Most of what both sides reach is then hidden by its first mark,
+//!   is not listed as met, and is visited once.
+//! - Other commits come in the order in which they were met. The commits where the first side
+//!   begins wait until what the second side reaches is as old. `ahead_behind` makes the newer
+//!   commit the second side.
+//! - What one side reaches before the walk knows that both do is visited twice.
 
 ghost use Rattle.std.specs.Prelude.{◌≡◌, ◌<◌, ◌∷◌, ◌++◌, [], OnOk, IfOk, IsNone, IsSome, IfSome};
 ghost use Rattle.gix_base.specs.declared.hash.ObjectId.{ObjectId};

@@ -1,4 +1,17 @@
 //! Reads a revision expression from its front, and calls the delegate on the way.
+//!
+//! # Algorithm
+//!
+//! 1. Read `^`, then a side: a text that begins with `:`, or a name and what follows it.
+//! 2. `cut` finds where the name ends; `@{...}` may follow it.
+//! 3. Read `~n`, `^n`, `^{...}` and `:path`, one after the other, until none follows.
+//! 4. After `..` or `...`, read the second side. An empty side stands for `HEAD`.
+//! 5. Make the delegate's calls for each piece before reading the next one, and `done` at the end.
+//!
+//! There is one file for each kind of piece. Each function has the contract "these pieces were
+//! performed, whatever pieces follow", and returns `Result<_, Stopped>`. The context keeps the
+//! reason (`context.rt`), so that no function passes on an `Error` of 264 bytes; only `parse` makes
+//! its result of it.
 
 ghost use Rattle.std.specs.Prelude.{◌≡◌, Some, None, option_map, false, IsErrOf};
 ghost use Rattle.gix_spec.specs.Trees.{takes_memory};
