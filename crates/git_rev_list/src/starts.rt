@@ -131,8 +131,7 @@ fn peeled(session: &mut Session<'_>, start: Start) -> Result<Option<ObjectId>, S
         Ok((id, Kind::Commit)) => Ok(Some(id)),
         Ok(_) => Ok(None),
         Err(Refusal::Object(gix_odb::Error::Missing(lost)))
-            if lost != start.id && !session.repository.is_partial() =>
-        {
+            if lost != start.id && !session.repository.is_partial() => {
             if start.is_excluded {
                 return Ok(None);
             }

@@ -151,7 +151,9 @@ impl fmt::Display for Refusal {
                     "tag {id} is malformed: its object is of another kind than it says"
                 )
             }
-            Refusal::Sibling => f.write_str("a setting of a branch, of its remote or of push.default is malformed"),
+            Refusal::Sibling => f.write_str(
+                "a setting of a branch, of its remote or of push.default is malformed",
+            ),
             Refusal::Reference(error) => write!(f, "{error}"),
             Refusal::Graph(error) => write!(f, "{error}"),
             Refusal::Differs(id) => {

@@ -251,7 +251,9 @@ impl<F: Folders + Drop, A: Allocator + Copy> Repository<F, A> {
         branch: &[u8],
         short: &[u8],
     ) -> Result<Option<Vec<u8, A>>, Refusal> {
-        let how = self.setting(b"push", None, b"default")?.unwrap_or(b"simple");
+        let how = self
+            .setting(b"push", None, b"default")?
+            .unwrap_or(b"simple");
         if how == b"upstream".as_slice() || how == b"tracking".as_slice() {
             return self.upstream(short);
         }
