@@ -24,7 +24,7 @@ pub trait Counted {
 
 /// Returns where the commit at a position of a chain is.
 ///
-/// Returns `None` if the files have fewer commits.
+/// Returns `None` if the files have no commit there.
 pub fn locate<F: Counted>(files: &[F], position: u32) -> Option<Place>
     // The answer says which row of which file is at `position` of the chain. It is `None` exactly
     // if the files have no commit at `position`.

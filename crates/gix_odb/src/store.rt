@@ -190,7 +190,8 @@ impl<F: Folders + Drop, A: Allocator + Copy> Store<F, A> {
         // The object has this id.
         ensures found { IfOk result (λ o. IsObject id o.kind o.content.items) }
 
-        // `Missing` and `Altered` name this id. None is about what the object says.
+        // `Missing` and `Altered` name this id, and `Altered` also another id, which an object has.
+        // None is about what the object says.
         ensures refused { IfErr result (IsRefused id) }
     {
         match self.read_settled(alloc, id) {
@@ -250,7 +251,8 @@ impl<F: Folders + Drop, A: Allocator + Copy> Store<F, A> {
         // A content of this kind has this id.
         ensures found { IfOk result (λ kind. (content : List ℕ) × IsObject id kind content) }
 
-        // `Missing` and `Altered` name this id. None is about what the object says.
+        // `Missing` and `Altered` name this id, and `Altered` also another id, which an object has.
+        // None is about what the object says.
         ensures refused { IfErr result (IsRefused id) }
     {
         match self.read(alloc, id) {
@@ -288,7 +290,8 @@ impl<F: Folders + Drop, A: Allocator + Copy> Store<F, A> {
     /// - `Damaged`, `Unsupported` or `Failed` if no copy was found, and a file or folder was not read.
     /// - `OutOfMemory` if an allocation failed.
     pub fn has(&mut self, alloc: A, id: ObjectId) -> Result<bool, Error>
-        // `Missing` and `Altered` name this id. None is about what the object says.
+        // `Missing` and `Altered` name this id, and `Altered` also another id, which an object has.
+        // None is about what the object says.
         ensures refused { IfErr result (IsRefused id) }
     {
         match self.has_settled(alloc, id) {
