@@ -5,8 +5,8 @@
 //! fanout tables. [`GraphRows::commit`] then reads what it needs for one commit: its row, the ids
 //! and levels of its parents, and the ids among which it is found. So a walk near the tips of a long
 //! history reads a small part of the files. A damaged row is an error only if it is asked for.
-//! [`laws`] states that a row says the same date and generation number as the whole file, and how
-//! many parents, if they are not more than two.
+//! [`laws`] states that a row says the same date and generation number as the whole file, and the
+//! same number of parents, unless it names a list of them.
 //!
 //! The calls reach files by the traits of `gix_files`, which promise nothing of the bytes that a file
 //! has. The clauses therefore speak of the bytes that were read. That these bytes come from the
