@@ -32,19 +32,37 @@ pub extern "C" fn gix_history_merge_bases(
     count: &mut usize,
 ) -> i32
     ghost beyond: { Commits }
+    // Premises: acyclic, ordered generations. After `OK`, `count` is the number of merge bases in
+    // the whole history. They replace the front of `out`, as many as fit, each once, by falling
+    // generation number, falling date and rising id. After `NONE`, there is none.
     ensures bases { IsAcyclicFrom (whole_of history.old beyond) (id_of first.now ∷ map id_of others.now)
         → GenerationsNeverRiseFrom (whole_of history.old beyond) (id_of first.now ∷ map id_of others.now)
         → ByCode result
         (HasBases (whole_of history.old beyond) (id_of first.now) (map id_of others.now) out.old out.new count.new)
         (AreBases (whole_of history.old beyond) (id_of first.now) (map id_of others.now) [])
         ⊤ }
+
+    // After `NONE`, `count` is 0 and `out` is unchanged.
     ensures none { ByCode result ⊤ ((out.new ≡ out.old) × (count.new ≡ 0)) ⊤ }
+
+    // The code is `OK`, `NONE`, `OUT_OF_MEMORY` or, in a partial history only, `WANTS`. After
+    // `WANTS`, the wanted commit is one that was not added. After `OUT_OF_MEMORY`, the extent is
+    // unchanged. After an error, so are `out` and `count`.
     ensures refused { ByCode result ⊤ ⊤ (IsUnanswered result history.old.value history.new.value
         × (out.new ≡ out.old) × (count.new ≡ count.old)) }
+
+    // After a success, the extent is unchanged: the history is complete or partial as before, with
+    // the same wanted commit.
     ensures extent { ByCode result (history.new.value.extent ≡ history.old.value.extent)
         (history.new.value.extent ≡ history.old.value.extent) ⊤ }
+
+    // Also after an error, the commits of the history are unchanged.
     ensures commits { commits_of history.new ≡ commits_of history.old }
+
+    // Also after an error, the list of noted parents is unchanged.
     ensures named { history.new.value.named ≡ history.old.value.named }
+
+    // Also after an error, ref names and the ids of abbreviated object names are unchanged.
     ensures table { history.new.value.table ≡ history.old.value.table }
 {
     let Ok(others) = ids_of(alloc, others) else {
@@ -83,18 +101,35 @@ pub extern "C" fn gix_history_octopus(
     out: &mut [u8; 20],
 ) -> i32
     ghost beyond: { Commits }
+    // Premises: acyclic, ordered generations. After `OK`, `out` is the octopus base of `first` and
+    // `others` in the whole history. After `NONE`, there is none.
     ensures base { IsAcyclicFrom (whole_of history.old beyond) (id_of first.now ∷ map id_of others.now)
         → GenerationsNeverRiseFrom (whole_of history.old beyond) (id_of first.now ∷ map id_of others.now)
         → ByCode result
         (HasOctopusBase (whole_of history.old beyond) (id_of first.now) (map id_of others.now) out.new)
         (IsOctopusBase (whole_of history.old beyond) (id_of first.now) (map id_of others.now) None)
         ⊤ }
+
+    // After `NONE` or an error, `out` is unchanged.
     ensures kept { ByCode result ⊤ (out.new ≡ out.old) (out.new ≡ out.old) }
+
+    // The code is `OK`, `NONE`, `OUT_OF_MEMORY` or, in a partial history only, `WANTS`. After
+    // `WANTS`, the wanted commit is one that was not added. After `OUT_OF_MEMORY`, the extent is
+    // unchanged.
     ensures refused { ByCode result ⊤ ⊤ (IsUnanswered result history.old.value history.new.value) }
+
+    // After a success, the extent is unchanged: the history is complete or partial as before, with
+    // the same wanted commit.
     ensures extent { ByCode result (history.new.value.extent ≡ history.old.value.extent)
         (history.new.value.extent ≡ history.old.value.extent) ⊤ }
+
+    // Also after an error, the commits of the history are unchanged.
     ensures commits { commits_of history.new ≡ commits_of history.old }
+
+    // Also after an error, the list of noted parents is unchanged.
     ensures named { history.new.value.named ≡ history.old.value.named }
+
+    // Also after an error, ref names and the ids of abbreviated object names are unchanged.
     ensures table { history.new.value.table ≡ history.old.value.table }
 {
     let Ok(others) = ids_of(alloc, others) else {
@@ -133,26 +168,40 @@ pub extern "C" fn gix_history_is_ancestor(
     of: &[u8; 20],
 ) -> i32
     ghost beyond: { Commits }
+    // Premise: ordered generations, for what `of` reaches. After `OK`, `of` reaches `ancestor` in
+    // the whole history. After `NONE`, it does not.
     ensures ancestor { GenerationsNeverRiseFrom (whole_of history.old beyond) (id_of of.now ∷ [])
         → ByCode result
         (IsAncestor (whole_of history.old beyond) (id_of of.now) (id_of ancestor.now))
         (¬ IsAncestor (whole_of history.old beyond) (id_of of.now) (id_of ancestor.now))
         ⊤ }
 
-    // Without any premise.
+    // Without a premise: after `OK`, `of` reaches `ancestor` in the whole history.
     ensures reached { ByCode result
         (IsAncestor (whole_of history.old beyond) (id_of of.now) (id_of ancestor.now)) ⊤ ⊤ }
 
-    // If both are the same id.
+    // If both ids are equal: after `OK`, the whole history has the id. After `NONE`, it does not.
     ensures same { IsTrue (same_id (id_of ancestor.now) (id_of of.now))
         → ByCode result (Has (whole_of history.old beyond) (id_of of.now))
         (¬ Has (whole_of history.old beyond) (id_of of.now)) ⊤ }
 
+    // The code is `OK`, `NONE`, `OUT_OF_MEMORY` or, in a partial history only, `WANTS`. After
+    // `WANTS`, the wanted commit is one that was not added. After `OUT_OF_MEMORY`, the extent is
+    // unchanged.
     ensures refused { ByCode result ⊤ ⊤ (IsUnanswered result history.old.value history.new.value) }
+
+    // After a success, the extent is unchanged: the history is complete or partial as before, with
+    // the same wanted commit.
     ensures extent { ByCode result (history.new.value.extent ≡ history.old.value.extent)
         (history.new.value.extent ≡ history.old.value.extent) ⊤ }
+
+    // Also after an error, the commits of the history are unchanged.
     ensures commits { commits_of history.new ≡ commits_of history.old }
+
+    // Also after an error, the list of noted parents is unchanged.
     ensures named { history.new.value.named ≡ history.old.value.named }
+
+    // Also after an error, ref names and the ids of abbreviated object names are unchanged.
     ensures table { history.new.value.table ≡ history.old.value.table }
 {
     let question = gix_questions::IsAncestor {
@@ -182,21 +231,34 @@ pub extern "C" fn gix_history_reaches(
     ancestor: &[u8; 20],
 ) -> i32
     ghost beyond: { Commits }
+    // Premise: ordered generations, for what `from` reaches. After 1, `from` reaches `ancestor` in
+    // the whole history. After 0, it does not.
     ensures ancestor { GenerationsNeverRiseFrom (whole_of history.old beyond) (id_of from.now ∷ [])
         → ByYes result
         (IsAncestor (whole_of history.old beyond) (id_of from.now) (id_of ancestor.now))
         (¬ IsAncestor (whole_of history.old beyond) (id_of from.now) (id_of ancestor.now))
         ⊤ }
 
-    // Without any premise.
+    // Without a premise: after 1, `from` reaches `ancestor` in the whole history.
     ensures reached { ByYes result
         (IsAncestor (whole_of history.old beyond) (id_of from.now) (id_of ancestor.now)) ⊤ ⊤ }
 
+    // The result is 1, 0, `OUT_OF_MEMORY` or, in a partial history only, `WANTS`. After `WANTS`,
+    // the wanted commit is one that was not added. After `OUT_OF_MEMORY`, the extent is unchanged.
     ensures refused { ByYes result ⊤ ⊤ (IsUnanswered result history.old.value history.new.value) }
+
+    // After a success, the extent is unchanged: the history is complete or partial as before, with
+    // the same wanted commit.
     ensures extent { ByYes result (history.new.value.extent ≡ history.old.value.extent)
         (history.new.value.extent ≡ history.old.value.extent) ⊤ }
+
+    // Also after an error, the commits of the history are unchanged.
     ensures commits { commits_of history.new ≡ commits_of history.old }
+
+    // Also after an error, the list of noted parents is unchanged.
     ensures named { history.new.value.named ≡ history.old.value.named }
+
+    // Also after an error, ref names and the ids of abbreviated object names are unchanged.
     ensures table { history.new.value.table ≡ history.old.value.table }
 {
     let ancestor = ObjectId(*ancestor);
@@ -228,15 +290,31 @@ pub extern "C" fn gix_history_independent(
     count: &mut usize,
 ) -> i32
     ghost beyond: { Commits }
+    // Premises: acyclic, ordered generations. After `OK`, `count` is how many different ones of
+    // `ids` no other one reaches in the whole history. They replace the front of `out`, as many as
+    // fit, each once, in the order of their first places.
     ensures independent { IsAcyclicFrom (whole_of history.old beyond) (map id_of ids.now)
         → GenerationsNeverRiseFrom (whole_of history.old beyond) (map id_of ids.now)
         → ByCode result
         (HasIndependent (whole_of history.old beyond) (map id_of ids.now) out.old out.new count.new) ⊥ ⊤ }
+
+    // The code is `OK`, `OUT_OF_MEMORY` or, in a partial history only, `WANTS`. After `WANTS`, the
+    // wanted commit is one that was not added. After `OUT_OF_MEMORY`, the extent is unchanged.
+    // After an error, so are `out` and `count`.
     ensures refused { ByCode result ⊤ ⊥ (IsUnanswered result history.old.value history.new.value
         × (out.new ≡ out.old) × (count.new ≡ count.old)) }
+
+    // After a success, the extent is unchanged: the history is complete or partial as before, with
+    // the same wanted commit.
     ensures extent { ByCode result (history.new.value.extent ≡ history.old.value.extent) ⊥ ⊤ }
+
+    // Also after an error, the commits of the history are unchanged.
     ensures commits { commits_of history.new ≡ commits_of history.old }
+
+    // Also after an error, the list of noted parents is unchanged.
     ensures named { history.new.value.named ≡ history.old.value.named }
+
+    // Also after an error, ref names and the ids of abbreviated object names are unchanged.
     ensures table { history.new.value.table ≡ history.old.value.table }
 {
     let Ok(ids) = ids_of(alloc, ids) else {

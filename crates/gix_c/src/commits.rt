@@ -17,7 +17,11 @@ use std::alloc::Global;
 /// Returns the number of commits that the history has.
 #[unsafe(no_mangle)]
 pub extern "C" fn gix_history_len(history: &mut Handle) -> usize
+    // If abbreviated object names stand for exactly the ids of the commits, the result is exactly
+    // the number of commits.
     ensures size { IsKnown history.old → HasSize (Has (commits_of history.old)) result }
+
+    // The history is unchanged.
     ensures kept { history.new.value ≡ history.old.value }
 {
     history.get_mut().table.ids.len()
@@ -32,12 +36,20 @@ pub extern "C" fn gix_history_commit(
     out: &mut CommitFields,
     parents: &mut [[u8; 20]],
 ) -> i32
+    // After `OK`, `out` has the commit's date, generation number and number of parents. The parents
+    // replace the front of `parents`, as many as fit. After `NONE`, the history does not have the
+    // commit.
     ensures commit { ByCode result
         (HasCommit (commits_of history.old) (id_of id.now) parents.old parents.new out.new)
         (¬ Has (commits_of history.old) (id_of id.now)) ⊤ }
+
+    // The code is `OK`, `NONE` or `OUT_OF_MEMORY`. Unless it is `OK`, `out` and `parents` are
+    // unchanged.
     ensures unwritten { ByCode result ⊤
         ((out.new ≡ out.old) × (parents.new ≡ parents.old))
         ((result ≡ OUT_OF_MEMORY) × (out.new ≡ out.old) × (parents.new ≡ parents.old)) }
+
+    // Also after an error, the history is unchanged.
     ensures kept { history.new.value ≡ history.old.value }
 {
     let source = history.get_mut().graph.source();

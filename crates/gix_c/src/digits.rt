@@ -12,7 +12,10 @@ use gix_revision::laws::base::is_id;
 /// Reads the 40 hex digits of an id, in upper or lower case. Returns whether there are such digits.
 #[unsafe(no_mangle)]
 pub extern "C" fn gix_id_read(out: &mut [u8; 20], hex: &[u8]) -> bool
+    // The result is true exactly if `hex` has 40 bytes and each is a hex digit, in either case.
     ensures read { IsTrue result ↔ IsIdText hex.now }
+
+    // If the result is true, `out` has the bytes that the digits say. Otherwise `out` is unchanged.
     ensures value { out.new ≡ (if result then bytes_in_digits hex.now else out.old) }
 {
     match ObjectId::from_hex(hex) {
@@ -27,6 +30,7 @@ pub extern "C" fn gix_id_read(out: &mut [u8; 20], hex: &[u8]) -> bool
 /// Writes the 40 hex digits of an id in lower case, and a zero after them.
 #[unsafe(no_mangle)]
 pub extern "C" fn gix_id_write(out: &mut [u8; 41], id: &[u8; 20])
+    // `out` has the 40 hex digits of `id` in lower case, and a zero after them.
     ensures { out.new ≡ id_text (id_of id.now) ++ 0 ∷ [] }
 {
     let id = ObjectId(*id);

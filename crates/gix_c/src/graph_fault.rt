@@ -9,6 +9,8 @@ use gix_revision::commit_graph::CommitGraph;
 /// they are well-formed.
 #[unsafe(no_mangle)]
 pub extern "C" fn gix_graph_fault(bytes: &[u8]) -> u32
+    // If the result is 0, the bytes are a well-formed commit-graph file. Otherwise the result is
+    // the number, from 1 to 20, of a fault that the bytes have.
     ensures { IsGraphFault bytes.now result }
 {
     match CommitGraph::open(bytes) {

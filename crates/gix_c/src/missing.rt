@@ -25,14 +25,29 @@ pub extern "C" fn gix_history_missing(
     out: &mut [[u8; 20]],
     count: &mut usize,
 ) -> i32
+    // If the noted parents are right: after `OK`, the missing parents greater than the first id of
+    // `after`, if it has one, replace the front of `out`, as many as fit, each once, by rising id.
+    // `count` is how many are written.
     ensures page { IsNoted history.old → ByCode result
         (HasMissing (commits_of history.old) (option_map id_of (slice_get after.now 0))
         out.old out.new count.new) ⊥ ⊤ }
+
+    // The code is `OK` or `OUT_OF_MEMORY`. After an error, `out` and `count` are unchanged.
     ensures refused { ByCode result ⊤ ⊥
         ((result ≡ OUT_OF_MEMORY) × (out.new ≡ out.old) × (count.new ≡ count.old)) }
+
+    // Also after an error, the commits of the history are unchanged.
     ensures commits { commits_of history.new ≡ commits_of history.old }
+
+    // If the noted parents are right, they stay so, also after an error. They are right if each is
+    // the parent of a commit, and each missing parent is among them.
     ensures noted { IsNoted history.old → IsNoted history.new }
+
+    // Also after an error, ref names and the ids of abbreviated object names are unchanged.
     ensures table { history.new.value.table ≡ history.old.value.table }
+
+    // Also after an error, the extent is unchanged: the history is complete or partial as before,
+    // with the same wanted commit.
     ensures extent { history.new.value.extent ≡ history.old.value.extent }
 {
     let after = after.first().map(|id| ObjectId(*id));

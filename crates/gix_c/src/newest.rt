@@ -25,13 +25,29 @@ pub extern "C" fn gix_history_newest_first(
     count: &mut usize,
 ) -> i32
     ghost beyond: { Commits }
+    // After `OK`, `count` is how many different ones of `ids` the whole history has. They replace
+    // the front of `out`, as many as fit, each once, by falling generation number, falling date and
+    // rising id.
     ensures newest { ByCode result
         (HasNewestFirst (whole_of history.old beyond) (map id_of ids.now) out.old out.new count.new) ⊥ ⊤ }
+
+    // The code is `OK`, `OUT_OF_MEMORY` or, in a partial history only, `WANTS`. After `WANTS`, the
+    // wanted commit is one that was not added. After `OUT_OF_MEMORY`, the extent is unchanged.
+    // After an error, so are `out` and `count`.
     ensures refused { ByCode result ⊤ ⊥ (IsUnanswered result history.old.value history.new.value
         × (out.new ≡ out.old) × (count.new ≡ count.old)) }
+
+    // After a success, the extent is unchanged: the history is complete or partial as before, with
+    // the same wanted commit.
     ensures extent { ByCode result (history.new.value.extent ≡ history.old.value.extent) ⊥ ⊤ }
+
+    // Also after an error, the commits of the history are unchanged.
     ensures commits { commits_of history.new ≡ commits_of history.old }
+
+    // Also after an error, the list of noted parents is unchanged.
     ensures named { history.new.value.named ≡ history.old.value.named }
+
+    // Also after an error, ref names and the ids of abbreviated object names are unchanged.
     ensures table { history.new.value.table ≡ history.old.value.table }
 {
     let Ok(ids) = ids_of(alloc, ids) else {

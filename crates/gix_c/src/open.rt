@@ -22,20 +22,32 @@ use std::alloc::Global;
 /// What `*out` owned before is not freed.
 #[unsafe(no_mangle)]
 pub extern "C" fn gix_history_open(alloc: Global, bytes: &[u8], seed: u64, out: &mut Place) -> i32
+    // After `OK`, the file is well-formed with ordered levels. `out` has a complete history of
+    // exactly its commits, right noted parents, no ref names, and a graph that holds nothing.
+    // Abbreviated object names stand for exactly those commits. After an error, `out` is unchanged.
     ensures opened { ByCode result (IsOpened bytes.now out.new.value) ⊥ (out.new ≡ out.old) }
 
-    // The premises of merge bases.
+    // After `OK`, the history of the file is acyclic and has ordered generations.
     ensures premises { ByCode result
         (IsAcyclic (history_in bytes.now) × GenerationsNeverRise (history_in bytes.now)) ⊥ ⊤ }
 
-    // The premises of merge bases with newer commits, if these meet theirs.
+    // After `OK`: if newer commits are acyclic, the file's commits followed by them are acyclic.
     ensures acyclic { ByCode result ((newer : Commits)
         → IsAcyclic newer → IsAcyclic (history_in bytes.now ++ newer)) ⊥ ⊤ }
+
+    // After `OK`: if newer commits have no generation numbers, or infinity, the file's commits
+    // followed by them have ordered generations.
     ensures never_rise { ByCode result ((newer : Commits)
         → HasNoGenerations newer → GenerationsNeverRise (history_in bytes.now ++ newer)) ⊥ ⊤ }
 
+    // The code is `NO_GRAPH` only if the bytes are not a well-formed commit-graph file.
     ensures no_graph { result ≡ NO_GRAPH → ¬ IsCommitGraph bytes.now }
+
+    // The code is `NO_LEVELS` only if the file is well-formed, and some commit has no level, or a
+    // level that is not greater than that of each parent.
     ensures no_levels { result ≡ NO_LEVELS → IsCommitGraph bytes.now × (¬ LevelsFall bytes.now) }
+
+    // The code is `OK`, `NO_GRAPH`, `NO_LEVELS` or `OUT_OF_MEMORY`.
     ensures refused { ByCode result ⊤ ⊥
         ((result ≡ NO_GRAPH) ⊎ ((result ≡ NO_LEVELS) ⊎ (result ≡ OUT_OF_MEMORY))) }
 {

@@ -29,22 +29,35 @@ pub extern "C" fn gix_history_open_chain(
     seed: u64,
     out: &mut Place,
 ) -> i32
+    // After `OK`, the files are a chain with falling levels. `out` has a complete history of
+    // exactly their commits, right noted parents, no ref names, and a graph that holds nothing.
+    // Abbreviated object names stand for exactly those commits. After an error, `out` is unchanged.
     ensures opened { ByCode result
         (IsChainOpened (bytes_of files.now) out.new.value) ⊥ (out.new ≡ out.old) }
 
-    // The premises of merge bases.
+    // After `OK`, the history of the chain is acyclic and has ordered generations.
     ensures premises { ByCode result (IsAcyclic (chain_in (bytes_of files.now))
         × GenerationsNeverRise (chain_in (bytes_of files.now))) ⊥ ⊤ }
 
-    // The premises of merge bases with newer commits, if these meet theirs.
+    // After `OK`: if newer commits are acyclic, the chain's commits followed by them are acyclic.
     ensures acyclic { ByCode result ((newer : Commits)
         → IsAcyclic newer → IsAcyclic (chain_in (bytes_of files.now) ++ newer)) ⊥ ⊤ }
+
+    // After `OK`: if newer commits have no generation numbers, or infinity, the chain's commits
+    // followed by them have ordered generations.
     ensures never_rise { ByCode result ((newer : Commits) → HasNoGenerations newer
         → GenerationsNeverRise (chain_in (bytes_of files.now) ++ newer)) ⊥ ⊤ }
 
+    // The code is `NO_GRAPH` only if the files are not a chain.
     ensures no_graph { result ≡ NO_GRAPH → ¬ IsChain (bytes_of files.now) }
+
+    // The code is `NO_LEVELS` only if the lowest file is well-formed, and some commit has no level,
+    // or a parent that is not a commit of the files with a lesser level. The files need not be a
+    // chain then.
     ensures no_levels { result ≡ NO_LEVELS
         → HasLowest (bytes_of files.now) × (¬ ChainFalls (bytes_of files.now)) }
+
+    // The code is `OK`, `NO_GRAPH`, `NO_LEVELS` or `OUT_OF_MEMORY`.
     ensures refused { ByCode result ⊤ ⊥
         ((result ≡ NO_GRAPH) ⊎ ((result ≡ NO_LEVELS) ⊎ (result ≡ OUT_OF_MEMORY))) }
 {

@@ -36,18 +36,34 @@ pub extern "C" fn gix_history_resolve(
     fault: &mut FaultPlace,
 ) -> i32
     ghost beyond: { Commits }
+    // After `OK`, `out` is what `text` means in the whole history, abbreviated ids first. After 100
+    // + n, `text` has fault n, and `fault` says n and its last place. Errors are `OUT_OF_MEMORY`,
+    // which keeps the extent, and `WANTS` of a partial history, which notes a commit not added.
     ensures spec { ByFault result
         (HasSpec (Resolved text.now (record { seconds = seconds; offset = offset })
         (known_in history.old.value) (whole_of history.old beyond)) out.new)
         (HasFault (Resolved text.now (record { seconds = seconds; offset = offset })
         (known_in history.old.value) (whole_of history.old beyond)) text.now fault.new result)
         (IsUnanswered result history.old.value history.new.value) }
+
+    // Unless the code is `OK`, `out` is unchanged.
     ensures kept { ByFault result ⊤ (out.new ≡ out.old) (out.new ≡ out.old) }
+
+    // Unless the code is that of a fault, `fault` is unchanged.
     ensures faultless { ByFault result (fault.new ≡ fault.old) ⊤ (fault.new ≡ fault.old) }
+
+    // After a success or a fault, the extent is unchanged: the history is complete or partial as
+    // before, with the same wanted commit.
     ensures extent { ByFault result (history.new.value.extent ≡ history.old.value.extent)
         (history.new.value.extent ≡ history.old.value.extent) ⊤ }
+
+    // Also after an error, the commits of the history are unchanged.
     ensures commits { commits_of history.new ≡ commits_of history.old }
+
+    // Also after an error, the list of noted parents is unchanged.
     ensures named { history.new.value.named ≡ history.old.value.named }
+
+    // Also after an error, ref names and the ids of abbreviated object names are unchanged.
     ensures table { history.new.value.table ≡ history.old.value.table }
 {
     let now = Time { seconds, offset };
@@ -79,18 +95,34 @@ pub extern "C" fn gix_history_rev_parse(
     fault: &mut FaultPlace,
 ) -> i32
     ghost beyond: { Commits }
+    // After `OK`, `out` is what `text` means in the whole history, ref names first. After 100 + n,
+    // `text` has fault n, and `fault` says n and its last place. Errors are `OUT_OF_MEMORY`, which
+    // keeps the extent, and `WANTS` of a partial history, which notes a commit not added.
     ensures spec { ByFault result
         (HasSpec (RevParsed text.now (record { seconds = seconds; offset = offset })
         (known_in history.old.value) (whole_of history.old beyond)) out.new)
         (HasFault (RevParsed text.now (record { seconds = seconds; offset = offset })
         (known_in history.old.value) (whole_of history.old beyond)) text.now fault.new result)
         (IsUnanswered result history.old.value history.new.value) }
+
+    // Unless the code is `OK`, `out` is unchanged.
     ensures kept { ByFault result ⊤ (out.new ≡ out.old) (out.new ≡ out.old) }
+
+    // Unless the code is that of a fault, `fault` is unchanged.
     ensures faultless { ByFault result (fault.new ≡ fault.old) ⊤ (fault.new ≡ fault.old) }
+
+    // After a success or a fault, the extent is unchanged: the history is complete or partial as
+    // before, with the same wanted commit.
     ensures extent { ByFault result (history.new.value.extent ≡ history.old.value.extent)
         (history.new.value.extent ≡ history.old.value.extent) ⊤ }
+
+    // Also after an error, the commits of the history are unchanged.
     ensures commits { commits_of history.new ≡ commits_of history.old }
+
+    // Also after an error, the list of noted parents is unchanged.
     ensures named { history.new.value.named ≡ history.old.value.named }
+
+    // Also after an error, ref names and the ids of abbreviated object names are unchanged.
     ensures table { history.new.value.table ≡ history.old.value.table }
 {
     let now = Time { seconds, offset };
@@ -121,16 +153,36 @@ pub extern "C" fn gix_history_list(
     count: &mut usize,
 ) -> i32
     ghost beyond: { Commits }
+    // After `OK`, the commits that the set means in the whole history, greater than the first id of
+    // `after`, if it has one, replace the front of `out`, as many as fit, each once, by rising id.
+    // `count` is how many are written.
     ensures page { ByCode result (HasPage (whole_of history.old beyond) span.now
         (option_map id_of (slice_get after.now 0)) out.old out.new count.new) ⊥ ⊤ }
+
+    // After an error, `out` and `count` are unchanged.
     ensures unwritten { ByCode result ⊤ ⊤ ((out.new ≡ out.old) × (count.new ≡ count.old)) }
+
+    // The code is `OK`, `NO_KIND`, `OUT_OF_MEMORY` or, in a partial history only, `WANTS`. After
+    // `WANTS`, the wanted commit is one that was not added. After `OUT_OF_MEMORY`, the extent is
+    // unchanged.
     ensures refused { ByCode result ⊤ ⊥
         ((result ≡ NO_KIND) ⊎ IsUnanswered result history.old.value history.new.value) }
+
+    // After a success or `NO_KIND`, the extent is unchanged: the history is complete or partial as
+    // before, with the same wanted commit.
     ensures extent { ByCode result (history.new.value.extent ≡ history.old.value.extent) ⊥
         (result ≡ NO_KIND → history.new.value.extent ≡ history.old.value.extent) }
+
+    // The code is `NO_KIND` only if the kind of the set is not one of the six.
     ensures kind { result ≡ NO_KIND → spec_at span.now ≡ None }
+
+    // Also after an error, the commits of the history are unchanged.
     ensures commits { commits_of history.new ≡ commits_of history.old }
+
+    // Also after an error, the list of noted parents is unchanged.
     ensures named { history.new.value.named ≡ history.old.value.named }
+
+    // Also after an error, ref names and the ids of abbreviated object names are unchanged.
     ensures table { history.new.value.table ≡ history.old.value.table }
 {
     let Some(spec) = spec_of(span) else {

@@ -16,6 +16,8 @@ fn dispose(handle: Loose<StockHandle, Global>) {
 #[unsafe(no_mangle)]
 pub unsafe extern "C" fn gix_names_free(alloc: Global, names: *mut NamesHandle)
     ghost value: { StockHandle }
+    // Unless the pointer is null, the caller hands over the handle there, with all that it owns,
+    // and the right to free it.
     requires* { sem 𝓛 (owns_stock_unless_null alloc names value) }
 {
     if names.is_null() {
@@ -28,6 +30,8 @@ pub unsafe extern "C" fn gix_names_free(alloc: Global, names: *mut NamesHandle)
 #[unsafe(no_mangle)]
 pub unsafe extern "C" fn gix_ids_free(alloc: Global, ids: *mut IdsHandle)
     ghost value: { StockHandle }
+    // Unless the pointer is null, the caller hands over the handle there, with all that it owns,
+    // and the right to free it.
     requires* { sem 𝓛 (owns_stock_unless_null alloc ids value) }
 {
     if ids.is_null() {

@@ -9,6 +9,7 @@ const VERSION_NUMBER: u32 = 900;
 /// Returns the version of the library as a number.
 #[unsafe(no_mangle)]
 pub extern "C" fn gix_version() -> u32
+    // The result is 900.
     ensures { result ≡ 900 }
 {
     VERSION_NUMBER

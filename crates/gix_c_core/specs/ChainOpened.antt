@@ -33,8 +33,8 @@ pub record IsMadeOver (h : Commits) (v : History) : Type 0 where
   pub ids : (id : ObjectId) → is_one_of v.table.ids.keys id ≡ is_some (entry_at h id)
   pub extent : v.extent ≡ Complete
 
--- There is a handle, and its history is that of a chain of commit-graph files in which each commit
--- has a level and each of its parents a lesser one.
+-- There is a handle, and its history is that of a chain of commit-graph files in which each parent
+-- has a lower level than its child.
 pub record IsChainOpened (files : List (List ℕ)) (o : Option Handle) : Type 0 where
   pub chain : IsChain files
   pub fall : ChainFalls files
