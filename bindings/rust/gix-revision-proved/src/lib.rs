@@ -39,6 +39,11 @@
 //! # Ok::<(), gix_revision_proved::Error>(())
 //! ```
 
+/// Compiles the examples of the README.
+#[cfg(doctest)]
+#[doc = include_str!("../README.md")]
+struct Readme;
+
 mod repository;
 
 pub use repository::{AskError, DescribeOptions, ListOptions, Repository};
