@@ -221,7 +221,7 @@ def texts_over(*revisions: str) -> list[str]:
 
 
 def compare_specs(place: Repository, texts: list[str]) -> None:
-    """Compares `spec` lines with `git rev-parse`: what git reads from a text and from the answer."""
+    """Compares `spec` lines with `git rev-parse`, which reads both the text and the answer."""
     answers = revtool(from_git(place, "--refs"), [f"spec {it}" for it in texts], may_refuse=True)
     said = [it.removeprefix("spec ") for it in answers]
     found = ["refused" if it.startswith("refused P") else read_by_git(place, it) for it in said]

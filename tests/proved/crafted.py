@@ -831,14 +831,59 @@ def graphs(room: Room) -> list[Command]:
     path = cut.path + b"/.git/objects/info/commit-graph"
     os.chmod(path, 0o644)
     os.truncate(path, os.path.getsize(path) // 2)
-    for place in (broken, cut):
+    # git ends at a folder in place of the file.
+    folder = room.copy(base, "with a folder")
+    folder.twin = base.path
+    os.makedirs(folder.path + b"/.git/objects/info/commit-graph")
+    for place in (broken, cut, folder):
         commands += common(place, *WHOLE)
     # A folder whose name is not UTF-8, and its subfolder.
     latin = filed(room, base, b"caf\xe9")
     latin.may_be_refused = True
     os.makedirs(latin.path + b"/b\xfe/c")
     commands += common(latin, *WHOLE) + common(latin, folder=latin.path + b"/b\xfe/c")
-    return commands + late(room)
+    return commands + beside(room, base) + tall(room) + late(room)
+
+
+def beside(room: Room, base: Repository) -> list[Command]:
+    """Commit-graph files that git does not use, that of an alternate, and one of one commit."""
+    whole = filed(room, base, "with a file of all")
+    places = [room.copy(whole, f"with a file and {it}")
+              for it in ("a setting", "a graft", "a replacement")]
+    set_off, grafted, replaced = places
+    set_off.git("config", "core.commitGraph", "false")
+    grafted.write(".git/info/grafts", f"{base.ids[20]} {base.ids[0]}\n")
+    replaced.git("replace", base.ids[20], base.ids[0])
+    shared = Repository(room.path("with an alternate's file"), base.ids, base.names)
+    whole.git("clone", "-q", "--bare", "--shared", ".", shared.path)
+    single = one_line(room, "one", 1)
+    commands = rows(filed(room, single, "one with a file"), "merge-base --all HEAD HEAD",
+                    "rev-parse HEAD", "rev-list HEAD", "rev-parse HEAD^", is_strict=True)
+    for place in (*places, shared):
+        commands += common(place, *WHOLE)
+    return commands
+
+
+def tall(room: Room) -> list[Command]:
+    """70,000 commits on ten lines, whose positions in a commit-graph file take more than 16 bits."""
+    made = room.init("tall")
+    stream = []
+    for n in range(1, 70_001):
+        stream += [f"commit refs/heads/line-{n % 10}", f"mark :{n}",
+                   f"committer a <a@example.org> {1_000_000_000 + n} +0000", "data 0"]
+        stream += [f"from :{max(1, n - 10)}"] if n > 1 else []
+        stream += [f"merge :{n - 5}"] if n > 11 and n % 10 == 3 else []
+        stream.append("")
+    made.git("fast-import", "--quiet", data="\n".join(stream).encode())
+    made.git("commit-graph", "write", "--reachable")
+    ids = made.git("rev-list", "--all").split("\n")[::701]
+    commands = []
+    for one, other, third in zip(ids, ids[37:] + ids, ids[63:] + ids):
+        commands += rows(made, f"merge-base --all {one} {other}", f"rev-parse {one}~3^2",
+                         f"merge-base --is-ancestor {other} {one}", f"rev-parse {one}...{other}",
+                         f"merge-base --octopus {one} {other} {third}",
+                         f"rev-list --count {other}..{one}", is_strict=True)
+    return commands[::7]
 
 
 def late(room: Room) -> list[Command]:
