@@ -45,11 +45,11 @@ class Said:
 
     def messages(self) -> list[bytes]:
         """Returns what is said of names and of the end, each line once: git may look a name up
-        again, and say the same. Advice, and what git says of a commit-graph that it leaves and of
-        tags that are in a reflog, are not compared."""
+        again, and say the same. Advice, and what git says of a commit-graph that it leaves, of tags
+        that are in a reflog and of settings that no answer depends on, are not compared."""
         fronts = (b"fatal: ", b"error: ", b"warning: ", b"hint: The candidates", b"hint:   ")
         lines = [it for it in self.err.split(b"\n") if it.startswith(fronts)]
-        left_out = (b"commit-graph", b"improper chunk", b" not a commit")
+        left_out = (b"commit-graph", b"improper chunk", b" not a commit", b"remote shorthand")
         return list(dict.fromkeys(it for it in lines if not any(word in it for word in left_out)))
 
 
