@@ -161,7 +161,7 @@ impl Exn {
         }
     }
 
-    // Returns the refusals that led to it, and drops the rest.
+    /// Returns the refusals that led to it, and drops the rest.
     fn into_causes(self) -> Vec<Exn>
         ensures causes { result.items ≡ causes_of self }
         ensures count { refusals_among result.items + 1 ≡ refusals_in self }
@@ -176,7 +176,7 @@ impl Exn {
     }
 }
 
-// Drops the first refusal, and returns those that led to it with the others. Allocates nothing.
+/// Drops the first refusal, and returns those that led to it with the others. Allocates nothing.
 fn without_one(mut last: Exn, mut others: Vec<Exn>) -> Vec<Exn>
     ensures { refusals_among result.items + 1
         ≡ refusals_in last + refusals_among others.items }
@@ -197,7 +197,7 @@ fn without_one(mut last: Exn, mut others: Vec<Exn>) -> Vec<Exn>
 }
 
 impl Drop for Exn {
-    // Drops in a loop, so that the stack does not grow with the causes.
+    /// Drops in a loop, so that the stack does not grow with the causes.
     fn drop(self) {
         let Exn {
             message: _,

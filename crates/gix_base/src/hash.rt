@@ -119,7 +119,7 @@ impl ObjectId {
         count
     }
 
-    // Returns the 40 digits.
+    /// Returns the 40 digits.
     fn digits(&self) -> [u8; 40]
         ensures { result ≡ id_text self.now }
     {
@@ -139,7 +139,7 @@ impl fmt::Display for ObjectId {
     }
 }
 
-// Fills up the digits with zeros.
+/// Fills up the digits with zeros.
 fn fill_up(text: &[u8]) -> [u8; 40]
     requires { length text.now ≤ 40 }
     ensures value { result ≡ padded text.now }

@@ -114,7 +114,7 @@ pub fn is_id(id: &ObjectId)
     are_bytes(&id.0);
 }
 
-// Each item of a slice of bytes is a byte.
+/// Each item of a slice of bytes is a byte.
 fn are_bytes(bytes: &[u8])
     ensures { IsBytes bytes.now }
 {}

@@ -83,7 +83,7 @@ impl From<AllocError> for ParseError {
     }
 }
 
-// Returns whether git reads the front of `text` as a parent line.
+/// Returns whether git reads the front of `text` as a parent line.
 #[tactic(auto, unfolding(crate::specs::CommitForm::is_parent))]
 fn is_parent(text: &[u8]) -> bool
     ensures { result ≡ is_parent text.now }
@@ -91,7 +91,7 @@ fn is_parent(text: &[u8]) -> bool
     47 < text.len() && begins(text, b"parent ")
 }
 
-// Returns the parent in the line at the front of `text`; `None` if the line is malformed.
+/// Returns the parent in the line at the front of `text`; `None` if the line is malformed.
 fn parent_id(text: &[u8], tree: ObjectId) -> Option<ObjectId>
     ensures { MatchOption result (¬ IsParent tree text.now)
         (λ id. IsParent tree text.now × (id ≡ id_at text.now 7)) }
@@ -100,7 +100,7 @@ fn parent_id(text: &[u8], tree: ObjectId) -> Option<ObjectId>
     if id == tree { None } else { Some(id) }
 }
 
-// Adds an id to a list.
+/// Adds an id to a list.
 fn add<A: Allocator>(ids: &mut Vec<ObjectId, A>, id: ObjectId) -> Result<(), AllocError>
     ensures { OnOk result (ids.new.items ≡ ids.old.items ++ id ∷ []) }
 {
@@ -108,7 +108,7 @@ fn add<A: Allocator>(ids: &mut Vec<ObjectId, A>, id: ObjectId) -> Result<(), All
     Ok(())
 }
 
-// Returns the parents in the lines at the front of `text`, and the bytes after these lines.
+/// Returns the parents in the lines at the front of `text`, and the bytes after these lines.
 fn parents<A: Allocator>(
     alloc: A,
     text: &[u8],
@@ -129,7 +129,7 @@ fn parents<A: Allocator>(
     Ok((ids, rest))
 }
 
-// Returns the date in the committer's line, or 0 if `text` does not begin with one.
+/// Returns the date in the committer's line, or 0 if `text` does not begin with one.
 #[tactic(auto, unfolding(crate::specs::CommitTime::committed_at))]
 fn committed(text: &[u8]) -> u64
     ensures { result ≡ committed_at text.now }
@@ -141,7 +141,7 @@ fn committed(text: &[u8]) -> u64
     }
 }
 
-// Returns the time that git reads from the bytes after the parents' lines.
+/// Returns the time that git reads from the bytes after the parents' lines.
 #[tactic(auto, unfolding(crate::specs::CommitTime::seconds_at))]
 fn seconds(text: &[u8]) -> u64
     ensures { result ≡ seconds_at text.now }
@@ -153,7 +153,7 @@ fn seconds(text: &[u8]) -> u64
     }
 }
 
-// Returns that time, if an `i64` holds it.
+/// Returns that time, if an `i64` holds it.
 fn time(text: &[u8]) -> Option<i64>
     ensures { SomeIff result (seconds_at text.now < 2 ^ 63) (pos (seconds_at text.now)) }
 {

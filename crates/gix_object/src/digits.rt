@@ -6,14 +6,14 @@ ghost use Rattle.gix_object.specs.CommitTime.{is_space, without_space, number_of
 
 use crate::bytes::after;
 
-// Returns whether a byte is white space.
+/// Returns whether a byte is white space.
 fn is_space(byte: u8) -> bool
     ensures { result ≡ is_space byte }
 {
     byte == b' ' || (9 <= byte && byte <= 13)
 }
 
-// Returns how many bytes of white space `text` begins with.
+/// Returns how many bytes of white space `text` begins with.
 fn space_length(text: &[u8]) -> usize
     ensures { result ≡ prefix_len is_space text.now }
 {
@@ -25,7 +25,7 @@ fn space_length(text: &[u8]) -> usize
     text.len()
 }
 
-// Returns `text` without the white space at its front.
+/// Returns `text` without the white space at its front.
 #[tactic(auto, unfolding(crate::specs::CommitTime::without_space))]
 fn without_space(text: &[u8]) -> &[u8]
     ensures { result.now ≡ without_space text.now }
@@ -38,7 +38,7 @@ fn without_space(text: &[u8]) -> &[u8]
     }
 }
 
-// Returns `number` with one more digit, if it fits into 64 bits.
+/// Returns `number` with one more digit, if it fits into 64 bits.
 fn with_digit(number: u64, byte: u8) -> Option<u64>
     ensures { SomeIff result (number * 10 + (byte - 48) < 2 ^ 64) (number * 10 + (byte - 48)) }
 {
@@ -65,14 +65,14 @@ pub(crate) fn number(text: &[u8]) -> Option<u64>
     Some(number)
 }
 
-// Returns that number, or the greatest `u64` if it is greater.
+/// Returns that number, or the greatest `u64` if it is greater.
 fn capped(text: &[u8]) -> u64
     ensures { result ≡ capped (number_of text.now) }
 {
     number(text).unwrap_or(u64::MAX)
 }
 
-// Returns 2^64 less that number, modulo 2^64, or the greatest `u64` if it is greater.
+/// Returns 2^64 less that number, modulo 2^64, or the greatest `u64` if it is greater.
 fn negated(text: &[u8]) -> u64
     ensures { result ≡ negated (number_of text.now) }
 {
@@ -82,7 +82,7 @@ fn negated(text: &[u8]) -> u64
     }
 }
 
-// Returns the number that `text` begins with, which may have a sign.
+/// Returns the number that `text` begins with, which may have a sign.
 #[tactic(auto, unfolding(crate::specs::CommitTime::signed_at))]
 fn signed(text: &[u8]) -> u64
     ensures { result ≡ signed_at text.now }

@@ -23,14 +23,14 @@ pub struct Header {
     pub len: usize,
 }
 
-// Returns whether `text` is `number` as git writes it.
+/// Returns whether `text` is `number` as git writes it.
 fn is_number(text: &[u8], number: u64) -> bool
     ensures { IsTrue result ↔ (text.now ≡ decimal number) }
 {
     text == Buffer::new().format(number).as_bytes()
 }
 
-// Returns the number that `text` is, as git writes it.
+/// Returns the number that `text` is, as git writes it.
 fn size(text: &[u8]) -> Option<u64>
     ensures { MatchOption result ((n : ℕ) → n < 2 ^ 64 → text.now ≢ decimal n)
         (λ n. (n < 2 ^ 64) × (text.now ≡ decimal n)) }
@@ -45,7 +45,7 @@ fn size(text: &[u8]) -> Option<u64>
     }
 }
 
-// Returns the kind and the size that `text` is, as a header has them.
+/// Returns the kind and the size that `text` is, as a header has them.
 fn kind_and_size(text: &[u8]) -> Option<(Kind, u64)>
     ensures { MatchOption result
         ((kind : Kind) → (n : ℕ) → n < 2 ^ 64 → text.now ≢ kind_and_size kind n)

@@ -54,7 +54,7 @@ impl fmt::Display for ParseError {
     }
 }
 
-// Returns the object that the first line names.
+/// Returns the object that the first line names.
 fn object(text: &[u8]) -> Option<ObjectId>
     ensures { MatchOption result (¬ HasObject text.now)
         (λ id. HasObject text.now × (id ≡ id_at text.now 7)) }
@@ -65,14 +65,14 @@ fn object(text: &[u8]) -> Option<ObjectId>
     line_id(text, b"object ")
 }
 
-// Returns the bytes before the first byte 0, or all bytes if there is none.
+/// Returns the bytes before the first byte 0, or all bytes if there is none.
 fn before_nul(text: &[u8]) -> &[u8]
     ensures { result.now ≡ before 0 text.now }
 {
     &text[..place_of(text, 0)]
 }
 
-// Returns the type in the line at the front of `text`; `None` if this is not a type line.
+/// Returns the type in the line at the front of `text`; `None` if this is not a type line.
 fn type_name(text: &[u8]) -> Option<&[u8]>
     ensures { MatchOption result (¬ HasType text.now)
         (λ name. HasType text.now × (name.now ≡ type_of text.now)) }
@@ -88,7 +88,7 @@ fn type_name(text: &[u8]) -> Option<&[u8]>
     }
 }
 
-// Returns the date in the tagger's line, or 0 if `text` does not begin with one.
+/// Returns the date in the tagger's line, or 0 if `text` does not begin with one.
 #[tactic(auto, unfolding(crate::specs::TagForm::tagged_at))]
 fn tagged(text: &[u8]) -> u64
     ensures { result ≡ tagged_at text.now }
@@ -100,7 +100,7 @@ fn tagged(text: &[u8]) -> u64
     }
 }
 
-// Returns the name in the tag line at the front of `text`, and the date after this line.
+/// Returns the name in the tag line at the front of `text`, and the date after this line.
 fn name_and_date(text: &[u8]) -> Option<(&[u8], u64)>
     ensures { MatchOption result (¬ HasName text.now)
         (λ p. HasName text.now × (p.0.now ≡ name_of text.now) × (p.1 ≡ date_in text.now)) }

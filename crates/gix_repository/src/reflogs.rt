@@ -247,12 +247,30 @@ impl<F: Folders + Drop, A: Allocator + Copy> Repository<F, A> {
     /// - `Reference` if a file was not read.
     /// - `OutOfMemory` if an allocation failed.
     pub fn logged_ids(&mut self, text: &[u8]) -> Result<Vec<ObjectId, A>, Refusal> {
-        let Some((id, target)) = self.reference_unwarned(text)? else {
+        let found = if ObjectId::from_hex(text).is_ok() {
+            self.reference_of_digits(text)?
+        } else {
+            self.reference_unwarned(text)?
+        };
+        let Some((id, target)) = found else {
             return Err(Refusal::Unknown);
         };
         match self.references.reflog(&target)? {
             Some(reflog) if !reflog.entries.is_empty() => self.ids_of(&reflog),
             _ => self.only(id),
+        }
+    }
+
+    /// Returns the object and the full name of the reference that is named like an id. In a revision
+    /// such a text means the id, but here git reads it as a reference.
+    fn reference_of_digits(
+        &mut self,
+        digits: &[u8],
+    ) -> Result<Option<(ObjectId, Vec<u8, A>)>, Refusal> {
+        match self.references.short(digits)? {
+            Some(named) if named.is_ambiguous && self.warns => Err(Refusal::Ambiguous),
+            Some(named) => Ok(Some((named.reference.id, named.reference.name))),
+            None => Ok(None),
         }
     }
 

@@ -223,7 +223,7 @@ impl<F: Folders + Drop, A: Allocator + Copy> Revision for Lookup<'_, '_, F, A> {
         }
     }
 
-    // The whole name is looked up first, as in git.
+    /// Refuses each prefix: the whole name is looked up first, as in git.
     fn disambiguate_prefix(
         &mut self,
         prefix: Prefix,
@@ -249,7 +249,7 @@ impl<F: Folders + Drop, A: Allocator + Copy> Revision for Lookup<'_, '_, F, A> {
 }
 
 impl<F: Folders + Drop, A: Allocator + Copy> Kind for Lookup<'_, '_, F, A> {
-    // A single revision has no kind; the ends of ranges are read apart.
+    /// Refuses each kind: a single revision has none, and the ends of ranges are read separately.
     fn kind(&mut self, kind: spec::Kind) -> Result<(), Exn> {
         let refusal = self.unsupported();
         self.answer(Err(refusal))

@@ -17,7 +17,6 @@ pub mod ListMarks
 pub mod ListAfter
 pub mod ListMerges
 pub mod ListMembers
-pub mod TogetherFound
 pub mod ListCounts
 pub mod ListSorted
 pub mod ListTaken

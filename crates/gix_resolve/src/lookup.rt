@@ -5,15 +5,13 @@ ghost use Rattle.std.specs.List.{filter};
 ghost use Rattle.gix_base.specs.declared.hash.ObjectId.{ObjectId};
 ghost use Rattle.gix_revision.specs.Prefix.{prefix_text};
 ghost use Rattle.gix_resolve.specs.Found.{StandOnce};
-ghost use Rattle.gix_resolve.specs.Found.{found_with, found_next, found_in, found_both};
+ghost use Rattle.gix_resolve.specs.Found.{found_with, found_next, found_in};
 ghost use Rattle.gix_resolve.specs.Steps.{begins_with};
 
 mod file;
-mod joined;
 mod set;
 
 use gix_revision::hash::{ObjectId, Prefix};
-pub use joined::JoinedIds;
 use std::cmp::Ordering;
 
 /// Says which of some ids begin with a prefix.
@@ -30,7 +28,7 @@ pub enum Found {
 /// The ids that an abbreviated object name can stand for, none of them twice.
 ///
 /// An implementor names its ids as a ghost member. These types implement it: a set of ids, a
-/// commit-graph file, a borrowed one of each, an optional one, and two together.
+/// commit-graph file, and a borrowed one of each.
 pub trait Ids: Drop {
     ghost ids: { Self → List ObjectId };
 
@@ -54,22 +52,8 @@ impl<I: Ids> Ids for &I {
     }
 }
 
-/// Looks ids up in what is there. `None` has no ids.
-impl<I: Ids> Ids for Option<I> {
-    ghost use Rattle.gix_resolve.specs.Found.{ids_if_some};
-
-    ghost ids = { λ s. ids_if_some I.ids s };
-
-    fn lookup_prefix(&self, prefix: Prefix) -> Found {
-        match self {
-            Some(ids) => ids.lookup_prefix(prefix),
-            None => Found::Nothing,
-        }
-    }
-}
-
 impl Found {
-    // Adds one id, if it begins with the prefix.
+    /// Adds one id, if it begins with the prefix.
     fn with(self, prefix: Prefix, id: ObjectId) -> Found
         ensures { result ≡ found_with (prefix_text prefix) self id }
     {
@@ -82,41 +66,13 @@ impl Found {
         }
     }
 
-    // Adds the next id, if there is one and it begins with the prefix.
+    /// Adds the next id, if there is one and it begins with the prefix.
     pub(crate) fn with_next(self, prefix: Prefix, next: Option<ObjectId>) -> Found
         ensures { result ≡ found_next (prefix_text prefix) self next }
     {
         match next {
             Some(id) => self.with(prefix, id),
             None => self,
-        }
-    }
-
-    // Joins this answer with that for other ids. An id may be in both.
-    pub(crate) fn and(self, other: Found) -> Found
-        ensures { result ≡ found_both self other }
-    {
-        match self {
-            Found::Nothing => other,
-            Found::One(id) => other.beside(id),
-            Found::Many => Found::Many,
-        }
-    }
-
-    // Joins this answer with one id, which may be in it already.
-    fn beside(self, id: ObjectId) -> Found
-        ensures { result ≡ found_both (Found.One id) self }
-    {
-        match self {
-            Found::Nothing => Found::One(id),
-            Found::One(other) => {
-                if other == id {
-                    Found::One(id)
-                } else {
-                    Found::Many
-                }
-            }
-            Found::Many => Found::Many,
         }
     }
 }

@@ -17,7 +17,7 @@ use crate::table::Table;
 use gix_revision::hash::Prefix;
 use std::alloc::Allocator;
 
-// Tests whether a name has `-g` at a place, and something before it.
+/// Tests whether a name has `-g` at a place, and something before it.
 fn is_id_mark(name: &[u8], place: usize) -> bool
     requires { place ≤ length name.now }
     ensures { result ≡ is_id_mark name.now place }
@@ -25,7 +25,7 @@ fn is_id_mark(name: &[u8], place: usize) -> bool
     place > 0 && name[place..].starts_with(b"-g")
 }
 
-// Finds the last place of a name that has `-g`, and something before it.
+/// Finds the last place of a name that has `-g`, and something before it.
 fn last_id_mark(name: &[u8]) -> Option<usize>
     ensures place { result ≡ greatest_below (is_id_mark name.now) (length name.now) }
     ensures within { IfSome result (λ k. k + 2 ≤ length name.now) }
@@ -64,7 +64,7 @@ fn is_whole_id(name: &[u8]) -> bool
     name.len() == 40 && are_hex_digits(name)
 }
 
-// Reads a prefix of 4 to 40 hex digits.
+/// Reads a prefix of 4 to 40 hex digits.
 fn prefix_of(digits: &[u8]) -> Option<Prefix>
     ensures { option_map attempt_by result ≡ prefix_with digits.now None }
 {
@@ -78,7 +78,7 @@ fn prefix_of(digits: &[u8]) -> Option<Prefix>
 }
 
 impl State {
-    // Returns the state after a text that may be an abbreviated object name.
+    /// Returns the state after a text that may be an abbreviated object name.
     fn abbreviated<A: Allocator, I: Ids>(
         self,
         table: &Table<A, I>,
@@ -92,7 +92,7 @@ impl State {
         }
     }
 
-    // Returns the state after a ref name or, if there is no such ref, an abbreviated object name.
+    /// Returns the state after a ref name or, if there is no such ref, an abbreviated object name.
     fn referred<A: Allocator, I: Ids>(
         self,
         table: &Table<A, I>,

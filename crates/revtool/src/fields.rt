@@ -117,8 +117,8 @@ impl<'t> Iterator for Fields<'t> {
     }
 }
 
-// Splits off the first field of a line. Also returns what follows the space after it, if there is
-// one.
+/// Splits off the first field of a line. Also returns what follows the space after it, if there is
+/// one.
 fn split_field<'t>(line: &'t [u8]) -> (&'t [u8], Option<&'t [u8]>)
     // The fields of the line are the first part of the answer, and then those of the second part,
     // if there is one.
@@ -172,7 +172,7 @@ pub(crate) fn read_number(field: &[u8]) -> Option<u32>
     text_of(field)?.parse().ok()
 }
 
-// Returns the text of a field that does not begin with a plus sign, which `parse` would accept.
+/// Returns the text of a field that does not begin with a plus sign, which `parse` would accept.
 fn text_of(field: &[u8]) -> Option<&str>
     ensures some { IsSome result ↔ (IsUtf8 field.now × (slice_index field.now 0 ≢ 43)) }
     ensures value { IfSome result (λ text. text.now ≡ field.now) }

@@ -36,15 +36,15 @@ pub(crate) fn read_all<R: Read, A: Allocator + Copy>(
     Err(Stop::UnreadableInput)
 }
 
-// Allocates a buffer for one read.
+/// Allocates a buffer for one read.
 fn make_room<A: Allocator>(alloc: A) -> Result<Vec<u8, A>, AllocError>
     ensures { IfOk result (λ v. vec_len v ≡ 65536) }
 {
     vec![in alloc; 0u8; READ_SIZE]
 }
 
-// Reads once, and tells whether the input has ended. A read that a signal interrupted counts, and
-// adds nothing.
+/// Reads once, and tells whether the input has ended. A read that a signal interrupted counts, and
+/// adds nothing.
 fn read_once<R: Read, A: Allocator>(
     input: &mut R,
     room: &mut [u8],

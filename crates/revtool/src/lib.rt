@@ -100,7 +100,7 @@ pub fn run_with_seed<R: Read, W: Write, E: Write, A: Allocator + Copy>(
     }
 }
 
-// Answers all commands of the input.
+/// Answers all commands of the input.
 fn answer_input<R: Read, W: Write, A: Allocator + Copy>(
     alloc: A,
     refusals: Global,

@@ -60,7 +60,7 @@ impl Manner {
         self.always && self.candidates() != 0
     }
 
-    // Adds an option. An option that was given before is an error.
+    /// Adds an option. An option that was given before is an error.
     fn add(&mut self, option: &[u8]) -> Result<(), LineFault> {
         if option == b"long".as_slice() {
             return set_once(&mut self.long);
@@ -74,7 +74,7 @@ impl Manner {
         self.add_number(option)
     }
 
-    // Adds an option with a number.
+    /// Adds an option with a number.
     fn add_number(&mut self, option: &[u8]) -> Result<(), LineFault> {
         if let Some(digits) = option.strip_prefix(b"abbrev=") {
             return put_once(&mut self.abbrev, digits, ID_DIGITS);
@@ -86,7 +86,7 @@ impl Manner {
     }
 }
 
-// Sets an option that was not set before.
+/// Sets an option that was not set before.
 fn set_once(option: &mut bool) -> Result<(), LineFault> {
     if *option {
         return Err(LineFault::Unreadable);
@@ -95,7 +95,7 @@ fn set_once(option: &mut bool) -> Result<(), LineFault> {
     Ok(())
 }
 
-// Stores a number, at most `greatest`, if there was none before.
+/// Stores a number, at most `greatest`, if there was none before.
 fn put_once(option: &mut Option<usize>, digits: &[u8], greatest: usize) -> Result<(), LineFault> {
     let Some(number) = read_number(digits) else {
         return Err(LineFault::Unreadable);

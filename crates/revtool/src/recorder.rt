@@ -51,7 +51,7 @@ impl<A: Allocator> Recorder<A> {
         &self.calls
     }
 
-    // Adds a call. If there is no memory for it, no part of it is kept.
+    /// Adds a call. If there is no memory for it, no part of it is kept.
     fn hear(&mut self, call: Call<'_>) -> Result<(), Exn>
         ensures { IsNoRefusal (answer_of result) }
     {
@@ -133,7 +133,7 @@ impl<A: Allocator> Delegate for Recorder<A> {
     }
 }
 
-// Writes a call. Texts are written as their bytes.
+/// Writes a call. Texts are written as their bytes.
 fn print_call<W: Write>(call: Call<'_>, to: &mut W) -> io::Result<()> {
     match call {
         Call::FindRef(name) => print_text("find_ref(", name, to),
@@ -171,7 +171,7 @@ fn print_index<W: Write>(path: &[u8], stage: u8, to: &mut W) -> io::Result<()> {
     print_text("", path, to)
 }
 
-// Writes what comes before a text, the text, and a closing bracket.
+/// Writes what comes before a text, the text, and a closing bracket.
 fn print_text<W: Write>(before: &str, text: &[u8], to: &mut W) -> io::Result<()> {
     to.write_all(before.as_bytes())?;
     to.write_all(text)?;

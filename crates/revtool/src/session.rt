@@ -30,7 +30,7 @@ pub(crate) struct Session<'t, A: Allocator> {
 }
 
 impl<'t, A: Allocator + Copy> Session<'t, A> {
-    // Makes the session of a text without lines.
+    /// Makes the session of a text without lines.
     fn new(alloc: A, seed: Seed) -> Session<'t, A> {
         Session {
             source: MemorySource::with_seed(alloc, seed),
@@ -61,7 +61,7 @@ pub(crate) fn read_lines<'t, A: Allocator + Copy>(
     Ok(session)
 }
 
-// Adds all lines of a text, but not the ids of its commits.
+/// Adds all lines of a text, but not the ids of its commits.
 fn add_lines<'t, A: Allocator + Copy>(
     alloc: A,
     text: &'t [u8],
@@ -82,7 +82,7 @@ fn add_lines<'t, A: Allocator + Copy>(
     Ok(())
 }
 
-// Adds the ids of all commits of a text, whose lines were read before.
+/// Adds the ids of all commits of a text, whose lines were read before.
 fn add_ids<A: Allocator + Copy>(
     text: &[u8],
     ids: &mut BTreeSet<ObjectId, A>,
@@ -95,8 +95,8 @@ fn add_ids<A: Allocator + Copy>(
     Ok(())
 }
 
-// Adds a line. A second commit or name for one id is unreadable, and so is a second ref of one
-// name.
+/// Adds a line. A second commit or name for one id is unreadable, and so is a second ref of one
+/// name.
 fn add_line<'t, A: Allocator + Copy>(
     alloc: A,
     line: &'t [u8],
@@ -111,7 +111,7 @@ fn add_line<'t, A: Allocator + Copy>(
     Ok(())
 }
 
-// Adds a ref.
+/// Adds a ref.
 fn add_ref<A: Allocator + Copy>(
     alloc: A,
     id: ObjectId,
@@ -125,7 +125,7 @@ fn add_ref<A: Allocator + Copy>(
     Ok(())
 }
 
-// Adds a name.
+/// Adds a name.
 fn add_name<'t, A: Allocator + Copy>(
     id: ObjectId,
     name: &'t [u8],

@@ -18,14 +18,14 @@ pub struct Ago {
     pub seconds: u64,
 }
 
-// Tests whether a word is one of two.
+/// Tests whether a word is one of two.
 fn is_either(word: &[u8], one: &[u8], many: &[u8]) -> bool
     ensures { result ≡ (is_word one.now word.now || is_word many.now word.now) }
 {
     is_named(word, one) || is_named(word, many)
 }
 
-// Returns one of the unit that a word names, in the singular or the plural.
+/// Returns one of the unit that a word names, in the singular or the plural.
 #[tactic(auto, unfolding(crate::specs::Ago::unit_of))]
 fn unit_named(word: &[u8]) -> Option<Ago>
     ensures value { result ≡ unit_of word.now }
@@ -51,7 +51,7 @@ fn unit_named(word: &[u8]) -> Option<Ago>
     Some(Ago { months, seconds })
 }
 
-// Adds a number of units to a total, up to the greatest `i64`.
+/// Adds a number of units to a total, up to the greatest `i64`.
 #[tactic(auto, unfolding(crate::specs::AgoSteps::total))]
 fn total(before: u64, number: u64, each: u64) -> Result<u64, DateError>
     ensures { result ≡ total (before + number * each) }
@@ -65,7 +65,7 @@ fn total(before: u64, number: u64, each: u64) -> Result<u64, DateError>
     }
 }
 
-// Adds a number of units. A number that 64 bits cannot hold gives a total out of range, too.
+/// Adds a number of units. A number that 64 bits cannot hold gives a total out of range, too.
 #[tactic(auto, unfolding(crate::specs::AgoSteps::more, crate::specs::AgoSteps::total))]
 fn more(ago: Ago, digits: &[u8], each: Ago) -> Result<Ago, DateError>
     requires { 1 ≤ each.months + each.seconds }
@@ -77,7 +77,7 @@ fn more(ago: Ago, digits: &[u8], each: Ago) -> Result<Ago, DateError>
     Ok(Ago { months, seconds })
 }
 
-// Adds one more count to the sum of the counts before.
+/// Adds one more count to the sum of the counts before.
 #[tactic(auto, unfolding(crate::specs::AgoSteps::with_more))]
 fn with_more(
     sum: Option<Result<Ago, DateError>>,
@@ -97,7 +97,7 @@ fn with_more(
     more(ago, digits, each)
 }
 
-// Adds one more count, if two words are a number and a unit.
+/// Adds one more count, if two words are a number and a unit.
 #[tactic(auto, unfolding(crate::specs::AgoSteps::with_count))]
 fn with_count(
     sum: Option<Result<Ago, DateError>>,

@@ -17,7 +17,7 @@ pub fn epoch_day(date: Date) -> i64
     i64::from(date.to_unix_epoch_day())
 }
 
-// Returns the day number of a date, if the calendar has that date in the years 0 to 9999.
+/// Returns the day number of a date, if the calendar has that date in the years 0 to 9999.
 #[tactic(auto, unfolding(crate::specs::Civil::day_number))]
 fn day_number(year: u64, month: u64, day: u64) -> Result<i64, DateError>
     ensures value { result ≡ day_number year month day }
@@ -45,7 +45,7 @@ pub fn day_at(text: &[u8]) -> Result<i64, DateError>
     day_number(year, month, day)
 }
 
-// Returns the second of the day at a time of day, if there is that time.
+/// Returns the second of the day at a time of day, if there is that time.
 #[tactic(auto, unfolding(crate::specs::Civil::second_of_day))]
 fn second_of_day(hour: u64, minute: u64, second: u64) -> Result<i64, DateError>
     ensures value { result ≡ second_of_day hour minute second }

@@ -11,7 +11,7 @@ use super::offset::offset_at;
 use super::shape::is_shaped;
 use gix_base::date::Time;
 
-// Tests whether a text is a day and a time of day.
+/// Tests whether a text is a day and a time of day.
 fn is_civil(text: &[u8]) -> bool
     ensures value { result ≡ is_day_and_clock text.now }
     ensures len { IsTrue result → length text.now ≡ 19 }
@@ -19,7 +19,7 @@ fn is_civil(text: &[u8]) -> bool
     is_shaped(text, b"0000-00-00T00:00:00") || is_shaped(text, b"0000-00-00 00:00:00")
 }
 
-// Removes a space at the beginning of a text.
+/// Removes a space at the beginning of a text.
 fn after_space(text: &[u8]) -> &[u8]
     ensures { result.now ≡ without_space text.now }
 {
@@ -29,7 +29,7 @@ fn after_space(text: &[u8]) -> &[u8]
     }
 }
 
-// Tests whether a text says the offset of a clock.
+/// Tests whether a text says the offset of a clock.
 #[tactic(auto, unfolding(crate::specs::Iso8601Date::is_zone))]
 fn is_zoned(text: &[u8]) -> bool
     ensures value { result ≡ is_zone text.now }
@@ -42,7 +42,7 @@ fn is_zoned(text: &[u8]) -> bool
         || is_shaped(offset, b"+00:00")
 }
 
-// Returns the offset that such a text says.
+/// Returns the offset that such a text says.
 #[tactic(auto, unfolding(crate::specs::Iso8601Date::zone_of))]
 fn zone(text: &[u8], now: Time) -> Result<i32, DateError>
     requires { (length text.now ≤ 1) ⊎ (5 ≤ length (without_space text.now)) }
@@ -55,7 +55,7 @@ fn zone(text: &[u8], now: Time) -> Result<i32, DateError>
     }
 }
 
-// Returns the time at a second of a day, by a clock at an offset.
+/// Returns the time at a second of a day, by a clock at an offset.
 fn timed_at(day: i64, second: i64, offset: i32) -> Time
     requires day { IsEpochDay day }
     requires second { IsBetween (pos 0) (pos 86_399) second }
@@ -68,7 +68,7 @@ fn timed_at(day: i64, second: i64, offset: i32) -> Time
     }
 }
 
-// Reads a day and a time of day, by a clock at an offset.
+/// Reads a day and a time of day, by a clock at an offset.
 #[tactic(auto, unfolding(crate::specs::Iso8601Date::civil_time))]
 fn civil_time(text: &[u8], now: Time) -> Result<Time, DateError>
     requires long { 19 ≤ length text.now }

@@ -9,7 +9,7 @@ use super::civil::epoch_day;
 use jiff_core::civil::Date;
 use jiff_span::date::add_months;
 
-// Returns a number of months as a step back.
+/// Returns a number of months as a step back.
 fn backward(months: u64) -> i32
     requires { months ≤ 500_000 }
     ensures value { result ≡ neg_ℤ (pos months) }

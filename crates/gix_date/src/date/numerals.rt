@@ -17,7 +17,7 @@ pub fn is_digits(text: &[u8]) -> bool
     !text.is_empty()
 }
 
-// Appends a digit to a number, if 64 bits hold the result.
+/// Appends a digit to a number, if 64 bits hold the result.
 fn with_digit(number: u64, byte: u8) -> Option<u64>
     ensures { SomeIff result (number * 10 + (byte - 48) < 2 ^ 64) (number * 10 + (byte - 48)) }
 {

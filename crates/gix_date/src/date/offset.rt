@@ -6,7 +6,7 @@ ghost use Rattle.std.specs.Prelude.{◌≡◌, ◌≤◌, length};
 use super::DateError;
 use super::numerals::number;
 
-// Returns the seconds of some hours and minutes, ahead of UTC or behind it.
+/// Returns the seconds of some hours and minutes, ahead of UTC or behind it.
 #[tactic(auto, unfolding(crate::specs::Offset::offset_by))]
 fn offset_by(behind: bool, hours: u64, minutes: u64) -> Result<i32, DateError>
     ensures { result ≡ offset_by behind hours minutes }

@@ -10,7 +10,7 @@ use super::seconds::timed;
 use super::shape::is_shaped;
 use gix_base::date::Time;
 
-// Makes the time of the seconds and the offset that two texts have.
+/// Makes the time of the seconds and the offset that two texts have.
 #[tactic(auto, unfolding(crate::specs::RawDate::raw_time))]
 fn raw_time(seconds: &[u8], zone: &[u8]) -> Result<Time, DateError>
     requires { 5 ≤ length zone.now }

@@ -10,7 +10,7 @@ use super::months::months_before;
 use super::seconds::earlier;
 use gix_base::date::Time;
 
-// Returns the seconds a number of months before a moment, at the same time of day by its clock.
+/// Returns the seconds a number of months before a moment, at the same time of day by its clock.
 #[tactic(auto, unfolding(crate::specs::RelativeDate::seconds_before))]
 fn seconds_before(now: Time, months: u64) -> Result<i64, DateError>
     ensures { result ≡ seconds_before now months }
@@ -25,7 +25,7 @@ fn seconds_before(now: Time, months: u64) -> Result<i64, DateError>
     Ok(seconds_at(day, local.rem_euclid(86400), now.offset))
 }
 
-// Returns the time that is so far before a moment.
+/// Returns the time that is so far before a moment.
 #[tactic(auto, unfolding(crate::specs::RelativeDate::time_before))]
 fn time_before(now: Time, ago: Ago) -> Result<Time, DateError>
     ensures { result ≡ time_before now ago }
@@ -34,7 +34,7 @@ fn time_before(now: Time, ago: Ago) -> Result<Time, DateError>
     earlier(start, ago.seconds, now.offset)
 }
 
-// Returns the time that is a sum before a moment, if the sum is in range.
+/// Returns the time that is a sum before a moment, if the sum is in range.
 #[tactic(auto, unfolding(crate::specs::RelativeDate::time_before_sum))]
 fn time_before_sum(now: Time, sum: Result<Ago, DateError>) -> Result<Time, DateError>
     ensures { result ≡ time_before_sum now sum }

@@ -14,7 +14,7 @@ pub fn is_text(bytes: &[u8]) -> bool
     }
 }
 
-// Tests whether a mark of a shape stands for a byte.
+/// Tests whether a mark of a shape stands for a byte.
 fn is_marked(mark: u8, byte: u8) -> bool
     ensures { result ≡ fits mark byte }
 {

@@ -8,7 +8,7 @@ use super::civil::day_at;
 use super::shape::is_shaped;
 use gix_base::date::Time;
 
-// Returns the midnight that begins a day, in UTC.
+/// Returns the midnight that begins a day, in UTC.
 #[tactic(auto, unfolding(crate::specs::ShortDate::midnight_of))]
 fn midnight(text: &[u8]) -> Result<Time, DateError>
     requires { 10 ≤ length text.now }

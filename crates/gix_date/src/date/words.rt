@@ -4,14 +4,14 @@ ghost use Rattle.gix_date.specs.DateWords.{is_gap, word_length, words_from, word
 ghost use Rattle.std.specs.Option.{option_copied};
 ghost use Rattle.std.specs.Prelude.{◌≡◌, ◌<◌, ◌≤◌, ◌∷◌, length, true, IfSome};
 
-// Tests whether a byte separates words.
+/// Tests whether a byte separates words.
 fn is_parting(byte: u8) -> bool
     ensures { result ≡ is_gap byte }
 {
     byte == b' ' || byte == b'.'
 }
 
-// Returns the number of bytes in the first word of a text.
+/// Returns the number of bytes in the first word of a text.
 fn word_len(text: &[u8]) -> usize
     ensures value { result ≡ word_length text.now }
     ensures bound { result ≤ length text.now }
@@ -28,7 +28,7 @@ fn word_len(text: &[u8]) -> usize
     len
 }
 
-// Removes the spaces and dots at the beginning of a text.
+/// Removes the spaces and dots at the beginning of a text.
 #[tactic(auto, unfolding(crate::specs::DateWords::words_from))]
 fn without_gap(text: &[u8]) -> &[u8]
     ensures words { words_of result.now ≡ words_from true text.now }

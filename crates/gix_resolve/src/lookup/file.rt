@@ -16,10 +16,10 @@ use gix_revision::hash::{ObjectId, Prefix};
 use gix_revision::laws::base::{is_id, prefixes_read_back};
 use std::convert::AsSlice;
 
-// Shows that no id before the place of the prefix, filled up with zeros, begins with the prefix.
-//
-// The last id before it is read, because the prover knows only of an id that was read that it has
-// 20 bytes.
+/// Shows that no id before the place of the prefix, filled up with zeros, begins with the prefix.
+///
+/// The last id before it is read, because the prover knows only of an id that was read that it has
+/// 20 bytes.
 fn none_before<B: AsSlice<u8> + Drop>(
     file: &CommitGraph<B>,
     prefix: Prefix,
@@ -39,7 +39,7 @@ fn none_before<B: AsSlice<u8> + Drop>(
     }
 }
 
-// Looks up the ids that begin with the prefix, by the first two from that place on.
+/// Looks up the ids that begin with the prefix, by the first two from that place on.
 fn nearest<B: AsSlice<u8> + Drop>(file: &CommitGraph<B>, prefix: Prefix) -> Found
     ensures found { result ≡ found_in (filter (begins_with (prefix_text prefix)) (ids_in file.now)) }
     ensures once { StandOnce (ids_in file.now) }

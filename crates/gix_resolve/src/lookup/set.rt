@@ -12,10 +12,10 @@ use gix_revision::laws::base::{is_id, prefixes_read_back};
 use std::alloc::Allocator;
 use std::collections::BTreeSet;
 
-// Shows that no id less than the prefix, filled up with zeros, begins with the prefix.
-//
-// The greatest id less than it is read, because the prover knows only of an id that was read that
-// it has 20 bytes.
+/// Shows that no id less than the prefix, filled up with zeros, begins with the prefix.
+///
+/// The greatest id less than it is read, because the prover knows only of an id that was read that
+/// it has 20 bytes.
 fn are_from<A: Allocator>(ids: &BTreeSet<ObjectId, A>, prefix: Prefix, start: ObjectId)
     requires { IsStart (prefix_text prefix) start }
     ensures { AreFrom (prefix_text prefix) start ids.now }
@@ -25,10 +25,10 @@ fn are_from<A: Allocator>(ids: &BTreeSet<ObjectId, A>, prefix: Prefix, start: Ob
     }
 }
 
-// Looks up the ids that begin with the prefix.
-//
-// They are next to each other in the order of ids, from the prefix filled up with zeros on. The
-// first two ids there decide the answer.
+/// Looks up the ids that begin with the prefix.
+///
+/// They are next to each other in the order of ids, from the prefix filled up with zeros on. The
+/// first two ids there decide the answer.
 fn nearest<A: Allocator>(ids: &BTreeSet<ObjectId, A>, prefix: Prefix) -> Found
     ensures found { result ≡ found_in (filter (begins_with (prefix_text prefix)) ids.now.keys) }
     ensures once { StandOnce ids.now.keys }

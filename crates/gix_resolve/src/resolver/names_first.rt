@@ -39,7 +39,7 @@ pub(crate) struct NamesFirst<'a, S: Find, A: Allocator, I: Ids> {
 }
 
 impl<'a, S: Find, A: Allocator + Copy, I: Ids> Resolver<'a, S, A, I> {
-    // Resolves a name in git's own order.
+    /// Resolves a name in git's own order.
     fn call_name(&mut self, name: &[u8]) -> Result<(), Exn>
         ensures { AnswersByNames I.ids S.history S.fault_count
             self.old (find_ref name.now) (answer_of result) self.new }
@@ -48,7 +48,7 @@ impl<'a, S: Find, A: Allocator + Copy, I: Ids> Resolver<'a, S, A, I> {
         answer(self.refusals, &mut self.state, without_source(next))
     }
 
-    // Refuses a prefix. The parser then asks for the name.
+    /// Refuses a prefix. The parser then asks for the name.
     fn pass_prefix(&mut self) -> Result<(), Exn>
         ensures { (digits : List ℕ) (hint : Option Hint) → AnswersByNames I.ids S.history
             S.fault_count self.old (prefix digits hint) (answer_of result) self.new }
@@ -57,7 +57,7 @@ impl<'a, S: Find, A: Allocator + Copy, I: Ids> Resolver<'a, S, A, I> {
         answer(self.refusals, &mut self.state, next)
     }
 
-    // Resolves a peel, such as `^{commit}`.
+    /// Resolves a peel, such as `^{commit}`.
     fn peel_to_commit(&mut self, kind: PeelTo<'_>) -> Result<(), Exn>
         ensures { AnswersByNames I.ids S.history S.fault_count
             self.old (peel (target_of kind.entry)) (answer_of result) self.new }
@@ -127,7 +127,7 @@ impl<S: Find, A: Allocator + Copy, I: Ids> Delegate for NamesFirst<'_, S, A, I> 
     }
 }
 
-// Parses a text with a resolver that has received no call yet, and returns the spec.
+/// Parses a text with a resolver that has received no call yet, and returns the spec.
 fn tell_names<'a, S: Find, A: Allocator + Copy, I: Ids>(
     alloc: A,
     text: &'a [u8],

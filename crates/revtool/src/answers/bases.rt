@@ -84,7 +84,7 @@ pub(super) fn answer_ancestor<S: Find, W: Write, A: Allocator + Copy>(
     Ok(Outcome::Answered)
 }
 
-// Writes the word and the ids by rising id.
+/// Writes the word and the ids by rising id.
 fn print_sorted<W: Write, A: Allocator>(
     word: &str,
     mut ids: Vec<ObjectId, A>,
@@ -128,7 +128,7 @@ fn print_bases<W: Write, A: Allocator>(
     Ok(Outcome::Answered)
 }
 
-// Writes a space before each id.
+/// Writes a space before each id.
 fn print_ids<W: Write>(ids: &[ObjectId], output: &mut W) -> io::Result<()> {
     for id in ids {
         write!(output, " {id}")?;
@@ -136,7 +136,7 @@ fn print_ids<W: Write>(ids: &[ObjectId], output: &mut W) -> io::Result<()> {
     Ok(())
 }
 
-// Writes the word and the number of the error.
+/// Writes the word and the number of the error.
 fn print_refusal<W: Write>(
     word: &str,
     error: merge_base::Error,

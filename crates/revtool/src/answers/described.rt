@@ -13,7 +13,7 @@ use std::io::{self, Write};
 /// The graph of these lines.
 pub(super) type Descriptions<'s, A> = Graph<&'s MemorySource<A>, describe::Flags, A>;
 
-// Describes a commit by the names of the options.
+/// Describes a commit by the names of the options.
 fn described<'t, A: Allocator + Copy>(
     alloc: A,
     commit: &ObjectId,
@@ -47,7 +47,7 @@ pub(super) fn answer_describe<'t, W: Write, A: Allocator + Copy>(
     }
 }
 
-// Writes the name in the chosen format, or the digits if there is no name.
+/// Writes the name in the chosen format, or the digits if there is no name.
 fn print_nearest<W: Write, A: Allocator>(
     word: &str,
     nearest: Nearest<'_, A>,
@@ -68,7 +68,7 @@ fn print_none<W: Write>(word: &str, output: &mut W) -> io::Result<Outcome> {
     Ok(Outcome::Answered)
 }
 
-// Writes the name, with U+FFFD for what is not UTF-8; alone, if no digits are to be printed.
+/// Writes the name, with U+FFFD for what is not UTF-8; alone, if no digits are to be printed.
 fn print_named<W: Write, A: Allocator>(
     word: &str,
     format: &Format<'_, A>,
@@ -81,7 +81,7 @@ fn print_named<W: Write, A: Allocator>(
     Ok(Outcome::Answered)
 }
 
-// Writes the word and the number of the error.
+/// Writes the word and the number of the error.
 fn print_refusal<W: Write>(word: &str, message: Message, output: &mut W) -> io::Result<Outcome> {
     let number = match message {
         Message::ParentsOf(_) => 1,

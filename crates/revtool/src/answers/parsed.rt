@@ -28,7 +28,7 @@ pub(super) fn answer_parse<W: Write, A: Allocator + Copy>(
     print_parsed(recorder.calls(), refusal, output)
 }
 
-// Writes the calls, and the number of the fault that ended them.
+/// Writes the calls, and the number of the fault that ended them.
 fn print_parsed<W: Write>(
     calls: &[u8],
     refusal: Option<u8>,

@@ -28,10 +28,10 @@ use std::alloc::Allocator;
 
 // In this file, `own` is the name of the revision, which may be empty.
 
-// The least number in braces that is a date: seconds since 1970-01-01 00:00:00 UTC.
+/// The least number in braces that is a date: seconds since 1970-01-01 00:00:00 UTC.
 const FIRST_DATE: usize = 100_000_000;
 
-// Returns the reflog entry of that number, or the date that the number means.
+/// Returns the reflog entry of that number, or the date that the number means.
 fn lookup(number: usize) -> ReflogLookup
     requires { number < 2 ^ 63 }
     ensures { result ≡ lookup_of number }
@@ -45,8 +45,8 @@ fn lookup(number: usize) -> ReflogLookup
     })
 }
 
-// Reads a number after a minus sign: the branch that was checked out so many times ago. No name may
-// precede it.
+/// Reads a number after a minus sign: the branch that was checked out so many times ago. No name may
+/// precede it.
 fn branch<'a, A: Allocator>(own: &'a [u8], number: usize, braces: &Braced<'a, A>) -> Found<'a>
     ensures { part_of result ≡ branch_at own.now number (braced_of braces.now) }
 {
@@ -57,7 +57,7 @@ fn branch<'a, A: Allocator>(own: &'a [u8], number: usize, braces: &Braced<'a, A>
     }
 }
 
-// Reads a number in braces.
+/// Reads a number in braces.
 fn numbered<'a, A: Allocator>(own: &'a [u8], number: Signed, braces: &Braced<'a, A>) -> Found<'a>
     requires { FitsIsize number }
     ensures { part_of result ≡ number_at own.now (signed_found number) (braced_of braces.now) }
@@ -73,14 +73,14 @@ fn numbered<'a, A: Allocator>(own: &'a [u8], number: Signed, braces: &Braced<'a,
     }
 }
 
-// Returns the time that a text means as a date, if it is one.
+/// Returns the time that a text means as a date, if it is one.
 fn time_of(text: &[u8], now: Time) -> Option<Time>
     ensures { result ≡ time_of (date_of text.now now) }
 {
     date::parse(text, now).ok()
 }
 
-// Asks for the reflog entry at the time that a text means.
+/// Asks for the reflog entry at the time that a text means.
 fn look_up<'a, D: Delegate>(
     meant: &[u8],
     own: &'a [u8],
@@ -97,7 +97,7 @@ fn look_up<'a, D: Delegate>(
     call_asked(Asked::Date(time), own, raw, context, delegate)
 }
 
-// Reads the text in braces as a date.
+/// Reads the text in braces as a date.
 fn dated<'a, A: Allocator, D: Delegate>(
     own: &'a [u8],
     braces: &Braced<'a, A>,
@@ -115,7 +115,7 @@ fn dated<'a, A: Allocator, D: Delegate>(
     })
 }
 
-// Reads the text in the braces after an `@`.
+/// Reads the text in the braces after an `@`.
 fn inside<'a, A: Allocator, D: Delegate>(
     own: &'a [u8],
     braces: &Braced<'a, A>,
@@ -138,7 +138,7 @@ fn inside<'a, A: Allocator, D: Delegate>(
     read(Part::piece(piece, braces.rest), context, delegate)
 }
 
-// Reads the braces after an `@`, from the opening brace on.
+/// Reads the braces after an `@`, from the opening brace on.
 fn in_braces<'a, A: Allocator, D: Delegate>(
     alloc: A,
     own: &'a [u8],

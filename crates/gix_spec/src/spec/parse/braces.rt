@@ -12,7 +12,7 @@ use super::fault::Fault;
 use std::alloc::{AllocError, Allocator};
 use std::borrow::CowSlice;
 
-// Tests whether a backslash escapes the byte.
+/// Tests whether a backslash escapes the byte.
 fn is_special(byte: u8) -> bool
     ensures { result ≡ is_special byte }
 {
@@ -21,28 +21,28 @@ fn is_special(byte: u8) -> bool
 
 // In this file, `escaping` says that an escape precedes the byte.
 
-// Tests whether the byte is escaped.
+/// Tests whether the byte is escaped.
 fn is_escaped(byte: u8, escaping: bool) -> bool
     ensures { result ≡ (is_special byte && escaping) }
 {
     is_special(byte) && escaping
 }
 
-// Tests whether a byte so far was escaped, or this one is.
+/// Tests whether a byte so far was escaped, or this one is.
 fn escapes_so_far(escapes: bool, byte: u8, escaping: bool) -> bool
     ensures { result ≡ (escapes || (is_special byte && escaping)) }
 {
     escapes || is_escaped(byte, escaping)
 }
 
-// Tests whether the byte is a backslash that may escape the next byte.
+/// Tests whether the byte is a backslash that may escape the next byte.
 fn begins_escape(byte: u8, escaping: bool) -> bool
     ensures { result ≡ ((byte == 92) && not escaping) }
 {
     byte == b'\\' && !escaping
 }
 
-// Returns 1 if the byte is this mark and is not escaped, else 0.
+/// Returns 1 if the byte is this mark and is not escaped, else 0.
 fn counted(byte: u8, mark: u8, escaping: bool) -> usize
     ensures { result ≡ cond ((byte == mark) && not (is_special byte && escaping)) 1 0 }
 {
@@ -60,14 +60,14 @@ pub(crate) fn begins(text: &[u8]) -> bool
     matches!(text, [b'{', ..])
 }
 
-// The place where a pair of braces closes, and whether a byte of the pair is escaped.
+/// The place where a pair of braces closes, and whether a byte of the pair is escaped.
 #[derive(Clone, Copy)]
 struct Close {
     place: usize,
     escapes: bool,
 }
 
-// Finds the place where the pair at the front of a text closes.
+/// Finds the place where the pair at the front of a text closes.
 fn find_close(text: &[u8]) -> Option<Close>
     requires { starts_with brace text.now ≡ true }
     ensures place { IfSome result (λ c. IsClose text.now c.place) }
@@ -92,7 +92,7 @@ fn find_close(text: &[u8]) -> Option<Close>
     None
 }
 
-// Appends the byte, unless it is left out.
+/// Appends the byte, unless it is left out.
 fn push_unless<A: Allocator>(
     left_out: bool,
     byte: u8,
@@ -108,7 +108,7 @@ fn push_unless<A: Allocator>(
     Ok(())
 }
 
-// Copies the first `len` bytes after the opening brace, without the backslashes that escape.
+/// Copies the first `len` bytes after the opening brace, without the backslashes that escape.
 fn without_escapes<A: Allocator>(
     alloc: A,
     text: &[u8],

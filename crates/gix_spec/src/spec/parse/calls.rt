@@ -43,7 +43,7 @@ pub(crate) fn unopened<'a>(why: Unopened, text: &'a [u8], context: &mut Context<
     context.stop(why.error(text))
 }
 
-// Stops the parse because memory ran out.
+/// Stops the parse because memory ran out.
 #[cold]
 fn without_memory(context: &mut Context<'_>) -> Stopped
     ensures { context.new ≡ stopped context.old Error.OutOfMemory }
@@ -51,7 +51,7 @@ fn without_memory(context: &mut Context<'_>) -> Stopped
     context.stop(Error::OutOfMemory)
 }
 
-// Stops the parse because the delegate refused a call that it has to accept.
+/// Stops the parse because the delegate refused a call that it has to accept.
 #[cold]
 fn refused<'a>(
     refusal: Exn,
@@ -73,7 +73,7 @@ fn refused<'a>(
     })
 }
 
-// Stops the parse because the delegate refused a name both as a prefix and as a ref.
+/// Stops the parse because the delegate refused a name both as a prefix and as a ref.
 #[cold]
 fn refused_twice<'a>(first: Exn, second: Exn, whole: &'a [u8], context: &mut Context<'a>) -> Stopped
     ensures { context.new ≡ stopped context.old
@@ -104,7 +104,7 @@ fn demanded<'a>(
     }
 }
 
-// Makes the call for the exclude mark in front of a text.
+/// Makes the call for the exclude mark in front of a text.
 #[inline(always)]
 fn call_exclude<'a, D: Delegate>(context: &mut Context<'a>, delegate: &mut D) -> Result<(), Stopped>
     ensures { Performs D.step (exclude ∷ [])
@@ -115,7 +115,7 @@ fn call_exclude<'a, D: Delegate>(context: &mut Context<'a>, delegate: &mut D) ->
     demanded(delegate.kind(kind), Fault::KindRefused(kind), None, context)
 }
 
-// Makes the call for HEAD, written or implied.
+/// Makes the call for HEAD, written or implied.
 #[inline(always)]
 fn call_head<'a, D: Delegate>(context: &mut Context<'a>, delegate: &mut D) -> Result<(), Stopped>
     ensures { Performs D.step (head ∷ [])
@@ -129,7 +129,7 @@ fn call_head<'a, D: Delegate>(context: &mut Context<'a>, delegate: &mut D) -> Re
     Ok(())
 }
 
-// Makes the call for a name that cannot be an abbreviated object name.
+/// Makes the call for a name that cannot be an abbreviated object name.
 #[inline(always)]
 fn call_reference<'a, D: Delegate>(
     text: &'a [u8],
@@ -148,8 +148,8 @@ fn call_reference<'a, D: Delegate>(
     Ok(())
 }
 
-// Makes the calls for a name that can be an abbreviated object name: first as a prefix, then, if
-// that is refused, as a ref.
+/// Makes the calls for a name that can be an abbreviated object name: first as a prefix, then, if
+/// that is refused, as a ref.
 #[inline(always)]
 fn call_prefix<'a, D: Delegate>(
     text: &'a [u8],
@@ -182,8 +182,8 @@ fn call_prefix<'a, D: Delegate>(
     Err(refused_twice(first, second, whole, context))
 }
 
-// Makes the calls for a name: as a prefix if it can be one, and, if it cannot or is refused, as a
-// ref.
+/// Makes the calls for a name: as a prefix if it can be one, and, if it cannot or is refused, as a
+/// ref.
 #[inline(always)]
 fn call_name<'a, D: Delegate>(
     text: &'a [u8],
@@ -218,7 +218,7 @@ pub(crate) fn call_find<'a, D: Delegate>(
     demanded(answer, Fault::FindRefused, Some(raw), context)
 }
 
-// Makes the call for a path in the index.
+/// Makes the call for a path in the index.
 #[inline(always)]
 fn call_index<'a, D: Delegate>(
     path: &'a [u8],
@@ -234,7 +234,7 @@ fn call_index<'a, D: Delegate>(
     demanded(answer, Fault::IndexRefused(stage), Some(path), context)
 }
 
-// Makes the call for a branch that was checked out before.
+/// Makes the call for a branch that was checked out before.
 #[inline(always)]
 fn call_branch<'a, D: Delegate>(
     number: usize,
@@ -261,7 +261,7 @@ pub(crate) enum Asked {
     Sibling(SiblingBranch),
 }
 
-// Returns the fault for asking this after an accepted prefix, which names no ref.
+/// Returns the fault for asking this after an accepted prefix, which names no ref.
 fn without_name(asked: Asked) -> Fault
     ensures { result ≡ without_name asked }
 {
@@ -271,7 +271,7 @@ fn without_name(asked: Asked) -> Fault
     }
 }
 
-// Makes the call for the reflog entry at the time that the braces `inner` mean, if any.
+/// Makes the call for the reflog entry at the time that the braces `inner` mean, if any.
 fn call_time<'a, D: Delegate>(
     time: Option<Time>,
     inner: &'a [u8],
@@ -317,7 +317,7 @@ pub(crate) fn call_asked<'a, D: Delegate>(
     }
 }
 
-// Makes the call for a step along the history.
+/// Makes the call for a step along the history.
 #[inline(always)]
 fn call_step<'a, D: Delegate>(
     step: Traversal,
@@ -333,7 +333,7 @@ fn call_step<'a, D: Delegate>(
     demanded(answer, Fault::TraverseRefused(step), Some(after), context)
 }
 
-// Makes the call for peeling an object.
+/// Makes the call for peeling an object.
 #[inline(always)]
 fn call_peel<'a, D: Delegate>(
     target: PeelTo<'a>,
@@ -349,7 +349,7 @@ fn call_peel<'a, D: Delegate>(
     demanded(answer, Fault::PeelRefused, Some(after), context)
 }
 
-// Makes the call for a path in the tree of a revision.
+/// Makes the call for a path in the tree of a revision.
 #[inline(always)]
 fn call_path<'a, D: Delegate>(
     path: &'a [u8],
@@ -364,7 +364,7 @@ fn call_path<'a, D: Delegate>(
     demanded(answer, Fault::PeelRefused, Some(path), context)
 }
 
-// Makes the call for a range mark, after which the second revision begins.
+/// Makes the call for a range mark, after which the second revision begins.
 #[inline(always)]
 fn call_range<'a, D: Delegate>(
     kind: Kind,
@@ -381,7 +381,7 @@ fn call_range<'a, D: Delegate>(
     Ok(())
 }
 
-// Makes the calls for `^!` or `^@`.
+/// Makes the calls for `^!` or `^@`.
 #[inline(always)]
 fn call_closer<'a, D: Delegate>(
     kind: Kind,
@@ -399,7 +399,7 @@ fn call_closer<'a, D: Delegate>(
     demanded(delegate.done(), fault, Some(rest), context)
 }
 
-// Repeats the latest accepted call for a name.
+/// Repeats the latest accepted call for a name.
 fn call_again<'a, D: Delegate>(
     after: &'a [u8],
     context: &mut Context<'a>,
@@ -423,7 +423,7 @@ fn call_again<'a, D: Delegate>(
     }
 }
 
-// Makes the calls for `^-n`.
+/// Makes the calls for `^-n`.
 fn call_without_parent<'a, D: Delegate>(
     number: usize,
     after: &'a [u8],
@@ -447,7 +447,7 @@ fn call_without_parent<'a, D: Delegate>(
     demanded(delegate.done(), fault, Some(rest), context)
 }
 
-// Makes the call for the end of a text.
+/// Makes the call for the end of a text.
 #[inline(always)]
 fn call_finish<'a, D: Delegate>(context: &mut Context<'a>, delegate: &mut D) -> Result<(), Stopped>
     ensures { Performs D.step (finish ∷ [])

@@ -9,7 +9,7 @@ ghost use Rattle.gix_spec.specs.Pieces.{regex, index};
 use super::fault::Fault;
 use super::part::{Found, Part, Piece};
 
-// Returns the part that is a regex.
+/// Returns the part that is a regex.
 fn regex(raw: &[u8], negated: bool) -> Found<'_>
     ensures { part_of result ≡ piece (regex raw.now raw.now negated) [] }
 {
@@ -21,7 +21,7 @@ fn regex(raw: &[u8], negated: bool) -> Found<'_>
     Part::piece(piece, b"")
 }
 
-// Reads a regex after `!-`.
+/// Reads a regex after `!-`.
 fn negated<'a>(raw: &'a [u8], whole: &'a [u8]) -> Found<'a>
     ensures { part_of result ≡ negated_regex raw.now whole.now }
 {
@@ -31,7 +31,7 @@ fn negated<'a>(raw: &'a [u8], whole: &'a [u8]) -> Found<'a>
     }
 }
 
-// Reads the text after a `!` in front of a regex.
+/// Reads the text after a `!` in front of a regex.
 #[tactic(auto, unfolding(crate::specs::ColonForms::banged))]
 fn banged<'a>(after: &'a [u8], raw: &'a [u8], whole: &'a [u8]) -> Found<'a>
     ensures { part_of result ≡ banged after.now raw.now whole.now }
@@ -43,7 +43,7 @@ fn banged<'a>(after: &'a [u8], raw: &'a [u8], whole: &'a [u8]) -> Found<'a>
     }
 }
 
-// Reads the regex after `:/`.
+/// Reads the regex after `:/`.
 #[tactic(auto, unfolding(crate::specs::ColonForms::regex_at))]
 fn behind_slash<'a>(raw: &'a [u8], whole: &'a [u8]) -> Found<'a>
     ensures { part_of result ≡ regex_at raw.now whole.now }
@@ -55,7 +55,7 @@ fn behind_slash<'a>(raw: &'a [u8], whole: &'a [u8]) -> Found<'a>
     }
 }
 
-// Returns the part that is a path in the index.
+/// Returns the part that is a path in the index.
 fn index(path: &[u8], stage: u8) -> Found<'_>
     ensures { part_of result ≡ piece (index path.now stage) [] }
 {

@@ -5,14 +5,14 @@ ghost use Rattle.gix_spec.specs.Marks.{dot};
 ghost use Rattle.gix_spec.specs.Cut.{two_dots_at, at_ends, ends_name, cut_of};
 ghost use Rattle.gix_spec.specs.Found.{slice_of, after_mark};
 
-// Returns the byte at a place, or 0 past the end.
+/// Returns the byte at a place, or 0 past the end.
 fn byte_at(text: &[u8], place: usize) -> u8
     ensures { result ≡ slice_index text.now place }
 {
     if place < text.len() { text[place] } else { 0 }
 }
 
-// Tests whether two dots begin at a place.
+/// Tests whether two dots begin at a place.
 fn two_dots_at(text: &[u8], place: usize) -> bool
     requires { place < 2 ^ 63 }
     ensures { result ≡ two_dots_at text.now place }
@@ -20,7 +20,7 @@ fn two_dots_at(text: &[u8], place: usize) -> bool
     byte_at(text, place) == b'.' && byte_at(text, place + 1) == b'.'
 }
 
-// Tests whether an `@` ends the name, whose part after its last dot begins at `start`.
+/// Tests whether an `@` ends the name, whose part after its last dot begins at `start`.
 #[tactic(auto, unfolding(crate::specs::Cut::at_ends))]
 fn at_ends(text: &[u8], start: usize, place: usize) -> bool
     requires place { place < length text.now }
@@ -32,7 +32,7 @@ fn at_ends(text: &[u8], start: usize, place: usize) -> bool
             && !(start < place && two_dots_at(text, place + 1)))
 }
 
-// Tests whether the name, whose part after its last dot begins at `start`, ends at a place.
+/// Tests whether the name, whose part after its last dot begins at `start`, ends at a place.
 #[tactic(auto, unfolding(crate::specs::Cut::ends_name))]
 fn ends_name(text: &[u8], start: usize, place: usize) -> bool
     requires place { place < length text.now }
@@ -45,7 +45,7 @@ fn ends_name(text: &[u8], start: usize, place: usize) -> bool
         || (byte == b'@' && at_ends(text, start, place))
 }
 
-// Returns where the part after the last dot begins, one place further.
+/// Returns where the part after the last dot begins, one place further.
 fn part_start(byte: u8, start: usize, place: usize) -> usize
     requires { place < 2 ^ 63 }
     ensures { result ≡ (if byte == dot then place + 1 else start) }

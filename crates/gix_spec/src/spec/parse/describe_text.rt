@@ -27,7 +27,7 @@ pub(crate) fn prefix_with<'a>(digits: &'a [u8], hint: Option<PrefixHint<'a>>) ->
     }
 }
 
-// Finds the last dash of a text.
+/// Finds the last dash of a text.
 fn last_dash(text: &[u8]) -> Option<usize>
     ensures place { result ≡ last_dash text.now }
     ensures within { IfSome result (λ k. k < length text.now) }
@@ -40,7 +40,7 @@ fn last_dash(text: &[u8]) -> Option<usize>
     None
 }
 
-// Counts the bytes before the first dash.
+/// Counts the bytes before the first dash.
 fn token_len(text: &[u8]) -> usize
     ensures len { result ≡ prefix_len is_no_dash text.now }
     ensures within { result ≤ length text.now }
@@ -48,21 +48,21 @@ fn token_len(text: &[u8]) -> usize
     text.iter().take_while(|byte| **byte != b'-').count()
 }
 
-// Returns the bytes before the first dash.
+/// Returns the bytes before the first dash.
 fn token(text: &[u8]) -> &[u8]
     ensures { result.now ≡ token_of text.now }
 {
     &text[..token_len(text)]
 }
 
-// Tests whether all bytes are hex digits.
+/// Tests whether all bytes are hex digits.
 fn are_hex_digits(text: &[u8]) -> bool
     ensures { result ≡ list_all is_hex_digit text.now }
 {
     text.iter().all(|byte| byte.is_ascii_hexdigit())
 }
 
-// Tests whether the token at the front of a text is a `g` and hex digits.
+/// Tests whether the token at the front of a text is a `g` and hex digits.
 #[tactic(auto, unfolding(crate::specs::DescribeText::is_id_token))]
 fn is_id_token(text: &[u8]) -> bool
     ensures { result ≡ is_id_token text.now }
@@ -73,7 +73,7 @@ fn is_id_token(text: &[u8]) -> bool
     }
 }
 
-// Finds the last dash that a token of a `g` and hex digits follows.
+/// Finds the last dash that a token of a `g` and hex digits follows.
 fn last_id_dash(text: &[u8]) -> Option<usize>
     ensures place { result ≡ last_id_dash text.now }
     ensures within { IfSome result (λ k. k + 1 < length text.now) }
@@ -86,7 +86,7 @@ fn last_id_dash(text: &[u8]) -> Option<usize>
     None
 }
 
-// Reads the text before the dash of the id: a name, a dash and a number, or any other text.
+/// Reads the text before the dash of the id: a name, a dash and a number, or any other text.
 #[tactic(auto, unfolding(crate::specs::DescribeText::hint_of_text))]
 fn hint(before: &[u8]) -> PrefixHint<'_>
     ensures { hint_of result ≡ hint_of_text before.now }
@@ -103,14 +103,14 @@ fn hint(before: &[u8]) -> PrefixHint<'_>
     }
 }
 
-// Tests whether a text has a byte that is not a dash.
+/// Tests whether a text has a byte that is not a dash.
 fn has_token(text: &[u8]) -> bool
     ensures { result ≡ list_any is_no_dash text.now }
 {
     text.iter().any(|byte| *byte != b'-')
 }
 
-// Returns the prefix call for 4 to 40 hex digits before the last dash.
+/// Returns the prefix call for 4 to 40 hex digits before the last dash.
 fn short_form(text: &[u8]) -> Option<Attempt<'_>>
     ensures { option_map attempt_found result ≡ short_form text.now (last_dash text.now) }
 {

@@ -7,7 +7,7 @@ ghost use Rattle.gix_spec.specs.Found.{attempt_found, part_of};
 use super::describe_text::{describe_attempt, prefix_with};
 use super::part::{Attempt, Found, Part, Piece};
 
-// Returns the prefix call that is tried first for a name, if any.
+/// Returns the prefix call that is tried first for a name, if any.
 #[tactic(auto, unfolding(crate::specs::Names::attempt_of))]
 fn attempt(name: &[u8]) -> Option<Attempt<'_>>
     ensures { option_map attempt_found result ≡ attempt_of name.now }

@@ -4,7 +4,7 @@ ghost use Rattle.std.specs.Prelude.{◌≡◌, IfSome, option_map};
 ghost use Rattle.gix_spec.specs.Number.{number_of, behind_minus, plain_by, signed_of};
 ghost use Rattle.gix_spec.specs.Found.{signed_found, FitsIsize};
 
-// The least `isize`, without its minus sign.
+/// The least `isize`, without its minus sign.
 const LEAST_ISIZE: usize = 1 << 63;
 
 /// Returns the number that decimal digits say, if it fits a `usize`. A plus may precede them.
@@ -27,7 +27,7 @@ pub(crate) enum Signed {
     Plain(usize),
 }
 
-// Returns the number after a minus sign, if an `isize` holds it.
+/// Returns the number after a minus sign, if an `isize` holds it.
 fn behind_minus(text: &[u8]) -> Option<Signed>
     ensures value { option_map signed_found result ≡ behind_minus text.now }
     ensures within { IfSome result FitsIsize }
@@ -41,7 +41,7 @@ fn behind_minus(text: &[u8]) -> Option<Signed>
     }
 }
 
-// Returns a number without a minus sign, if an `isize` holds it.
+/// Returns a number without a minus sign, if an `isize` holds it.
 fn plain(number: Option<usize>) -> Option<Signed>
     ensures value { option_map signed_found result ≡ plain_by number }
     ensures within { IfSome result FitsIsize }

@@ -28,7 +28,7 @@ use std::alloc::Allocator;
 // In this file, `after` is the text after a `~` or a `^`, and `run` is the digits (and minus signs)
 // at its front.
 
-// Counts the digits at the front of a text.
+/// Counts the digits at the front of a text.
 fn digits_len(text: &[u8]) -> usize
     ensures len { result ≡ prefix_len is_ascii_digit text.now }
     ensures within { result ≤ length text.now }
@@ -36,14 +36,14 @@ fn digits_len(text: &[u8]) -> usize
     text.iter().take_while(|byte| byte.is_ascii_digit()).count()
 }
 
-// Tests whether a byte is a digit or a minus sign.
+/// Tests whether a byte is a digit or a minus sign.
 fn is_digit_or_minus(byte: u8) -> bool
     ensures { result ≡ is_digit_or_minus byte }
 {
     byte.is_ascii_digit() || byte == b'-'
 }
 
-// Counts the digits and minus signs at the front of a text.
+/// Counts the digits and minus signs at the front of a text.
 fn run_len(text: &[u8]) -> usize
     ensures len { result ≡ prefix_len is_digit_or_minus text.now }
     ensures within { result ≤ length text.now }
@@ -53,14 +53,14 @@ fn run_len(text: &[u8]) -> usize
         .count()
 }
 
-// Returns the part that is one step.
+/// Returns the part that is one step.
 fn step<'a>(step: Traversal, after: &'a [u8], rest: &'a [u8]) -> Found<'a>
     ensures { part_of result ≡ piece (Pieces.step step after.now) rest.now }
 {
     Part::piece(Piece::Step { step, after }, rest)
 }
 
-// Reads `~` or `~n`, after its mark.
+/// Reads `~` or `~n`, after its mark.
 #[inline(always)]
 #[tactic(auto, unfolding(crate::specs::Steps::ancestor_at))]
 fn ancestor(after: &[u8]) -> Found<'_>
@@ -79,7 +79,7 @@ fn ancestor(after: &[u8]) -> Found<'_>
     }
 }
 
-// Reads `^n`, after its mark. `^0` is the commit itself.
+/// Reads `^n`, after its mark. `^0` is the commit itself.
 fn parent<'a>(run: &'a [u8], rest: &'a [u8], after: &'a [u8]) -> Found<'a>
     ensures { part_of result ≡ parent_by run.now rest.now after.now (number_of run.now) }
 {
@@ -95,7 +95,7 @@ fn parent<'a>(run: &'a [u8], rest: &'a [u8], after: &'a [u8]) -> Found<'a>
     }
 }
 
-// Returns the part that is `^-n`.
+/// Returns the part that is `^-n`.
 fn without_parent<'a>(number: usize, rest: &'a [u8], after: &'a [u8]) -> Found<'a>
     ensures { part_of result ≡ closing (Pieces.without_parent number after.now rest.now) rest.now }
 {
@@ -109,7 +109,7 @@ fn without_parent<'a>(number: usize, rest: &'a [u8], after: &'a [u8]) -> Found<'
     )
 }
 
-// Reads `^-` or `^-n`, after its mark. `digits` is the run without its minus sign.
+/// Reads `^-` or `^-n`, after its mark. `digits` is the run without its minus sign.
 #[tactic(auto, unfolding(crate::specs::Steps::without_at))]
 fn without<'a>(digits: &'a [u8], run: &'a [u8], rest: &'a [u8], after: &'a [u8]) -> Found<'a>
     ensures { part_of result ≡ without_at digits.now run.now rest.now after.now }
@@ -124,7 +124,7 @@ fn without<'a>(digits: &'a [u8], run: &'a [u8], rest: &'a [u8], after: &'a [u8])
     }
 }
 
-// Reads the run after a `^`.
+/// Reads the run after a `^`.
 #[inline(always)]
 #[tactic(auto, unfolding(crate::specs::Steps::run_at))]
 fn numbered<'a>(run: &'a [u8], rest: &'a [u8], after: &'a [u8]) -> Found<'a>
@@ -137,14 +137,14 @@ fn numbered<'a>(run: &'a [u8], rest: &'a [u8], after: &'a [u8]) -> Found<'a>
     }
 }
 
-// Returns the part that is `^!` or `^@`.
+/// Returns the part that is `^!` or `^@`.
 fn closer(kind: Kind, rest: &[u8]) -> Found<'_>
     ensures { part_of result ≡ closing (Pieces.closer kind rest.now) rest.now }
 {
     Part::closing(Piece::Closer { kind, rest }, rest)
 }
 
-// Reads the text after a `^` that no brace follows.
+/// Reads the text after a `^` that no brace follows.
 #[inline(always)]
 #[tactic(auto, unfolding(crate::specs::Steps::parent_at))]
 fn behind_caret(after: &[u8]) -> Found<'_>
@@ -163,7 +163,7 @@ fn behind_caret(after: &[u8]) -> Found<'_>
     }
 }
 
-// Reads the text after a `^`.
+/// Reads the text after a `^`.
 #[inline(always)]
 #[tactic(auto, unfolding(crate::specs::Steps::parent_at))]
 fn parent_step<'a, A: Allocator, D: Delegate>(

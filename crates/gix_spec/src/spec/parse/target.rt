@@ -21,7 +21,7 @@ use super::part::{Behind, Found, Part, Piece, Way};
 use gix_base::object::Kind;
 use std::alloc::Allocator;
 
-// Returns what an object is peeled to by a word, or by empty braces.
+/// Returns what an object is peeled to by a word, or by empty braces.
 #[tactic(auto, unfolding(crate::specs::Targets::target_named))]
 fn named(word: &[u8]) -> Option<PeelTo<'static>>
     ensures { option_map target_of result ≡ target_named word.now }
@@ -47,7 +47,7 @@ fn named(word: &[u8]) -> Option<PeelTo<'static>>
     None
 }
 
-// Reads the mark before a regex, after its `!`: how many bytes it takes, and whether it negates.
+/// Reads the mark before a regex, after its `!`: how many bytes it takes, and whether it negates.
 fn banged(after: &[u8]) -> Option<(usize, bool)>
     ensures { result ≡ banged_mark after.now }
 {
@@ -58,7 +58,7 @@ fn banged(after: &[u8]) -> Option<(usize, bool)>
     }
 }
 
-// Reads the mark in front of a regex, if there is one.
+/// Reads the mark in front of a regex, if there is one.
 #[tactic(auto, unfolding(crate::specs::Targets::regex_mark))]
 fn mark(text: &[u8]) -> Option<(usize, bool)>
     ensures { result ≡ regex_mark text.now }
@@ -69,14 +69,14 @@ fn mark(text: &[u8]) -> Option<(usize, bool)>
     }
 }
 
-// Returns the text after its first `len` bytes.
+/// Returns the text after its first `len` bytes.
 fn behind(text: &[u8], len: usize) -> &[u8]
     ensures { result.now ≡ drop len text.now }
 {
     &text[len.min(text.len())..]
 }
 
-// Reads a regex after its slash: `raw` is the text as it is written, `meant` is without escapes.
+/// Reads a regex after its slash: `raw` is the text as it is written, `meant` is without escapes.
 fn regex<'a, D: Delegate>(
     raw: &'a [u8],
     meant: &[u8],
@@ -100,7 +100,7 @@ fn regex<'a, D: Delegate>(
     })
 }
 
-// Returns the part that peels to the target, or the fault of an unknown target.
+/// Returns the part that peels to the target, or the fault of an unknown target.
 fn peeled<'a, A: Allocator>(
     target: Option<PeelTo<'a>>,
     braces: &Braced<'a, A>,
@@ -115,7 +115,7 @@ fn peeled<'a, A: Allocator>(
     }
 }
 
-// Reads the text in the braces after a `^`. `after` begins with the braces.
+/// Reads the text in the braces after a `^`. `after` begins with the braces.
 fn inside<'a, A: Allocator, D: Delegate>(
     braces: &Braced<'a, A>,
     after: &'a [u8],
