@@ -1,5 +1,5 @@
-//! Tests of what `gix_revision` exports, except revisions: worked rows, each public call once, and
-//! hostile sources and memory.
+//! Tests of what `gix_revision` exports, except revisions, and of `gix_range`: worked rows, each
+//! public call once, and hostile sources and memory.
 
 mod commit_graphs;
 mod dates;
@@ -14,4 +14,5 @@ mod octopus;
 mod painting;
 mod questions;
 mod queue;
+mod ranges;
 mod sources;

@@ -1,14 +1,14 @@
 -- Ranges in two histories that agree and are closed.
 use Rattle.std.proofs.Common.{ℕ, List}
 use Rattle.gix_base.specs.declared.hash.ObjectId.{ObjectId}
-use Rattle.gix_revwalk.specs.History.{History}
+use Rattle.gix_revwalk.specs.History.{History, IsBeyond}
 use Rattle.gix_object.specs.Authentic.{IsClosed, Agree}
-use Rattle.gix_authentic.specs.Determined.{BothHave, IsBeyond, ListsBeyond, CountsBeyond}
+use Rattle.gix_authentic.specs.Determined.{BothHave, ListsBeyond, CountsBeyond}
 use Rattle.gix_authentic.proofs.Same.{turned, swapped, of-one}
 
 module _ (h k : History) (agree : Agree h k) (closed-h : IsClosed h) (closed-k : IsClosed k) (shown hidden : List ObjectId)
     (both-shown : BothHave h k shown) (both-hidden : BothHave h k hidden) where
-  pub beyond-over : (c : ObjectId) → IsBeyond h shown hidden c → IsBeyond k shown hidden c
+  pub beyond-over : (c : ObjectId) → IsBeyond h hidden shown c → IsBeyond k hidden shown c
   beyond-over c is = (
     of-one h k agree closed-h closed-k shown c both-shown is.0,
     λ reached. is.1 (of-one k h (turned h k agree) closed-k closed-h hidden c (swapped h k hidden both-hidden) reached),
@@ -16,7 +16,7 @@ module _ (h k : History) (agree : Agree h k) (closed-h : IsClosed h) (closed-k :
 
 module _ (h k : History) (agree : Agree h k) (closed-h : IsClosed h) (closed-k : IsClosed k) (shown hidden : List ObjectId)
     (both-shown : BothHave h k shown) (both-hidden : BothHave h k hidden) where
-  pub beyond-back : (c : ObjectId) → IsBeyond k shown hidden c → IsBeyond h shown hidden c
+  pub beyond-back : (c : ObjectId) → IsBeyond k hidden shown c → IsBeyond h hidden shown c
   beyond-back = beyond-over k h (turned h k agree) closed-k closed-h shown hidden (swapped h k shown both-shown) (swapped h k hidden both-hidden)
 
   pub lists-over : (ids : List ObjectId) → ListsBeyond h shown hidden ids → ListsBeyond k shown hidden ids

@@ -4,7 +4,7 @@ use Rattle.std.specs.Prelude.{◌≡◌, ◌⊎◌, ◌↔◌, ℕ, ◌∷◌, [
 use Rattle.std.specs.List.Sorted.{IsStrictlySortedBy}
 use Rattle.gix_base.specs.Hash.{id_order}
 use Rattle.gix_base.specs.declared.hash.ObjectId.{ObjectId}
-use Rattle.gix_revwalk.specs.History.{History, Has, IsAncestor, IsAncestorOfOne, is_one_of}
+use Rattle.gix_revwalk.specs.History.{History, Has, IsAncestor, IsAncestorOfOne, is_one_of, IsBeyond}
 use Rattle.gix_merge_base.specs.Bases.{AreBases}
 use Rattle.gix_merge_base.specs.Octopus.{AreOctopusBases, IsOctopusBase}
 use Rattle.gix_describe.specs.Described.{Names, Description, IsDescribed}
@@ -26,15 +26,10 @@ abbrev pub AncestryIsDetermined : Type 0
 AncestryIsDetermined = HoldsOrCollides (λ h k.
     (a c : ObjectId) → BothHave h k (a ∷ []) → IsAncestor h a c ↔ IsAncestor k a c)
 
--- One of the shown commits reaches commit c, and none of the hidden ones does (gitrevisions,
--- "Specifying Ranges").
-abbrev pub IsBeyond : History → List ObjectId → List ObjectId → ObjectId → Type 0
-IsBeyond h shown hidden c = IsAncestorOfOne h shown c × (¬ IsAncestorOfOne h hidden c)
-
 -- The list ids has the commits that shown reach and hidden do not, each once, in rising order
 -- (git-rev-list, "Description").
 pub record ListsBeyond (h : History) (shown hidden ids : List ObjectId) : Type 0 where
-  pub beyond : (c : ObjectId) → IsTrue (is_one_of ids c) ↔ IsBeyond h shown hidden c
+  pub beyond : (c : ObjectId) → IsTrue (is_one_of ids c) ↔ IsBeyond h hidden shown c
   pub rising : IsStrictlySortedBy id_order ids
 
 -- There are n commits that shown reach and hidden do not (git-rev-list, "--count").
@@ -46,7 +41,7 @@ CountsBeyond h shown hidden n = (ids : List ObjectId) × ListsBeyond h shown hid
 abbrev pub RangesAreDetermined : Type 0
 RangesAreDetermined = HoldsOrCollides (λ h k.
     (shown hidden : List ObjectId) (c : ObjectId) → BothHave h k shown → BothHave h k hidden
-    → IsBeyond h shown hidden c ↔ IsBeyond k shown hidden c)
+    → IsBeyond h hidden shown c ↔ IsBeyond k hidden shown c)
 
 -- The list of a range of ids that both histories have is the same in both, or two contents collide
 -- (git-rev-list, "Description").

@@ -38,3 +38,4 @@ pub mod Alone
 pub mod Best
 pub mod Answered
 pub mod Ancestry
+pub mod Sides

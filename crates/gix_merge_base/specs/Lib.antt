@@ -20,3 +20,4 @@ pub mod PaintQueue
 pub mod Front
 pub mod Reducing
 pub mod ReduceSteps
+pub mod Sides

@@ -12,6 +12,7 @@ mod order;
 mod painting;
 mod queries;
 mod reduction;
+mod sides;
 
 pub use ancestry::is_ancestor;
 pub use bases::counted;
@@ -23,3 +24,4 @@ pub use heads::{octopus, octopus_bases};
 pub use painting::paint;
 pub use queries::{Answer, Query, run};
 pub use reduction::reduce;
+pub use sides::{Candidates, paint_sides};

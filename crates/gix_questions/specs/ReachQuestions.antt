@@ -1,13 +1,12 @@
 -- What the answers about what some commits reach and others do not mean.
 use Rattle.std.specs.Prelude.{ℕ, List, ◌∷◌, [], ◌++◌, IsTrue}
 use Rattle.gix_base.specs.declared.hash.ObjectId.{ObjectId}
-use Rattle.gix_revwalk.specs.History.{History, IsAncestor, IsAncestorOfOne, is_one_of}
+use Rattle.gix_revwalk.specs.History.{History, IsAncestor, IsAncestorOfOne, is_one_of, IsBeyond}
 use Rattle.gix_revwalk.specs.Sizes.{HasSize, AtLeast, AtMost, Lists}
 use Rattle.gix_merge_base.specs.Keys.{IsInOrder}
 use Rattle.gix_merge_base.specs.Premises.{GenerationsNeverRiseFrom}
 use Rattle.gix_spec.specs.declared.spec.Spec.TheVariants.{Range}
 use Rattle.gix_resolve.specs.ListMeaning.{IsMeant}
-use Rattle.gix_resolve.specs.Reachable.{IsBeyond}
 
 -- In the history h, the list has each commit that the included ones reach and the excluded ones do
 -- not, newest first, each once. All others in it are reached by the included ones. With ordered

@@ -2,7 +2,7 @@
 use Rattle.std.proofs.Common.{◌≡◌, ℕ, ◌+◌, ◌-◌, refl, List, [], ◌∷◌, ◌++◌, drop, length, is_some, true, false, arith}
 use Rattle.std.proofs.lemmas.List.{length-map, length-drop, length-append}
 use Rattle.gix_base.specs.declared.hash.ObjectId.{ObjectId}
-use Rattle.gix_revwalk.specs.History.{History, entry_at, parents_in}
+use Rattle.gix_revwalk.specs.History.{History, entry_at, parents_in, IsBeyond}
 use Rattle.gix_revwalk.specs.Graph.{Graphed}
 use Rattle.gix_revwalk.specs.Number.{place_in}
 use Rattle.gix_revwalk.specs.Sizes.{Lists, HasSize}
@@ -11,7 +11,6 @@ use Rattle.gix_merge_base.specs.PaintQueue.{id_at, ids_at}
 use Rattle.gix_spec.specs.declared.spec.Spec.{Spec}
 use Rattle.gix_spec.specs.declared.spec.Spec.TheVariants.{Include, Exclude, Merge, IncludeOnlyParents, ExcludeParents}
 use Rattle.gix_resolve.specs.ListMeaning.{IsMeant}
-use Rattle.gix_resolve.specs.Reachable.{IsBeyond}
 use Rattle.gix_resolve.proofs.ListMembers.{lists-include, lists-exclude, lists-parents, lists-merge, lists-alone, lists-not_alone}
 
 -- a list that has the one set has the other

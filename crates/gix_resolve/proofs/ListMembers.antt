@@ -4,7 +4,7 @@ use Rattle.std.specs.List.{AllByRecursion, IsDistinct}
 use Rattle.std.proofs.lemmas.List.{map-append, nil_from_length}
 use Rattle.std.proofs.lemmas.Map.Keys.{IsDistinct-head, IsDistinct-tail, IsDistinct-cons}
 use Rattle.gix_base.specs.declared.hash.ObjectId.{ObjectId}
-use Rattle.gix_revwalk.specs.History.{History, Entry, Has, entry_at, parents_in, same_id, is_one_of, IsAncestor, IsAncestorOfOne}
+use Rattle.gix_revwalk.specs.History.{History, Entry, Has, entry_at, parents_in, same_id, is_one_of, IsAncestor, IsAncestorOfOne, IsBeyond}
 use Rattle.gix_revwalk.specs.Sizes.{Lists}
 use Rattle.gix_revwalk.proofs.Ids.{same_id-true}
 use Rattle.gix_revwalk.proofs.Members.{nothing, one_is_distinct, one_of-left, one_of-right, one_of-cases, one_of-head, one_of-tail, one_of-single}
@@ -17,7 +17,6 @@ use Rattle.gix_spec.specs.declared.spec.Spec.{Spec}
 use Rattle.gix_spec.specs.declared.spec.Spec.TheVariants.{Include, Exclude, Range, Merge, IncludeOnlyParents, ExcludeParents}
 use Rattle.gix_resolve.specs.ListMeaning.{IsMeant}
 use Rattle.gix_resolve.specs.ListWalk.{AreJust}
-use Rattle.gix_resolve.specs.Reachable.{IsBeyond}
 
 -- the ancestors of one commit
 pub of-one : (h : History) (a c : ObjectId) → IsAncestorOfOne h (a ∷ []) c → IsAncestor h a c

@@ -5,7 +5,7 @@ use Rattle.std.proofs.lemmas.List.{length-map}
 use Rattle.std.proofs.lemmas.List.Filters.{length-filter_more}
 use Rattle.std.proofs.lemmas.Map.Made.{length-le_from_is_member}
 use Rattle.gix_base.specs.declared.hash.ObjectId.{ObjectId}
-use Rattle.gix_revwalk.specs.History.{History, IsAncestor, IsAncestorOfOne}
+use Rattle.gix_revwalk.specs.History.{History, IsAncestor, IsAncestorOfOne, IsBeyond}
 use Rattle.gix_revwalk.specs.Graph.{Graphed}
 use Rattle.gix_revwalk.specs.Number.{place_in}
 use Rattle.gix_revwalk.specs.Sizes.{HasSize, AtLeast, AtMost}
@@ -18,7 +18,6 @@ use Rattle.gix_merge_base.specs.declared.merge_base.flags.Flags.{Flags}
 use Rattle.gix_merge_base.proofs.Numbered.{id-of-item}
 use Rattle.gix_spec.specs.declared.spec.Spec.TheVariants.{Range}
 use Rattle.gix_resolve.specs.ListMeaning.{IsMeant}
-use Rattle.gix_resolve.specs.Reachable.{IsBeyond}
 use Rattle.gix_resolve.specs.ReachSides.{is_first_alone, is_second_alone, Sees, CountsSides}
 use Rattle.gix_resolve.specs.ReachWalk.{AreMet}
 use Rattle.gix_resolve.proofs.ReachShown.{passing, left, first-not_hidden, second-not_hidden}

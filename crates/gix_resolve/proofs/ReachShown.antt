@@ -9,7 +9,7 @@ use Rattle.gix_base.specs.Hash.{id_order}
 use Rattle.std.proofs.lemmas.List.{length-map, append-nil}
 use Rattle.std.proofs.lemmas.List.Elements.{filter-append}
 use Rattle.gix_base.specs.declared.hash.ObjectId.{ObjectId}
-use Rattle.gix_revwalk.specs.History.{History, is_one_of, same_id}
+use Rattle.gix_revwalk.specs.History.{History, is_one_of, same_id, IsBeyond}
 use Rattle.gix_revwalk.specs.Graph.{Graphed}
 use Rattle.gix_revwalk.specs.Data.{mark_at}
 use Rattle.gix_revwalk.specs.Number.{place_in}
@@ -23,7 +23,7 @@ use Rattle.gix_merge_base.specs.PaintQueue.{id_at, ids_at, marks_at, no_mark}
 use Rattle.gix_merge_base.specs.declared.merge_base.flags.Flags.{Flags}
 use Rattle.gix_merge_base.proofs.Numbered.{id-of-item}
 use Rattle.gix_resolve.specs.ReachSides.{hides, shows, is_first_alone, is_second_alone, Sees, ListsFirst, ListsEither}
-use Rattle.gix_resolve.specs.Reachable.{IsBeyond, CoversBeyond}
+use Rattle.gix_resolve.specs.Reachable.{CoversBeyond}
 use Rattle.gix_resolve.specs.ReachWalk.{AreMet}
 use Rattle.gix_revwalk.proofs.Places.{same_id-sym}
 use Rattle.gix_resolve.proofs.ListSorted.{rising}

@@ -4,9 +4,8 @@ use Rattle.std.specs.Prelude.{◌≡◌, ◌<◌, ◌≤◌, ◌+◌, ℕ, min, 
 use Rattle.std.specs.List.{IsDistinct}
 use Rattle.std.specs.List.Sorted.{IsPermutation}
 use Rattle.gix_base.specs.declared.hash.ObjectId.{ObjectId}
-use Rattle.gix_revwalk.specs.History.{History, Has, IsEdge, IsAncestorOfOne, generation_of, is_one_of, same_id}
+use Rattle.gix_revwalk.specs.History.{History, Has, IsEdge, IsAncestorOfOne, generation_of, is_one_of, same_id, IsBeyond}
 use Rattle.gix_revwalk.specs.Sizes.{HasSize, AtLeast, AtMost}
-use Rattle.gix_resolve.specs.Reachable.{IsBeyond}
 use Rattle.gix_merge_base.specs.Marks.{MarkSet, HasMarksOf}
 use Rattle.gix_merge_base.specs.PaintSteps.{Covers, total}
 use Rattle.gix_merge_base.specs.Premises.{GenerationsNeverRiseFrom}

@@ -7,7 +7,7 @@ ghost use Rattle.gix_base.specs.declared.hash.ObjectId.{ObjectId};
 ghost use Rattle.gix_revwalk.specs.Faults.{count_after, is_source_fault};
 ghost use Rattle.gix_revwalk.specs.Graph.{KeepsHeld};
 ghost use Rattle.gix_revwalk.specs.GraphAfter.{GraphAfter};
-ghost use Rattle.gix_revwalk.specs.History.{IsAncestor, IsAncestorOfOne, is_one_of};
+ghost use Rattle.gix_revwalk.specs.History.{IsAncestor, IsAncestorOfOne, is_one_of, IsBeyond};
 ghost use Rattle.gix_revwalk.specs.Sizes.{HasSize, AtLeast, AtMost, Lists};
 ghost use Rattle.gix_revwalk.specs.Walks.{HoldsMore};
 ghost use Rattle.gix_merge_base.specs.Keys.{IsInOrder};
@@ -15,7 +15,7 @@ ghost use Rattle.gix_merge_base.specs.Premises.{GenerationsNeverRiseFrom};
 ghost use Rattle.gix_spec.specs.declared.spec.Spec.TheVariants.{Range};
 ghost use Rattle.gix_resolve.specs.ListErrors.{is_list_source_fault};
 ghost use Rattle.gix_resolve.specs.ListMeaning.{IsMeant};
-ghost use Rattle.gix_resolve.specs.Reachable.{IsBeyond, ListsBeyond, CoversBeyond};
+ghost use Rattle.gix_resolve.specs.Reachable.{ListsBeyond, CoversBeyond};
 ghost use Rattle.gix_resolve.specs.ReachSides.{CountsSides};
 ghost use Rattle.gix_resolve.specs.Taken.{TakesOnly};
 

@@ -1,8 +1,9 @@
-//! Questions for the calls of `merge_base`, in tables.
+//! Questions for the calls of `merge_base` and of `gix_range`, in tables.
 
 use crate::shared::faults::{Answered, Asks};
 use crate::shared::histories::{Row, are, id, ids, source_of};
 use fixtures::sources::{Failing, Turn};
+use gix_range::{ahead_behind, bases, beyond, count_beyond, independent};
 use gix_revision::error::NonEmpty;
 use gix_revision::graph::{Commit, Find, FindFault, Graph};
 use gix_revision::hash::ObjectId;
@@ -23,10 +24,23 @@ pub enum Call {
     Reduce,
     /// Takes the first and one other. The answer is the first if the other reaches it.
     Ancestor,
+    /// The answer is the first if one of the others reaches it.
+    Reached,
+    /// What the first reaches and the others do not, in any order.
+    Beyond,
+    /// The answer is how many commits `Beyond` has.
+    CountBeyond,
+    /// Takes the first and one other. The answer is how many commits the first alone reaches, and
+    /// how many the other alone.
+    AheadBehind,
+    /// As `Bases`, in any order.
+    EarlyBases,
+    /// Takes the others alone.
+    Independent,
 }
 
-/// A call: the function, the history, the first id, the others, and the ids of the answer in order;
-/// those of painting in any order.
+/// A call: the function, the history, the first id, the others, and the ids of the answer in order,
+/// unless the function says otherwise; those of painting in any order.
 #[derive(Clone, Copy)]
 pub struct Question(
     pub Call,
@@ -80,6 +94,43 @@ fn is_reached<S: Find, A: Allocator + Copy>(
     }
 }
 
+/// Tests whether both counts of an only other id are these.
+fn are_counted<S: Find, A: Allocator + Copy>(
+    alloc: A,
+    graph: &mut Graph<S, Commit<Flags, A>, A>,
+    first: ObjectId,
+    others: &[ObjectId],
+    counts: &[u8],
+) -> Result<bool, Error> {
+    let ([other], [ahead, behind]) = (others, counts) else {
+        return Ok(false);
+    };
+    let found = ahead_behind(alloc, first, *other, graph)?;
+    Ok(found == (usize::from(*ahead), usize::from(*behind)))
+}
+
+/// Tests whether the answer of a call of `gix_range` is that of the question with these others.
+fn is_right_early<S: Find, A: Allocator + Copy>(
+    alloc: A,
+    graph: &mut Graph<S, Commit<Flags, A>, A>,
+    question: &Question,
+    others: &[ObjectId],
+) -> Result<bool, Error> {
+    let (first, answer) = (id(question.2), question.4);
+    Ok(match question.0 {
+        Call::Reached => gix_range::is_reached(alloc, first, others, graph)? != answer.is_empty(),
+        Call::Beyond => are_set(&beyond(alloc, first, others, graph)?, answer),
+        Call::CountBeyond => {
+            answer.first().map(|n| usize::from(*n))
+                == Some(count_beyond(alloc, first, others, graph)?)
+        }
+        Call::AheadBehind => are_counted(alloc, graph, first, others, answer)?,
+        Call::EarlyBases => are_set(&bases(alloc, first, others, graph)?, answer),
+        Call::Independent => are(&independent(alloc, others, graph)?, answer),
+        _ => false,
+    })
+}
+
 /// Tests whether the answer is that of the question with these others.
 fn is_right<S: Find, A: Allocator + Copy>(
     alloc: A,
@@ -96,6 +147,7 @@ fn is_right<S: Find, A: Allocator + Copy>(
         Call::Ancestor => is_reached(alloc, graph, first, others)? != answer.is_empty(),
         Call::Paint => are_set(&paint(alloc, first, others, graph)?.0, answer),
         Call::Reduce => are(&reduce(alloc, others, graph)?, answer),
+        _ => is_right_early(alloc, graph, question, others)?,
     })
 }
 

@@ -27,14 +27,14 @@ impl Flags {
     const HANDED_ON: u8 = 7;
 
     /// Tests whether the first commit reaches the commit.
-    fn is_ours(self) -> bool
+    pub(crate) fn is_ours(self) -> bool
         ensures { result ≡ (marks_of self).one }
     {
         self.contains(Flags::COMMIT1)
     }
 
     /// Tests whether one of the others reaches the commit.
-    fn is_theirs(self) -> bool
+    pub(crate) fn is_theirs(self) -> bool
         ensures { result ≡ (marks_of self).two }
     {
         self.contains(Flags::COMMIT2)

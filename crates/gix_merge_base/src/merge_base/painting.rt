@@ -69,7 +69,7 @@ fn begin<S: Find, A: Allocator + Copy>(
 }
 
 /// Begins a walk, and queues the arguments.
-fn start<S: Find, A: Allocator + Copy>(
+pub(crate) fn start<S: Find, A: Allocator + Copy>(
     alloc: A,
     first: ObjectId,
     others: &[ObjectId],

@@ -1,7 +1,7 @@
 use Rattle.std.below.core.proofs.iter.Serving.{as_err}
+use Rattle.gix_revwalk.specs.History.{IsBeyond}
 use Rattle.gix_resolve.proofs.ListSorted.{members-sorted}
 use Rattle.gix_resolve.proofs.ReachShown.{sorted-covers}
-use Rattle.gix_resolve.specs.Reachable.{IsBeyond}
 use Rattle.gix_resolve.proofs.reach.reachable.Goals as goal
 
 pub returns-clause-reached : goal.returns-clause-reached

@@ -1,10 +1,9 @@
 use Rattle.gix_resolve.proofs.Answered.{not_so}
 use Rattle.std.proofs.Common.{[], ◌∷◌, refl}
-use Rattle.gix_revwalk.specs.History.{IsAncestor, IsAncestorOfOne}
+use Rattle.gix_revwalk.specs.History.{IsAncestor, IsAncestorOfOne, IsBeyond}
 use Rattle.gix_revwalk.specs.Sizes.{HasSize}
 use Rattle.gix_spec.specs.declared.spec.Spec.TheVariants.{Include, Range}
 use Rattle.gix_resolve.specs.ListMeaning.{IsMeant}
-use Rattle.gix_resolve.specs.Reachable.{IsBeyond}
 use Rattle.gix_resolve.proofs.ListMembers.{of-one, if-ok}
 use Rattle.gix_resolve.proofs.ListCounts.{size-include, size-exclude}
 use Rattle.gix_resolve.proofs.ListTaken.{only_same, only_wider}

@@ -1,10 +1,9 @@
 use Rattle.std.below.core.proofs.iter.Serving.{as_err}
 use Rattle.std.proofs.Common.{◌≡◌, ◌∙◌, []}
-use Rattle.gix_revwalk.specs.History.{entry_at, parents_in}
+use Rattle.gix_revwalk.specs.History.{entry_at, parents_in, IsBeyond}
 use Rattle.gix_revwalk.specs.Sizes.{HasSize}
 use Rattle.gix_spec.specs.declared.spec.Spec.TheVariants.{IncludeOnlyParents}
 use Rattle.gix_resolve.specs.ListMeaning.{IsMeant}
-use Rattle.gix_resolve.specs.Reachable.{IsBeyond}
 use Rattle.gix_resolve.proofs.ListMembers.{if-ok}
 use Rattle.gix_resolve.proofs.ListCounts.{size-parents}
 use Rattle.gix_resolve.proofs.ListTaken.{only_itself, only_above}

@@ -1,11 +1,10 @@
 use Rattle.gix_resolve.proofs.Answered.{not_so}
 use Rattle.std.proofs.Common.{[], ◌∷◌, refl}
-use Rattle.gix_revwalk.specs.History.{IsAncestor, IsAncestorOfOne}
+use Rattle.gix_revwalk.specs.History.{IsAncestor, IsAncestorOfOne, IsBeyond}
 use Rattle.gix_merge_base.specs.PaintQueue.{ids_at}
 use Rattle.gix_spec.specs.declared.spec.Spec.TheVariants.{Include, Range}
 use Rattle.gix_resolve.specs.ListMeaning.{IsMeant}
 use Rattle.gix_resolve.specs.ListWalk.{AreJust}
-use Rattle.gix_resolve.specs.Reachable.{IsBeyond}
 use Rattle.gix_resolve.proofs.ListMembers.{of-one, if-ok, just-none, lists-include, lists-exclude, lists-range}
 use Rattle.gix_resolve.proofs.ListTaken.{only_same, only_wider}
 use Rattle.gix_resolve.proofs.list.members.members.Goals as goal

@@ -1,6 +1,6 @@
 use Rattle.std.below.core.proofs.iter.Serving.{as_err}
 use Rattle.std.proofs.Common.{◌≡◌, ◌-◌, drop, length, rules, take}
-use Rattle.gix_resolve.specs.Reachable.{IsBeyond}
+use Rattle.gix_revwalk.specs.History.{IsBeyond}
 use Rattle.gix_resolve.proofs.ListWalks.{just_behind}
 use Rattle.gix_resolve.proofs.list.walk.ancestors_beyond.Goals as goal
 

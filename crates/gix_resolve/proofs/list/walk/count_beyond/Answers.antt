@@ -1,6 +1,6 @@
 use Rattle.std.below.core.proofs.iter.Serving.{as_err}
 use Rattle.std.proofs.Common.{arith}
-use Rattle.gix_resolve.specs.Reachable.{IsBeyond}
+use Rattle.gix_revwalk.specs.History.{IsBeyond}
 use Rattle.gix_resolve.proofs.ListCounts.{size-behind}
 use Rattle.gix_resolve.proofs.list.walk.count_beyond.Goals as goal
 

@@ -1,0 +1,6 @@
+pub mod Reaching
+pub mod Keeping
+pub mod HiddenOnes
+pub mod Choosing
+pub mod Frees
+pub mod Gathering

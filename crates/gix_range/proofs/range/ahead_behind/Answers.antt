@@ -1,0 +1,16 @@
+use Rattle.std.proofs.Common.{sym, subst, ◌∙◌, ◌∷◌, []}
+use Rattle.gix_range.specs.Ranges.{Keeps}
+use Rattle.gix_range.proofs.Choosing.{kept_lists}
+use Rattle.gix_range.proofs.range.ahead_behind.Goals as goal
+
+pub returns-clause-ahead : goal.returns-clause-ahead
+returns-clause-ahead g c acyclic =
+    let h = g.S.Find.history c.args.graph.now.source in
+    let keeps = rw c.in_ok-found.ensures.after.graph.same_history at c.in_ok-ahead.ensures.keeps in
+    (c.in_ok-ahead.ahead, kept_lists h (c.args.ours ∷ []) (c.args.theirs ∷ []) _ c.in_ok-ahead.ahead c.in_ok-found.ensures.firsts (subst (λ l. Keeps h l (c.args.theirs ∷ []) c.in_ok-ahead.ahead) c.deref.ensures.value keeps) acyclic, sym c.len.ensures)
+
+pub returns-clause-behind : goal.returns-clause-behind
+returns-clause-behind g c acyclic =
+    let h = g.S.Find.history c.args.graph.now.source in
+    let keeps = rw (c.in_ok-ahead.ensures.after.graph.same_history ∙ c.in_ok-found.ensures.after.graph.same_history) at c.in_ok-behind.ensures.keeps in
+    (c.in_ok-behind.behind, kept_lists h (c.args.theirs ∷ []) (c.args.ours ∷ []) _ c.in_ok-behind.behind c.in_ok-found.ensures.seconds (subst (λ l. Keeps h l (c.args.ours ∷ []) c.in_ok-behind.behind) c.deref-2.ensures.value keeps) acyclic, sym c.len-2.ensures)
