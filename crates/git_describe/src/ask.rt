@@ -123,6 +123,7 @@ fn is_exact(
 ) -> Result<bool, Stop> {
     let question = IsAncestor {
         alloc: session.alloc,
+        early: session.repository.asks_early(),
         ancestor: candidate.id,
         of: commit,
     };
@@ -131,6 +132,7 @@ fn is_exact(
     }
     let question = CountReachable {
         alloc: session.alloc,
+        early: session.repository.asks_early(),
         include: &[commit],
         exclude: &[candidate.id],
     };

@@ -102,6 +102,7 @@ fn reaching(
     for commit in commits {
         let question = Contains {
             alloc: session.alloc,
+            early: session.repository.asks_early(),
             commit: *commit,
             tips,
         };
@@ -121,6 +122,7 @@ fn beyond(
 ) -> Result<Vec<ObjectId>, Stop> {
     let question = ReachableNewestFirst {
         alloc: session.alloc,
+        early: session.repository.asks_early(),
         include: tips,
         exclude: commits,
     };

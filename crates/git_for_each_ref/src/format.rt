@@ -298,6 +298,7 @@ fn print_ahead_behind(
     };
     let question = AheadBehind {
         alloc: session.alloc,
+        early: session.repository.asks_early(),
         ours: commit,
         theirs: base,
     };

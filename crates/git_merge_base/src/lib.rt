@@ -192,6 +192,7 @@ fn is_ancestor(session: &mut Session<'_>, asked: &Asked<'_>) -> Result<u8, Stop>
     let of = commit(session, of)?;
     let question = IsAncestor {
         alloc: session.alloc,
+        early: session.repository.asks_early(),
         ancestor,
         of,
     };

@@ -206,6 +206,7 @@ pub extern "C" fn gix_history_is_ancestor(
 {
     let question = gix_questions::IsAncestor {
         alloc,
+        early: false,
         ancestor: ObjectId(*ancestor),
         of: ObjectId(*of),
     };
@@ -264,6 +265,7 @@ pub extern "C" fn gix_history_reaches(
     let ancestor = ObjectId(*ancestor);
     let question = gix_questions::IsAncestor {
         alloc,
+        early: false,
         ancestor,
         of: ObjectId(*from),
     };

@@ -63,6 +63,7 @@ pub extern "C" fn gix_history_ahead_behind(
 {
     let question = AheadBehind {
         alloc,
+        early: false,
         ours: ObjectId(*ours),
         theirs: ObjectId(*theirs),
     };

@@ -1,4 +1,4 @@
-//! The questions that C functions ask.
+//! The questions that C functions ask. No answer is made early: its premise is ordered generations.
 
 use crate::ask::Ask;
 use gix_history::Refused;
@@ -82,11 +82,12 @@ impl Ask for Independent<'_> {
 }
 
 impl Ask for IsAncestor {
+    ghost use Rattle.std.specs.Prelude.{false};
     ghost use Rattle.gix_questions.specs.AncestryQuestions.{MeansAncestor};
 
     type Answer = bool;
 
-    ghost means = { λ q h yes. MeansAncestor h q.ancestor q.of yes };
+    ghost means = { λ q h yes. MeansAncestor h false q.ancestor q.of yes };
 
     fn ask_graph<S: Find>(&self, graph: &mut Graph<S, Commit<Flags>>) -> Result<bool, Refused> {
         match is_ancestor(self.alloc, self.ancestor, self.of, graph) {
@@ -97,11 +98,12 @@ impl Ask for IsAncestor {
 }
 
 impl Ask for AheadBehind {
+    ghost use Rattle.std.specs.Prelude.{false};
     ghost use Rattle.gix_questions.specs.ReachQuestions.{MeansAheadBehind};
 
     type Answer = (usize, usize);
 
-    ghost means = { λ q h counts. MeansAheadBehind h q.ours q.theirs counts.0 counts.1 };
+    ghost means = { λ q h counts. MeansAheadBehind h false q.ours q.theirs counts.0 counts.1 };
 
     fn ask_graph<S: Find>(
         &self,

@@ -1,3 +1,4 @@
 pub mod Contained
 pub mod Answered
 pub mod Counted
+pub mod Early

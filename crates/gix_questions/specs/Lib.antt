@@ -1,3 +1,4 @@
+pub mod EarlyAnswers
 pub mod BaseQuestions
 pub mod AncestryQuestions
 pub mod ReachQuestions

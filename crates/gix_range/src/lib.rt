@@ -14,6 +14,7 @@
 //! painting finds and that no other one of them reaches (`independence.rt`).
 #![tactic(auto)]
 
+mod found;
 mod hidden;
 mod independence;
 mod kept;

@@ -13,12 +13,13 @@
 //!    and keep the candidates that are not among it.
 
 ghost use Rattle.std.specs.Prelude.{◌∷◌, [], IfOk};
-ghost use Rattle.gix_revwalk.specs.History.{IsBeyond};
-ghost use Rattle.gix_revwalk.specs.Sizes.{HasSize, Lists};
+ghost use Rattle.gix_revwalk.specs.History.{IsAncestorOfOne, IsBeyond};
+ghost use Rattle.gix_revwalk.specs.Sizes.{HasSize, AtLeast, AtMost, Lists};
 ghost use Rattle.gix_merge_base.specs.AfterCall.{AfterCall};
 ghost use Rattle.gix_merge_base.specs.Premises.{IsAcyclicFrom};
 ghost use Rattle.gix_range.specs.Ranges.{Covers, Keeps};
 
+use crate::found::find_candidates;
 use crate::hidden::hidden_by;
 use crate::kept::keep;
 use crate::whole::{all_reached, keep_all_out};
@@ -70,7 +71,8 @@ fn kept_of<S: Find, A: Allocator + Copy>(
 
 /// Lists the commits that `include` reaches and `exclude` does not, each once.
 ///
-/// If the clocks were right, a commit stands behind its parents.
+/// If the clocks were right, a commit stands behind its parents. If `include` has more than one id,
+/// the walk is shorter the newer the first id of `exclude` is.
 ///
 /// # Premises
 ///
@@ -90,27 +92,28 @@ fn kept_of<S: Find, A: Allocator + Copy>(
 /// The graph can be used again after either.
 pub fn beyond<S: Find, A: Allocator + Copy>(
     alloc: A,
-    include: ObjectId,
+    include: &[ObjectId],
     exclude: &[ObjectId],
     graph: &mut Graph<S, Commit<Flags, A>, A>,
 ) -> Result<Vec<ObjectId, A>, Error>
-    // Premise: acyclic. The list has exactly the commits that `include` reaches and none of
-    // `exclude` does, each once.
+    // Premise: acyclic. The list has exactly the commits that an id of `include` reaches and no id
+    // of `exclude` reaches, each once.
     ensures reached { IsAcyclicFrom (S.history graph.old.source) exclude.now
         → IfOk result (λ ids. Lists ids.items
-        (IsBeyond (S.history graph.old.source) exclude.now (include ∷ []))) }
+        (IsBeyond (S.history graph.old.source) exclude.now include.now)) }
 
-    // The list has each of these commits, and only commits that `include` reaches, each once.
+    // The list has each of these commits, and only commits that an id of `include` reaches, each
+    // once.
     ensures covers { IfOk result
-        (λ ids. Covers (S.history graph.old.source) (include ∷ []) exclude.now ids.items) }
+        (λ ids. Covers (S.history graph.old.source) include.now exclude.now ids.items) }
 
     // Also after an error, the history is unchanged, and the graph keeps each commit that it holds.
     // After a source error, which has one of two texts, the fault count is one more, up to
     // `u64::MAX`. Otherwise it is unchanged.
     ensures after { AfterCall S.history S.fault_count graph.old graph.new result }
 {
-    let found = paint_sides(alloc, include, exclude, graph)?;
-    let kept = kept_of(alloc, &found.firsts, exclude, budget(found.pops), graph)?;
+    let found = find_candidates(alloc, include, exclude, graph)?;
+    let kept = kept_of(alloc, &found.candidates, exclude, budget(found.pops), graph)?;
     Ok(kept.into_vec())
 }
 
@@ -118,22 +121,31 @@ pub fn beyond<S: Find, A: Allocator + Copy>(
 ///
 /// # Premises
 ///
-/// [Acyclic](gix_merge_base#premises), for what `exclude` reaches.
+/// [Acyclic](gix_merge_base#premises), for what `exclude` reaches. Without it the count is still no
+/// less than this number, and no more than the number of commits that `include` reaches.
 ///
 /// # Errors
 ///
 /// Those of [`beyond`].
 pub fn count_beyond<S: Find, A: Allocator + Copy>(
     alloc: A,
-    include: ObjectId,
+    include: &[ObjectId],
     exclude: &[ObjectId],
     graph: &mut Graph<S, Commit<Flags, A>, A>,
 ) -> Result<usize, Error>
-    // Premise: acyclic. The number is that of the commits that `include` reaches and none of
-    // `exclude` does.
+    // Premise: acyclic. The answer is how many commits an id of `include` reaches and no id of
+    // `exclude` reaches.
     ensures size { IsAcyclicFrom (S.history graph.old.source) exclude.now
-        → IfOk result (λ n. HasSize
-        (IsBeyond (S.history graph.old.source) exclude.now (include ∷ [])) n) }
+        → IfOk result
+        (λ n. HasSize (IsBeyond (S.history graph.old.source) exclude.now include.now) n) }
+
+    // The answer is at least the number of these commits.
+    ensures no_less { IfOk result
+        (λ n. AtMost n (IsBeyond (S.history graph.old.source) exclude.now include.now)) }
+
+    // The answer is at most the number of commits that the ids of `include` reach.
+    ensures no_more { IfOk result
+        (λ n. AtLeast n (IsAncestorOfOne (S.history graph.old.source) include.now)) }
 
     // Also after an error, the history is unchanged, and the graph keeps each commit that it holds.
     // After a source error, which has one of two texts, the fault count is one more, up to
@@ -151,8 +163,9 @@ pub fn count_beyond<S: Find, A: Allocator + Copy>(
 ///
 /// # Premises
 ///
-/// [Acyclic](gix_merge_base#premises), for what `theirs` reaches, for the first number, and for what
-/// `ours` reaches, for the second one.
+/// [Acyclic](gix_merge_base#premises): for the first number, for what `theirs` reaches, and for the
+/// second, for what `ours` reaches. Without it each number is still no less than that of these
+/// commits, and no more than the number of commits that its side reaches.
 ///
 /// # Errors
 ///
@@ -172,6 +185,22 @@ pub fn ahead_behind<S: Find, A: Allocator + Copy>(
     ensures behind { IsAcyclicFrom (S.history graph.old.source) (ours ∷ [])
         → IfOk result (λ r. HasSize
         (IsBeyond (S.history graph.old.source) (ours ∷ []) (theirs ∷ [])) r.1) }
+
+    // The first number is at least the number of commits that only `ours` reaches.
+    ensures no_less_ahead { IfOk result (λ r. AtMost r.0
+        (IsBeyond (S.history graph.old.source) (theirs ∷ []) (ours ∷ []))) }
+
+    // The second number is at least the number of commits that only `theirs` reaches.
+    ensures no_less_behind { IfOk result (λ r. AtMost r.1
+        (IsBeyond (S.history graph.old.source) (ours ∷ []) (theirs ∷ []))) }
+
+    // The first number is at most the number of commits that `ours` reaches.
+    ensures no_more_ahead { IfOk result (λ r. AtLeast r.0
+        (IsAncestorOfOne (S.history graph.old.source) (ours ∷ []))) }
+
+    // The second number is at most the number of commits that `theirs` reaches.
+    ensures no_more_behind { IfOk result (λ r. AtLeast r.1
+        (IsAncestorOfOne (S.history graph.old.source) (theirs ∷ []))) }
 
     // Also after an error, the history is unchanged, and the graph keeps each commit that it holds.
     // After a source error, which has one of two texts, the fault count is one more, up to

@@ -198,6 +198,11 @@ impl<F: Folders + Drop, A: Allocator + Copy> Commits<F, A> {
         }
     }
 
+    /// Returns whether each commit is read from its object, as it is there.
+    pub(crate) fn reads_only_objects(&self) -> bool {
+        (self.rows.is_none() || self.is_without_rows) && self.changes.is_empty()
+    }
+
     /// Returns whether the commit-graph has a commit. One that is damaged has none.
     pub(crate) fn has_row(&mut self, id: ObjectId) -> Result<bool, AllocError> {
         let alloc = self.alloc;

@@ -267,6 +267,13 @@ impl<F: Folders + Drop, A: Allocator + Copy> Repository<F, A> {
         !self.history.reader.changes.is_empty()
     }
 
+    /// Returns whether questions are best asked early (`gix_range`): no commit has a generation number,
+    /// since no commit-graph is used and nothing is loaded, and no commit is changed. Then no commit
+    /// reaches a cycle, unless two contents have the same SHA-1.
+    pub fn asks_early(&self) -> bool {
+        self.loaded.is_none() && self.history.reader.reads_only_objects()
+    }
+
     /// Returns the parents and the date of a commit, and reads it if need be.
     ///
     /// # Errors

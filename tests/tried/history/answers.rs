@@ -80,9 +80,11 @@ fn survives_failed_allocations(rt: HostRuntime) -> Result<(), Fail> {
 fn needs_only_some(alloc: Global) -> bool {
     let mut history = short(alloc, 10, u64::MAX);
     finds_base(alloc, &mut history) == Ok(true)
-        && counts_sides(alloc, &mut history) == Err(ReadError::Missing(id_of(10)))
-        && reaches(alloc, &mut history, 80, 118) == Ok(true)
-        && reaches(alloc, &mut history, 5, 118) == Err(ReadError::Missing(id_of(10)))
+        && counts_sides(alloc, &mut history, true) == Ok(true)
+        && reaches(alloc, &mut history, true, 118, 119) == Ok(false)
+        && counts_sides(alloc, &mut history, false) == Err(ReadError::Missing(id_of(10)))
+        && reaches(alloc, &mut history, false, 80, 118) == Ok(true)
+        && reaches(alloc, &mut history, false, 5, 118) == Err(ReadError::Missing(id_of(10)))
         && history.known.origin(id_of(60)) == Some(Origin::File)
         && history.known.origin(id_of(10)) == None
 }
@@ -96,11 +98,11 @@ fn needs_no_missing_commit(rt: HostRuntime) -> Result<(), Fail> {
 /// Returns how many commits the first and the second question about near tips read.
 fn reads_of_two(alloc: Global) -> (u64, u64) {
     let mut history = short(alloc, 0, u64::MAX);
-    if reaches(alloc, &mut history, 110, 118) != Ok(true) {
+    if reaches(alloc, &mut history, false, 110, 118) != Ok(true) {
         return (0, 0);
     }
     let first = history.reader.reads;
-    if reaches(alloc, &mut history, 114, 118) != Ok(true) {
+    if reaches(alloc, &mut history, false, 114, 118) != Ok(true) {
         return (0, 0);
     }
     (first, history.reader.reads.saturating_sub(first))
@@ -145,7 +147,7 @@ fn reads_of_near(alloc: Global) -> u64 {
         reads: 0,
     };
     let mut history = History::new(alloc, Seed::default(), reader);
-    match reaches(alloc, &mut history, 9_900, 9_998) {
+    match reaches(alloc, &mut history, false, 9_900, 9_998) {
         Ok(true) => history.reader.reads,
         _ => 0,
     }

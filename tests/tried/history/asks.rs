@@ -28,9 +28,11 @@ pub(crate) fn finds_base<A: Allocator + Copy>(
 pub(crate) fn counts_sides<A: Allocator + Copy>(
     alloc: A,
     history: &mut History<Fake, A>,
+    early: bool,
 ) -> Result<bool, ReadError> {
     let question = AheadBehind {
         alloc,
+        early,
         ours: id_of(119),
         theirs: id_of(118),
     };
@@ -42,9 +44,11 @@ pub(crate) fn counts_sides<A: Allocator + Copy>(
 pub(crate) fn tells_tips<A: Allocator + Copy>(
     alloc: A,
     history: &mut History<Fake, A>,
+    early: bool,
 ) -> Result<bool, ReadError> {
     let question = Contains {
         alloc,
+        early,
         commit: id_of(80),
         tips: &[id_of(119), id_of(118), id_of(80), id_of(78)],
     };
@@ -76,15 +80,29 @@ pub(crate) fn describes<A: Allocator + Copy>(
 pub(crate) fn reaches<A: Allocator + Copy>(
     alloc: A,
     history: &mut History<Fake, A>,
+    early: bool,
     ancestor: u32,
     of: u32,
 ) -> Result<bool, ReadError> {
     let question = IsAncestor {
         alloc,
+        early,
         ancestor: id_of(ancestor),
         of: id_of(of),
     };
     history.ask::<Brand, IsAncestor<A>>(alloc, &question)
+}
+
+/// Asks the questions that can be answered early, and tells whether all answers are right.
+fn all_right_by<A: Allocator + Copy>(
+    alloc: A,
+    history: &mut History<Fake, A>,
+    early: bool,
+) -> Result<bool, ReadError> {
+    let counts = counts_sides(alloc, history, early)?;
+    let tips = tells_tips(alloc, history, early)?;
+    let reached = reaches(alloc, history, early, 20, 119)?;
+    Ok(counts && tips && reached)
 }
 
 /// Asks all questions, and tells whether all answers are right.
@@ -93,9 +111,8 @@ pub(crate) fn all_right<A: Allocator + Copy>(
     history: &mut History<Fake, A>,
 ) -> Result<bool, ReadError> {
     let base = finds_base(alloc, history)?;
-    let counts = counts_sides(alloc, history)?;
-    let tips = tells_tips(alloc, history)?;
     let described = describes(alloc, history)?;
-    let reached = reaches(alloc, history, 20, 119)?;
-    Ok(base && counts && tips && described && reached)
+    let early = all_right_by(alloc, history, true)?;
+    let late = all_right_by(alloc, history, false)?;
+    Ok(base && described && early && late)
 }

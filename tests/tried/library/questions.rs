@@ -28,6 +28,10 @@ pub enum Call {
     Reached,
     /// What the first reaches and the others do not, in any order.
     Beyond,
+    /// What the others reach and the first does not, in any order.
+    OthersBeyond,
+    /// All that the others reach, in any order.
+    AllOfOthers,
     /// The answer is how many commits `Beyond` has.
     CountBeyond,
     /// Takes the first and one other. The answer is how many commits the first alone reaches, and
@@ -119,10 +123,12 @@ fn is_right_early<S: Find, A: Allocator + Copy>(
     let (first, answer) = (id(question.2), question.4);
     Ok(match question.0 {
         Call::Reached => gix_range::is_reached(alloc, first, others, graph)? != answer.is_empty(),
-        Call::Beyond => are_set(&beyond(alloc, first, others, graph)?, answer),
+        Call::Beyond => are_set(&beyond(alloc, &[first], others, graph)?, answer),
+        Call::OthersBeyond => are_set(&beyond(alloc, others, &[first], graph)?, answer),
+        Call::AllOfOthers => are_set(&beyond(alloc, others, &[], graph)?, answer),
         Call::CountBeyond => {
             answer.first().map(|n| usize::from(*n))
-                == Some(count_beyond(alloc, first, others, graph)?)
+                == Some(count_beyond(alloc, &[first], others, graph)?)
         }
         Call::AheadBehind => are_counted(alloc, graph, first, others, answer)?,
         Call::EarlyBases => are_set(&bases(alloc, first, others, graph)?, answer),

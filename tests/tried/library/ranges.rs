@@ -1,7 +1,7 @@
 //! The calls of `gix_range`, over histories without generation numbers.
 
 use crate::library::questions::Call::{
-    AheadBehind, Beyond, CountBeyond, EarlyBases, Independent, Reached,
+    AheadBehind, AllOfOthers, Beyond, CountBeyond, EarlyBases, Independent, OthersBeyond, Reached,
 };
 use crate::library::questions::{Call, Question};
 use crate::shared::faults::{LookUps, first_lost, is_counted};
@@ -59,7 +59,7 @@ const WRONG_CLOCK: [Row<'static>; 6] = [
     Row(6, 80, None, &[5]),
 ];
 
-static WORKED: [Question; 27] = [
+static WORKED: [Question; 32] = [
     Question(Reached, &WRONG_CLOCK, 2, &[4], &[2]),
     Question(Reached, &WRONG_CLOCK, 2, &[4, 6], &[2]),
     Question(Reached, &WRONG_CLOCK, 5, &[4], &[]),
@@ -74,6 +74,11 @@ static WORKED: [Question; 27] = [
     Question(Beyond, &WRONG_CLOCK, 8, &[4], &[]),
     Question(Beyond, &WRONG_CLOCK, 6, &[3, 5], &[6]),
     Question(Beyond, &WRONG_CLOCK, 2, &[4], &[]),
+    Question(OthersBeyond, &WRONG_CLOCK, 4, &[6, 5], &[5, 6]),
+    Question(OthersBeyond, &WRONG_CLOCK, 1, &[6, 4], &[2, 3, 4, 5, 6]),
+    Question(OthersBeyond, &WRONG_CLOCK, 8, &[3, 2], &[1, 2, 3]),
+    Question(AllOfOthers, &WRONG_CLOCK, 1, &[4, 5], &[1, 2, 3, 4, 5]),
+    Question(AllOfOthers, &WRONG_CLOCK, 1, &[], &[]),
     Question(CountBeyond, &WRONG_CLOCK, 6, &[4], &[2]),
     Question(CountBeyond, &OLD_PATH, 6, &[2], &[4]),
     Question(AheadBehind, &WRONG_CLOCK, 6, &[4], &[2, 2]),

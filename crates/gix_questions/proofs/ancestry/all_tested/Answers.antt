@@ -8,16 +8,14 @@ use Rattle.gix_questions.proofs.ancestry.all_tested.Goals as goal
 pub loop-tip-preserved : goal.loop-tip-preserved
 loop-tip-preserved g c =
     let inv = c.loop-tip.invariant in
-    let e = c.in_ok-reached.ensures in
     record {
-      history = c.is_ancestor.ensures.history ∙ inv.history;
-      answers = rw c.push_reserved.ensures.items (contained-next _ c.args.commit c.args.tips.now c.loop-tip.tip-index _ _ _ (omega arith) inv.answers
-          (record { exact = rw inv.history at e.ancestor; reached = rw inv.history at e.reached; itself = rw inv.history at e.same }));
+      history = c.reaches.ensures.history ∙ inv.history;
+      answers = rw c.push_reserved.ensures.items (contained-next _ c.args.early c.args.commit c.args.tips.now c.loop-tip.tip-index _ _ _ (omega arith) inv.answers (rw inv.history at c.in_ok-reached.ensures.means));
       len = omega (arith, c.push_reserved.ensures.len, inv.len);
       room = omega (arith, c.push_reserved.ensures.capacity, inv.room);
     }
 
 pub returns : goal.returns
 returns g c =
-    let P : List ObjectId → Type 0 = λ xs. MeanContained (g.S.Find.history c.args.graph.now.source) c.args.commit xs c.loop-tip.answers.items in
+    let P : List ObjectId → Type 0 = λ xs. MeanContained (g.S.Find.history c.args.graph.now.source) c.args.early c.args.commit xs c.loop-tip.answers.items in
     subst P (take_all c.loop-tip.tip-index c.args.tips.now (omega arith)) c.loop-tip.invariant.answers
