@@ -171,6 +171,8 @@ def control_of(package: Package, files: list[File]) -> bytes:
     if package.recommends:
         lines += [f"Recommends: {package.recommends}"]
     lines += [f"Section: {package.section}", "Priority: optional"]
+    if os.environ["URL"]:
+        lines.append(f"Homepage: {os.environ['URL']}")
     if package.multi_arch:
         lines.append(f"Multi-Arch: {package.multi_arch}")
     return ("\n".join(lines) + f"\nDescription: {package.summary}\n{WHAT}{package.text}").encode()

@@ -17,6 +17,7 @@ from documents import origin
 VERSION = os.environ["VERSION"]
 SONAME = os.environ["SONAME"]
 NAME = f"gix_revision_proved-{VERSION}"
+URLS = f"Project-URL: Source, {os.environ['URL']}\n" if os.environ["URL"] else ""
 
 METADATA = f"""Metadata-Version: 2.1
 Name: gix-revision-proved
@@ -25,7 +26,7 @@ Summary: Merge bases, commit descriptions and git revisions, over proved code
 License: MIT OR Apache-2.0
 Platform: Linux, x86-64-v2
 Requires-Python: >=3.10
-Description-Content-Type: text/markdown
+{URLS}Description-Content-Type: text/markdown
 
 {bytes_of("bindings/python/README.md").decode()}
 {origin()}
