@@ -1,14 +1,14 @@
 //! Answers `merge-base` (git-merge-base).
 #![tactic(auto)]
 
-use git_session::bases::{bases_in_order, merge_bases, octopus_in_order};
+use git_session::bases::{bases_in_order, independent_commits, merge_bases, octopus_in_order};
 use git_session::forms::asks_entry;
 use git_session::names::{commit, commit_of, commits, commits_last_first};
 use git_session::options::{add_choice, next_item};
 use git_session::ranges::revision;
 use git_session::session::Session;
 use git_session::stop::{Stop, fatal, not_supported};
-use gix_questions::{Independent, IsAncestor};
+use gix_questions::IsAncestor;
 use gix_repository::Refusal;
 use gix_revision::hash::ObjectId;
 use parse_options::{Choice, Given, Item, Reader, Value};
@@ -166,11 +166,7 @@ fn independent(session: &mut Session<'_>, asked: &Asked<'_>) -> Result<u8, Stop>
         return Err(excluded(session.alloc, b"--independent"));
     }
     let ids = commits_last_first(session, &asked.texts)?;
-    let question = Independent {
-        alloc: session.alloc,
-        ids: &ids,
-    };
-    let found = session.repository.ask::<Brand, _>(&question)?;
+    let found = independent_commits(session, &ids)?;
     print_ids(session, true, &found)
 }
 

@@ -6,7 +6,7 @@ mod painting;
 use crate::bases::painting::met;
 use crate::session::Session;
 use crate::stop::{Stop, not_supported};
-use gix_questions::{MergeBases, OctopusBases};
+use gix_questions::{EarlyBases, EarlyIndependent, Independent, MergeBases, OctopusBases};
 use gix_revision::hash::ObjectId;
 use std::alloc::{AllocError, Global};
 use std::marker::Brand;
@@ -87,6 +87,21 @@ fn in_order(
     Ok(ids)
 }
 
+/// Returns the merge bases of a commit and a merge of others, at least one of which there is.
+fn bases_early(
+    session: &mut Session<'_>,
+    first: ObjectId,
+    others: &[ObjectId],
+) -> Result<Vec<ObjectId>, Stop> {
+    let question = EarlyBases {
+        alloc: session.alloc,
+        first,
+        others,
+    };
+    let found = session.repository.ask::<Brand, _>(&question)?;
+    Ok(only(session.alloc, &found, &found)?)
+}
+
 /// Returns the merge bases of a commit and a merge of others, in no particular order. The answer is
 /// that of a proved question.
 ///
@@ -98,6 +113,9 @@ pub fn merge_bases(
     first: ObjectId,
     others: &[ObjectId],
 ) -> Result<Vec<ObjectId>, Stop> {
+    if session.repository.asks_early() && !others.is_empty() {
+        return bases_early(session, first, others);
+    }
     let question = MergeBases {
         alloc: session.alloc,
         first,
@@ -201,4 +219,24 @@ pub fn octopus_in_order(
         return Err(unordered(session.alloc));
     }
     Ok(found)
+}
+
+/// Returns those of some ids that no other one reaches, each once, in the order of the ids. The
+/// answer is that of a proved question.
+///
+/// # Errors
+///
+/// `Refused` if a commit is not read.
+pub fn independent_commits(
+    session: &mut Session<'_>,
+    ids: &[ObjectId],
+) -> Result<Vec<ObjectId>, Stop> {
+    let alloc = session.alloc;
+    if session.repository.asks_early() {
+        let ids = only(alloc, ids, ids)?;
+        let question = EarlyIndependent { alloc, ids: &ids };
+        return Ok(session.repository.ask::<Brand, _>(&question)?);
+    }
+    let question = Independent { alloc, ids };
+    Ok(session.repository.ask::<Brand, _>(&question)?)
 }

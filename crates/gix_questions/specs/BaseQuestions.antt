@@ -4,7 +4,7 @@ use Rattle.std.specs.List.{IsDistinct, list_all}
 use Rattle.gix_base.specs.declared.error.NonEmpty.{NonEmpty}
 use Rattle.gix_base.specs.declared.hash.ObjectId.{ObjectId}
 use Rattle.gix_revwalk.specs.History.{History, same_id, is_one_of}
-use Rattle.gix_merge_base.specs.Bases.{AreBases, CoverBases, ids_of, is_trivial}
+use Rattle.gix_merge_base.specs.Bases.{AreBases, CoverBases, IsCommon, IsMaximal, ids_of, is_trivial}
 use Rattle.gix_merge_base.specs.Keys.{IsInOrder}
 use Rattle.gix_merge_base.specs.Octopus.{IsOctopusBase, AreOctopusBases, IsCommonToAll, IsFirstOctopusBase}
 use Rattle.gix_merge_base.specs.Premises.{IsAcyclicFrom, GenerationsNeverRiseFrom}
@@ -27,6 +27,17 @@ pub record MeansIndependent (h : History) (ids left : List ObjectId) : Type 0 wh
   pub independent : IsAcyclicFrom h ids → GenerationsNeverRiseFrom h ids → (c : ObjectId) → IsTrue (is_one_of left c) ↔ IsIndependent h ids c
   pub kept : IsAcyclicFrom h ids → (c : ObjectId) → IsIndependent h ids c → IsTrue (is_one_of left c)
   pub some : SomeOf ids left
+
+-- If the history h is acyclic from f and os, `found` has exactly those common ancestors of f and of
+-- one of os that no other such ancestor reaches (git-merge-base, "Discussion").
+abbrev pub MeansEarlyBases : History → ObjectId → List ObjectId → List ObjectId → Type 0
+MeansEarlyBases h f os found =
+    IsAcyclicFrom h (f ∷ os) → (c : ObjectId) → IsTrue (is_one_of found c) ↔ IsMaximal h (IsCommon h f os) c
+
+-- If the history h is acyclic from ids, `left` has exactly those of ids that no other one of them
+-- reaches (git-merge-base, "--independent").
+abbrev pub MeansEarlyIndependent : History → List ObjectId → List ObjectId → Type 0
+MeansEarlyIndependent h ids left = IsAcyclicFrom h ids → (c : ObjectId) → IsTrue (is_one_of left c) ↔ IsIndependent h ids c
 
 -- In the history h, `found` is the first octopus base of f and os (`IsFirstOctopusBase`). If h is
 -- acyclic from f and os, with ordered generations, it is their octopus base. If h is acyclic, and

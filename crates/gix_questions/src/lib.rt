@@ -17,7 +17,7 @@ mod octopus;
 mod reach;
 
 pub use ancestry::{Contains, IsAncestor};
-pub use bases::{Independent, MergeBases};
+pub use bases::{EarlyBases, EarlyIndependent, Independent, MergeBases};
 pub use describe::Describe;
 pub use lists::CountCommits;
 pub use octopus::{Octopus, OctopusBases};

@@ -1,0 +1,4 @@
+use Rattle.gix_questions.proofs.bases.EarlyBasesQuestion.ask.Goals as goal
+
+pub returns-in-Ok : goal.returns-in-Ok
+returns-in-Ok g c = rw c.with_seed-graph.ensures.source at c.in-Ok.ensures.exact
