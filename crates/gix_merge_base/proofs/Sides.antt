@@ -1,12 +1,12 @@
 -- What the marks of painting say of commits that only one side reaches.
-use Rattle.std.proofs.Common.{◌≡◌, ℕ, Bool, true, false, cond, refl, ap, sym, subst, ◌∙◌, List, [], ◌∷◌, ◌++◌, ◌⊎◌, inl, inr, ◌&&◌, not, IsTrue, length, reverse, arith}
+use Rattle.std.proofs.Common.{◌≡◌, Bool, true, false, cond, refl, sym, subst, ◌∙◌, List, [], ◌∷◌, ◌++◌, ◌⊎◌, inl, inr, not, IsTrue, length, arith}
 use Rattle.std.specs.List.{filter}
 use Rattle.std.specs.List.Sorted.{IsPermutation}
 use Rattle.std.proofs.lemmas.List.Sorted.{list_any-IsPermutation}
 use Rattle.std.proofs.Math.Path.{fun_ext}
 use Rattle.gix_base.specs.declared.hash.ObjectId.{ObjectId}
 use Rattle.gix_revwalk.specs.Graph.{Graphed}
-use Rattle.gix_revwalk.specs.History.{History, Has, IsEdge, IsAncestor, IsAncestorOfOne, is_one_of, same_id}
+use Rattle.gix_revwalk.specs.History.{History, IsAncestor, IsAncestorOfOne, is_one_of, same_id}
 use Rattle.gix_revwalk.specs.History.IsAncestor.{itself, further}
 use Rattle.gix_revwalk.specs.Number.{place_in}
 use Rattle.gix_revwalk.specs.Walks.{added}

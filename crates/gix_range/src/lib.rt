@@ -1,5 +1,5 @@
-//! What some commits reach and others do not, ancestry, and merge bases, by walks that end early
-//! whatever the clocks were, also without generation numbers.
+//! What some commits reach and others do not, ancestry, and merge bases, right whatever the clocks
+//! were. If most clocks were right the walks end early, also without generation numbers.
 //!
 //! The premise of each answer is *acyclic*, as [`gix_merge_base`] defines it. No answer depends on
 //! times or generation numbers: they only choose in which order the walks visit commits. With

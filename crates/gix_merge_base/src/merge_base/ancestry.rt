@@ -145,7 +145,8 @@ fn reaches<S: Find, A: Allocator + Copy>(
 ///   nothing is reachable from it.
 /// - If both ids are equal, only that id is looked up.
 ///
-/// The walk starts at `of` alone, and goes no lower than the generation number of `ancestor`.
+/// The walk starts at `of`, and does not go on from a commit whose generation number is at most
+/// that of `ancestor`.
 ///
 /// # Premises
 ///

@@ -30,8 +30,8 @@ use std::alloc::Allocator;
 /// Each merge base is returned once. They are sorted by falling generation number, then falling
 /// time, then rising id. The answer is `None` if there is no merge base.
 ///
-/// - If `others` is empty or contains `first`, the answer is `first`. The call then succeeds, takes
-///   no memory, asks the source nothing, and leaves the graph as it was.
+/// - If `others` is empty or contains `first`, the answer is `first`. The call then succeeds, also
+///   where no memory is left, and the graph and its source stay as they were.
 /// - An id that the source does not have has no ancestors.
 ///
 /// # Premises

@@ -224,7 +224,7 @@ pub fn octopus_bases<S: Find, A: Allocator + Copy>(
 /// is `None` if the ids have no common ancestor.
 ///
 /// - If all ids are equal, also with no `others`, the answer is that id. The call then succeeds,
-///   takes no memory, asks the source nothing, and leaves the graph as it was.
+///   also where no memory is left, and the graph and its source stay as they were.
 /// - An id that the source does not have has no ancestors.
 ///
 /// # Premises
