@@ -15,7 +15,7 @@ _git_proved() {
     done
     case $word,$cur in
         ,-*)
-            __gitcomp "-C --git-dir= --work-tree= --authentic --version -h \
+            __gitcomp "-C --git-dir= --work-tree= --authentic --authentic=whole --version -h \
                 --help"
             ;;
         ,*)

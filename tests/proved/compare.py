@@ -393,22 +393,24 @@ def compare_distances(comparison: Comparison, place: Repository, count: int) -> 
 
 
 def compare_authentic(comparison: Comparison, commands: list[Command]) -> None:
-    """Asks with --authentic, which answers from objects alone, and compares with git without it."""
-    for command in commands:
+    """Asks with --authentic and --authentic=whole in turn, which answer from objects alone, and
+    compares with git without them."""
+    for number, command in enumerate(commands):
         wanted = comparison.known[command]
-        found = ask([*comparison.program, b"--authentic"], command)
+        mode = ("--authentic", "--authentic=whole")[number % 2]
+        found = ask([*comparison.program, mode.encode()], command)
         if found.status in (125, 129) and not found.out:
             with comparison.lock:
-                comparison.refused["--authentic"] += 1
+                comparison.refused[mode] += 1
             continue
         why = comparison.difference(command, wanted, found)
         if why:
             wanted = ask([b"git", b"-c", b"core.commitGraph=false"], command)
             why = comparison.difference(command, wanted, found)
         with comparison.lock:
-            comparison.asked["--authentic"] += 1
+            comparison.asked[mode] += 1
         if why:
-            comparison.differs(f"--authentic {command.text()}: {why}")
+            comparison.differs(f"{mode} {command.text()}: {why}")
 
 
 def compare_damaged_graphs(comparison: Comparison, room: Room, seed: int) -> None:

@@ -334,7 +334,7 @@ def deceived(asked: Asked, room: Room) -> None:
 
 
 def authentic(asked: Asked, room: Room) -> None:
-    """In authentic mode nothing is answered if the repository changes commits."""
+    """If only objects are believed, nothing is answered if the repository changes commits."""
     for name in ("grafts", "shallow", "replaced"):
         place = in_line(room, name, 9)
         if name == "grafts":
@@ -344,7 +344,8 @@ def authentic(asked: Asked, room: Room) -> None:
         else:
             place.git("replace", place.ids[3], place.ids[5])
         for it in ("rev-list --count main", "merge-base main main~1", "describe --always"):
-            asked.expect(place, it, answer(asked.program, place, f"--authentic {it}"), (129, b""))
+            for mode in ("--authentic", "--authentic=whole"):
+                asked.expect(place, it, answer(asked.program, place, f"{mode} {it}"), (129, b""))
 
 
 def closed(asked: Asked, room: Room) -> None:

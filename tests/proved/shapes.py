@@ -36,7 +36,7 @@ OPTIONS = {
 PARSED = (b"merge-base", b"describe", b"for-each-ref")
 
 # The options before the word that are read.
-BEFORE = {b"-C", b"--git-dir", b"--work-tree", b"--authentic", b"--version", b"-h", b"--help"}
+BEFORE = {b"-C", b"--git-dir", b"--work-tree", b"--authentic", b"--authentic=whole", b"--version", b"-h", b"--help"}
 
 # The options of rev-list from which a list begins, without patterns.
 BEGINS = (b"--all", b"--branches", b"--tags", b"--remotes", b"--stdin")

@@ -8,7 +8,7 @@ use crate::streams::fill_streams;
 use git_session::stop::{Cause, Stop, failed, fatal, no_question, not_supported, refused, unread};
 use gix_discover::{Environment, Variable};
 use gix_files::{FileError, System};
-use gix_repository::{Mode, Opening};
+use gix_repository::Opening;
 use gix_revision::Seed;
 use gix_revision::date::Time;
 use std::alloc::AllocError;
@@ -150,11 +150,7 @@ fn serve(rt: &HostRuntime, front: &Front<'_>, word: &[u8], words: &[&[u8]]) -> R
         refusals: rt.alloc(),
         seed: seed(rt),
         now: now(rt)?,
-        mode: if front.is_authentic {
-            Mode::Authentic
-        } else {
-            Mode::Usual
-        },
+        mode: front.mode,
     };
     let Ok(mut input) = BufReader::new(rt.alloc(), rt.stdin()) else {
         return Err(Stop::OutOfMemory);

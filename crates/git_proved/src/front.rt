@@ -1,5 +1,6 @@
 //! Reads the options that stand before the word (git, "Options").
 
+use gix_repository::Mode;
 use std::alloc::{AllocError, Global};
 
 /// Says what the options before the word ask for.
@@ -11,8 +12,8 @@ pub(crate) struct Front<'w> {
     pub(crate) git_dir: Option<&'w [u8]>,
     /// The folder of `--work-tree`.
     pub(crate) work_tree: Option<&'w [u8]>,
-    /// Tells whether only objects are believed, each the content of its id.
-    pub(crate) is_authentic: bool,
+    /// Which files are believed.
+    pub(crate) mode: Mode,
     /// What follows.
     pub(crate) asked: Asked<'w>,
 }
@@ -58,6 +59,17 @@ fn wanted(word: &[u8]) -> Option<(Wants, Option<&[u8]>)> {
     }
 }
 
+/// Returns which files are believed, if the word is an option that says so.
+fn mode_of(word: &[u8]) -> Option<Mode> {
+    if word == b"--authentic".as_slice() {
+        Some(Mode::Authentic)
+    } else if word == b"--authentic=whole".as_slice() {
+        Some(Mode::Whole)
+    } else {
+        None
+    }
+}
+
 /// Returns what a word asks for that ends the options.
 fn ending<'w>(word: &'w [u8], rest: &'w [&'w [u8]]) -> Asked<'w> {
     if word == b"-h".as_slice() || word == b"--help".as_slice() {
@@ -93,7 +105,7 @@ impl<'w> Front<'w> {
             folders: Vec::new(alloc),
             git_dir: None,
             work_tree: None,
-            is_authentic: false,
+            mode: Mode::Usual,
             asked: Asked::Nothing,
         };
         let mut next = 0usize;
@@ -103,8 +115,8 @@ impl<'w> Front<'w> {
             };
             next = next.saturating_add(1);
             let rest = words.get(next..).unwrap_or(&[]);
-            if word == b"--authentic".as_slice() {
-                front.is_authentic = true;
+            if let Some(mode) = mode_of(word) {
+                front.mode = mode;
                 continue;
             }
             let Some((wants, joined)) = wanted(word) else {

@@ -3,7 +3,7 @@
 /// The help: what `git proved -h` prints.
 pub(crate) const HELP: &[u8] = b"\
 usage: git proved [-C FOLDER] [--git-dir=FOLDER] [--work-tree=FOLDER]
-                  [--authentic] COMMAND [ARGUMENT..]
+                  [--authentic[=whole]] COMMAND [ARGUMENT..]
 
 Answer a question about a repository as git does. Proved calls find merge bases,
 ranges, counts, descriptions and the refs that contain a commit. All commands
@@ -22,6 +22,7 @@ Options before the command:
     --git-dir=FOLDER    use the repository in FOLDER
     --work-tree=FOLDER  use FOLDER as the working tree
     --authentic         read commits only from objects whose SHA-1 is their id
+    --authentic=whole   as --authentic, and first read all that the commits reach
     -h, --help          print this help
     --version           print the version
 

@@ -3,3 +3,4 @@ pub mod SameRanges
 pub mod SameBases
 pub mod SameDescriptions
 pub mod Holds
+pub mod Sound

@@ -1,14 +1,28 @@
 //! States what the ids of commits determine, each law as the contract of a function.
 //!
-//! Each law is about two histories in which every id is the hash of the commit's content, and which
-//! have all parents of their commits. If both have the ids of a question, the answers are the same,
-//! or two contents that were read under one id collide.
+//! A history is authentic if every id is the hash of the commit's content. Such a history meets the
+//! premises of all answers, unless contents name each other's hashes in a circle.
+//!
+//! The laws on what ids determine are about two authentic histories, which have all parents of
+//! their commits. If both have the ids of a question, the answers are the same, or two contents that
+//! were read under one id collide.
 #![tactic(auto)]
 
 ghost use Rattle.gix_authentic.specs.Determined.{AncestryIsDetermined, BasesAreDetermined};
 ghost use Rattle.gix_authentic.specs.Determined.{RangesAreDetermined, ListsAreDetermined, CountsAreDetermined};
 ghost use Rattle.gix_authentic.specs.Determined.{OctopusBasesAreDetermined, OctopusBaseIsDetermined};
 ghost use Rattle.gix_authentic.specs.Determined.{DescriptionsAreDetermined};
+ghost use Rattle.gix_authentic.specs.Sound.{CyclesAreCircles, GenerationsAreOrdered};
+
+/// States that an authentic history is acyclic, with ordered generations.
+pub fn premises_are_met()
+    // If a commit of an authentic history is an ancestor of one of its parents, contents name each
+    // other's hashes in a circle.
+    ensures acyclic { CyclesAreCircles }
+
+    // An authentic history has ordered generations.
+    ensures ordered { GenerationsAreOrdered }
+{}
 
 /// States that ids determine which commits they reach.
 pub fn ancestry_is_determined()

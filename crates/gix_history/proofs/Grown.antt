@@ -5,7 +5,8 @@ use Rattle.gix_base.specs.declared.hash.ObjectId.{ObjectId}
 use Rattle.gix_revwalk.specs.History.{History, Entry, Has, entry_at, same_id}
 use Rattle.gix_revwalk.proofs.Ids.{same_id-true, same_id-itself}
 use Rattle.gix_revwalk.proofs.Inserted.{entry-stays}
-use Rattle.gix_history.specs.Origins.{IsFrom}
+use Rattle.gix_object.specs.Authentic.{IsAuthentic}
+use Rattle.gix_history.specs.Origins.{IsFrom, IsFromObject, AreFromObjects}
 use Rattle.gix_history.specs.Grown.{Sourced, AreSourced, Grows, origin_at}
 use Rattle.gix_history.specs.declared.reader.Origin.{Origin}
 
@@ -87,6 +88,23 @@ module _ (h : History) (origins noted : List (ObjectId × Origin)) (k : ObjectId
         let had = are q e old in
         (had.0, (note q ∙ ap (λ b. cond b (Some o) (lookup (same_id q) origins)) apart) ∙ had.1, had.2))
         found
+
+    pub put-from-objects : IsFromObject k d → AreFromObjects h → AreFromObjects n
+    put-from-objects one are = (
+      (λ q. cond (same_id k q) one.0 (are.0 q)),
+      (λ q e found.
+          by-id k (λ z. entry_at n z ≡ Some e → IsAuthentic (cond (same_id k z) one.0 (are.0 z)) z e) q
+          (λ same there.
+          let kq : k ≡ q = same_id-true k q same in
+          let found : Some d ≡ Some e = sym (put q ∙ ap (λ b. cond b (Some d) (entry_at h q)) same) ∙ there in
+          let de : d ≡ e = cc in
+          subst (λ b. IsAuthentic (cond b one.0 (are.0 q)) q e) (sym same)
+          (subst (λ z. IsAuthentic one.0 z e) kq (subst (λ x. IsAuthentic one.0 k x) de one.1)))
+          (λ apart there.
+          let old : entry_at h q ≡ Some e = sym (put q ∙ ap (λ b. cond b (Some d) (entry_at h q)) apart) ∙ there in
+          subst (λ b. IsAuthentic (cond b one.0 (are.0 q)) q e) (sym apart) (are.1 q e old))
+          found),
+    )
 
 -- Where no origin is noted, no commit is known.
 pub none-known : (known : Sourced) → known.origins ≡ [] → AreSourced known → (id : ObjectId) → entry_at known.commits id ≡ None

@@ -4,7 +4,7 @@ ghost use Rattle.std.specs.Prelude.{◌≡◌, ◌++◌, IfOk, IfSome, IsTrue, O
 ghost use Rattle.gix_base.specs.declared.hash.ObjectId.{ObjectId};
 ghost use Rattle.gix_revwalk.specs.Held.{entry_of};
 ghost use Rattle.gix_revwalk.specs.History.{Entry, Has, entry_at, same_id};
-ghost use Rattle.gix_history.specs.Origins.{IsFrom};
+ghost use Rattle.gix_history.specs.Origins.{AreFromObjects, IsFrom, IsFromObject};
 ghost use Rattle.gix_history.specs.Grown.{AreSourced, Grows, origin_at};
 ghost use Rattle.gix_history.specs.Tries.{IsTried};
 
@@ -36,17 +36,38 @@ pub enum Tried<T: Drop> {
 pub struct Known<A: Allocator = Global> {
     commits: MemorySource<A>,
     origins: HashMap<ObjectId, Origin, Seed, A>,
+    /// One of the commits that are not from objects; `None` if each one is.
+    foreign: Option<ObjectId>,
     seed: Seed,
 }
 
 impl<A: Allocator> Model for Known<A> {
+    ghost use Rattle.std.specs.Prelude.{◌≡◌, None};
     ghost use Rattle.gix_history.specs.Grown.{AreSourced, Sourced};
+    ghost use Rattle.gix_history.specs.Origins.{AreFromObjects};
 
     ghost Value = { Sourced };
 
     ghost view = { λ k. record { commits = k.commits; origins = k.origins.entries } };
 
-    ghost invariant = { λ k. AreSourced (record { commits = k.commits; origins = k.origins.entries }) };
+    ghost invariant = { λ k. AreSourced (record { commits = k.commits; origins = k.origins.entries })
+        × (k.foreign ≡ None → AreFromObjects k.commits) };
+}
+
+/// Returns `id` if the commit that was read under it is not from an object, and otherwise `foreign`.
+fn foreign_after<A: Allocator>(
+    foreign: Option<ObjectId>,
+    id: ObjectId,
+    read: &Read<A>,
+) -> Option<ObjectId>
+    requires { IsFrom read.now.origin id (entry_of read.now.commit) }
+    ensures foreign { result ≡ None → foreign ≡ None }
+    ensures object { result ≡ None → IsFromObject id (entry_of read.now.commit) }
+{
+    match read.origin {
+        Origin::Authentic if read.commit.generation.is_none() => foreign,
+        _ => Some(id),
+    }
 }
 
 impl<A: Allocator + Copy> Known<A> {
@@ -61,6 +82,7 @@ impl<A: Allocator + Copy> Known<A> {
         Known {
             commits: MemorySource::with_seed(alloc, seed),
             origins: HashMap::with_hasher(alloc, seed),
+            foreign: None,
             seed,
         }
     }
@@ -131,6 +153,16 @@ impl<A: Allocator + Copy> Known<A> {
         self.origins.get(&id).copied()
     }
 
+    /// Returns a known commit that is not what a content says whose hash is its id, or has a
+    /// generation number; `None` if there is none.
+    pub fn foreign(&self) -> Option<ObjectId>
+        // If the result is `None`, each known commit is what a content says whose hash is its id,
+        // and has no generation number.
+        ensures { result ≡ None → AreFromObjects self.now.commits }
+    {
+        self.foreign
+    }
+
     /// Adds a commit that was read, unless one is known under this id.
     ///
     /// # Errors
@@ -160,6 +192,7 @@ impl<A: Allocator + Copy> Known<A> {
         ensures put { OnOk result ((q : ObjectId) → entry_at self.new.commits q
             ≡ cond (same_id id q) (Some (entry_of read.commit)) (entry_at self.old.commits q)) }
     {
+        self.foreign = foreign_after(self.foreign, id, &read);
         let Read { commit, origin } = read;
         self.origins.insert(id, origin)?;
         match self.commits.insert(id, commit) {

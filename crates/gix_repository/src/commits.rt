@@ -20,6 +20,9 @@ use std::collections::{BTreeMap, BTreeSet};
 /// How many changed objects are looked at when a repository is opened.
 const MOST_LOOKED_AT: usize = 1024;
 
+/// How many of the parents that a commit is given are looked at.
+const MOST_PARENTS: usize = 16;
+
 /// The bits of a commit date that a commit-graph file has (gitformat-commit-graph, "Commit Data").
 const DATE_BITS: i64 = 0x3_ffff_ffff;
 
@@ -74,17 +77,18 @@ impl<A: Allocator + Copy> Changes<A> {
         }
     }
 
-    /// Returns whether each commit that is given parents is one, and each object that is replaced
-    /// stands for one of its own kind.
+    /// Returns whether each object that is given parents is a commit, and so are these parents; and
+    /// whether each object that is replaced is replaced by one of its own kind.
     ///
-    /// Only the first 1,024 of each are looked at. One that is not read counts as right.
+    /// Only the first 1,024 objects are looked at, and the first 16 parents of each. An object that
+    /// cannot be read counts as right.
     pub(crate) fn are_of_right_kind<F: Folders + Drop>(
         &self,
         alloc: A,
         store: &mut Store<F, A>,
     ) -> Result<bool, AllocError> {
-        for id in self.parents.keys().take(MOST_LOOKED_AT) {
-            if kind_of(alloc, store, *id)?.unwrap_or(Kind::Commit) != Kind::Commit {
+        for (id, parents) in self.parents.iter().take(MOST_LOOKED_AT) {
+            if !is_commit(alloc, store, *id)? || !are_commits(alloc, store, parents)? {
                 return Ok(false);
             }
         }
@@ -123,6 +127,29 @@ fn kind_of<F: Folders + Drop, A: Allocator + Copy>(
     }
 }
 
+/// Returns whether an object is a commit, or cannot be read.
+fn is_commit<F: Folders + Drop, A: Allocator + Copy>(
+    alloc: A,
+    store: &mut Store<F, A>,
+    id: ObjectId,
+) -> Result<bool, AllocError> {
+    Ok(kind_of(alloc, store, id)?.unwrap_or(Kind::Commit) == Kind::Commit)
+}
+
+/// Returns whether each of these objects, of which it looks at the first 16, is a commit.
+fn are_commits<F: Folders + Drop, A: Allocator + Copy>(
+    alloc: A,
+    store: &mut Store<F, A>,
+    ids: &[ObjectId],
+) -> Result<bool, AllocError> {
+    for id in ids.iter().take(MOST_PARENTS) {
+        if !is_commit(alloc, store, *id)? {
+            return Ok(false);
+        }
+    }
+    Ok(true)
+}
+
 /// Returns whether two objects have the same kind. One that is not read has any.
 fn are_of_one_kind<F: Folders + Drop, A: Allocator + Copy>(
     alloc: A,
@@ -148,7 +175,8 @@ fn is_same<A: Allocator>(row: &SourceCommit<A>, object: &SourceCommit<A>) -> boo
 pub(crate) struct Commits<F: Folders + Drop, A: Allocator + Copy> {
     pub(crate) alloc: A,
     pub(crate) store: Store<F, A>,
-    /// The commit-graph, if it is used. In authentic mode it is not, nor if anything is changed.
+    /// The commit-graph, if it is used. It is not if only objects are believed, or if anything is
+    /// changed.
     pub(crate) rows: Option<GraphRows<F, A>>,
     /// Whether the question goes on without the commit-graph, since a row is damaged.
     pub(crate) is_without_rows: bool,

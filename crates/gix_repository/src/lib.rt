@@ -7,7 +7,7 @@
 //!
 //! - [`Repository::ask`] answers any `Question` of `gix_history`. The answer is proved: it is
 //!   right, with the premises of the question, for every history that has the commits that were
-//!   read. In authentic mode it is right for the commits that were loaded.
+//!   read. In the mode `Whole` it is right for the commits that were loaded.
 //! - [`Repository::object`] returns the object that a revision names (gitrevisions).
 //! - [`Repository::commit`] returns the commit to which an object leads through tags.
 //!

@@ -29,10 +29,12 @@ pub enum Mode {
     /// The commit-graph is, and so are changes of commits: grafts, replace references, shallow
     /// histories.
     Usual,
-    /// Only objects are, and only if their SHA-1 is their id. All that a question's commits reach
-    /// is read. Of the premises of an answer only *older parents* is left, for the depth of a
-    /// description.
+    /// Only objects are, and only if their SHA-1 is their id. Such a history is acyclic, unless
+    /// contents name each other's hashes in a circle (`gix_authentic`).
     Authentic,
+    /// As `Authentic`, and all that a question's commits reach is read first. Of the premises of an
+    /// answer only *older parents* is left, for the depth of a description.
+    Whole,
 }
 
 /// Why a repository is not opened.
@@ -48,10 +50,10 @@ pub enum OpenError<A: Allocator = Global> {
     Changes,
     /// `GIT_REPLACE_REF_BASE`, or the name of a replacement, is none that git writes.
     Replacements,
-    /// The file `shallow` or `info/grafts` names an object that is no commit, or an object is
-    /// replaced by one of another kind.
+    /// The file `shallow` or `info/grafts` names an object that is no commit, as commit or parent,
+    /// or an object is replaced by one of another kind.
     WrongKind,
-    /// In authentic mode, the repository changes commits.
+    /// Only objects are believed, and the repository changes commits.
     IsChanged,
     /// An allocation failed.
     OutOfMemory,
@@ -191,12 +193,12 @@ fn changes_of<F: Folders + Drop, A: Allocator + Copy>(
     Ok(changes)
 }
 
-/// Fails in authentic mode if the repository changes commits.
+/// Fails if only objects are believed, and the repository changes commits.
 fn expect_unchanged<A: Allocator + Copy>(
     changes: &Changes<A>,
     mode: Mode,
 ) -> Result<(), OpenError<A>> {
-    if mode == Mode::Authentic && !changes.is_empty() {
+    if mode != Mode::Usual && !changes.is_empty() {
         Err(OpenError::IsChanged)
     } else {
         Ok(())
@@ -260,7 +262,8 @@ fn usable_rows<F: Folders + Copy + Drop, A: Allocator + Copy>(
     }
 }
 
-/// Opens what commits are read from. Fails in authentic mode if the repository changes commits.
+/// Opens what commits are read from. Fails if only objects are believed, and the repository changes
+/// commits.
 fn commits_of<F: Folders + Copy + Drop, A: Allocator + Copy>(
     alloc: A,
     files: F,
@@ -305,7 +308,7 @@ impl<F: Places + Copy + Drop, A: Allocator + Copy> Repository<F, A> {
     /// - `Object`, `Reference` or `Changes` if files were not read.
     /// - `Replacements` if replacements are named as git does not name them.
     /// - `WrongKind` if a change is about an object of another kind.
-    /// - `IsChanged` if commits are changed, and the mode is authentic.
+    /// - `IsChanged` if commits are changed, and only objects are believed.
     /// - `OutOfMemory` if an allocation failed.
     pub fn open(
         alloc: A,
@@ -340,9 +343,10 @@ impl<F: Places + Copy + Drop, A: Allocator + Copy> Repository<F, A> {
             settings,
             references,
             history: History::new(alloc, opening.seed, commits),
+            mode: opening.mode,
             loaded: match opening.mode {
-                Mode::Authentic => Some(Loaded::new(alloc, opening.seed)),
-                Mode::Usual => None,
+                Mode::Whole => Some(Loaded::new(alloc, opening.seed)),
+                _ => None,
             },
             tags: BTreeMap::new(alloc),
             peeled: BTreeMap::new(alloc),

@@ -1,6 +1,7 @@
 //! Follows tags to the objects that they name.
 
 use crate::error::{Refusal, Unsupported};
+use crate::open::Mode;
 use crate::repository::Repository;
 use gix_files::Folders;
 use gix_history::ReadError;
@@ -72,14 +73,14 @@ impl<F: Folders + Drop, A: Allocator + Copy> Repository<F, A> {
         self.history.reader.changes.stand_in(id) != Some(id)
     }
 
-    /// Returns the kind that an object has. Its header says it, as in git; in authentic mode the whole
-    /// object is read.
+    /// Returns the kind that an object has. Its header says it, as in git; if only objects are believed
+    /// whose SHA-1 is their id, the whole object is read.
     fn stored_kind(&mut self, id: ObjectId) -> Result<Kind, gix_odb::Error> {
         let alloc = self.alloc;
-        if self.loaded.is_some() {
-            self.history.reader.store.kind(alloc, id)
-        } else {
+        if self.mode == Mode::Usual {
             self.history.reader.store.told_kind(alloc, id)
+        } else {
+            self.history.reader.store.kind(alloc, id)
         }
     }
 

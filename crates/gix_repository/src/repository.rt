@@ -1,10 +1,13 @@
 //! The repository, and the questions about its history.
 
 ghost use Rattle.std.specs.Prelude.{◌≡◌, IfOk};
+ghost use Rattle.gix_history.specs.Origins.{AreFromObjects};
 ghost use Rattle.gix_repository.specs.Answers.{answered_over};
+ghost use Rattle.gix_repository.specs.declared.open.Mode.TheVariants.{Authentic};
 
 use crate::commits::Commits;
 use crate::error::{Refusal, Unsupported};
+use crate::open::Mode;
 use crate::peel::Peeled;
 use gix_discover::{Abbrev, Layout, Settings};
 use gix_files::Folders;
@@ -40,7 +43,9 @@ pub struct Repository<F: Folders + Drop, A: Allocator + Copy = Global> {
     pub(crate) settings: Settings<A>,
     pub(crate) references: References<F, A>,
     pub(crate) history: History<Commits<F, A>, A>,
-    /// In authentic mode, the commits that were loaded.
+    /// Which files are believed.
+    pub(crate) mode: Mode,
+    /// If all that a question's commits reach is read first, the commits that were loaded.
     pub(crate) loaded: Option<Loaded<A>>,
     /// What the tags say that were read.
     pub(crate) tags: BTreeMap<ObjectId, Tag<A>, A>,
@@ -97,8 +102,8 @@ impl<F: Folders + Drop, A: Allocator + Copy> Repository<F, A> {
         self.is_silent = is_silent;
     }
 
-    /// Lists the references whose full names begin with a text. In authentic mode it tells of no
-    /// reference where its tag leads: `packed-refs` says it, and nothing vouches for this file.
+    /// Lists the references whose full names begin with a text. If only objects are believed it tells
+    /// of no reference where its tag leads: `packed-refs` says it, and nothing vouches for this file.
     ///
     /// # Errors
     ///
@@ -110,7 +115,7 @@ impl<F: Folders + Drop, A: Allocator + Copy> Repository<F, A> {
         if has_unopened(&listing.skipped) {
             return Err(Refusal::NotUtf8);
         }
-        if self.loaded.is_some() {
+        if self.mode != Mode::Usual {
             for listed in listing.references.iter_mut() {
                 listed.peeled = None;
             }
@@ -201,9 +206,9 @@ impl<F: Folders + Drop, A: Allocator + Copy> Repository<F, A> {
 
     /// Answers a question about the history.
     ///
-    /// Commits are read as the question needs them. If the commit-graph is damaged where it is
-    /// needed, the answer is made again from objects, as git would read them without the file. In
-    /// authentic mode all that the question's commits reach is loaded first.
+    /// Commits are read as the question needs them; in the mode `Whole` all that the question's
+    /// commits reach is loaded first. If the commit-graph is damaged where it is needed, the answer
+    /// is made again from objects, as git would read them without the file.
     ///
     /// # Errors
     ///
@@ -211,8 +216,25 @@ impl<F: Folders + Drop, A: Allocator + Copy> Repository<F, A> {
     /// - `OutOfMemory` if an allocation failed.
     pub fn ask<K: Beyond, Q: Question>(&mut self, question: &Q) -> Result<Q::Answer, Refusal>
         // The answer is right for every history that has the commits that were read, whatever lies
-        // beyond them; in authentic mode for the commits that were loaded.
+        // beyond them; in the mode `Whole` for the commits that were loaded.
         ensures means { IfOk result (Q.means question.now
+            (answered_over self.new.loaded self.new.history.known.commits K.beyond)) }
+
+        // In the mode `Authentic`, each commit that was read is what a content says whose hash is
+        // its id, and has no generation number.
+        ensures authentic { self.new.mode ≡ Authentic
+            → IfOk result (λ _. AreFromObjects self.new.history.known.commits) }
+    {
+        let answer = self.ask_in_mode::<K, Q>(question)?;
+        match (self.mode, self.history.known.foreign()) {
+            (Mode::Authentic, Some(id)) => Err(Refusal::from(ReadError::NotAuthentic(id))),
+            _ => Ok(answer),
+        }
+    }
+
+    /// Answers a question about the commits that the mode lets it read.
+    fn ask_in_mode<K: Beyond, Q: Question>(&mut self, question: &Q) -> Result<Q::Answer, Refusal>
+        ensures { IfOk result (Q.means question.now
             (answered_over self.new.loaded self.new.history.known.commits K.beyond)) }
     {
         if self.loaded.is_some() {
@@ -269,7 +291,7 @@ impl<F: Folders + Drop, A: Allocator + Copy> Repository<F, A> {
 
     /// Returns whether questions are best asked early (`gix_range`): no commit has a generation number,
     /// since no commit-graph is used and nothing is loaded, and no commit is changed. Then no commit
-    /// reaches a cycle, unless two contents have the same SHA-1.
+    /// reaches a cycle, unless contents name each other's hashes in a circle (`gix_authentic`).
     pub fn asks_early(&self) -> bool {
         self.loaded.is_none() && self.history.reader.reads_only_objects()
     }

@@ -1,4 +1,4 @@
 use Rattle.gix_history.proofs.known.Known.sourced.Goals as goal
 
 pub returns : goal.returns
-returns g c = rw (← c.self.view_is) c.self.invariant
+returns g c = rw (← c.self.view_is) c.self.invariant.0
