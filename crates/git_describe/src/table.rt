@@ -11,7 +11,7 @@ use gix_revision::Seed;
 use gix_revision::hash::ObjectId;
 use gix_revision::object::Kind;
 use std::alloc::AllocError;
-use std::collections::HashMap;
+use std::collections::{BTreeSet, HashMap};
 use std::mem::replace;
 
 /// How many tags are followed from one reference. No repository has so many.
@@ -133,6 +133,7 @@ fn followed(session: &mut Session<'_>, id: ObjectId) -> Result<Peeled, Stop> {
 }
 
 /// Returns where a reference leads. `packed-refs` may say it: to the id itself if that is no tag.
+/// What is no tag is read once: `ends` has all that was read.
 ///
 /// # Errors
 ///
@@ -142,6 +143,7 @@ fn leads_to(
     session: &mut Session<'_>,
     id: ObjectId,
     told: Option<ObjectId>,
+    ends: &mut BTreeSet<ObjectId>,
 ) -> Result<Peeled, Stop> {
     if let Some(object) = told.filter(|object| *object != id) {
         return Ok(Peeled {
@@ -150,8 +152,13 @@ fn leads_to(
             date: None,
         });
     }
+    if ends.contains(&id) {
+        return Ok(Peeled::itself(id));
+    }
     let found = followed(session, id)?;
-    if found.is_annotated && told.is_some() {
+    if !found.is_annotated {
+        ends.insert(id)?;
+    } else if told.is_some() {
         return Err(failed(
             session.alloc,
             &[b"'packed-refs' says of a tag that it is none"],
@@ -232,8 +239,13 @@ fn priority_of(reference: &[u8], is_annotated: bool) -> Priority {
 }
 
 /// Returns the name that a reference gives.
-fn name_by(session: &mut Session<'_>, listed: &Listed, reference: usize) -> Result<Name, Stop> {
-    let peeled = leads_to(session, listed.id, listed.peeled)?;
+fn name_by(
+    session: &mut Session<'_>,
+    listed: &Listed,
+    reference: usize,
+    ends: &mut BTreeSet<ObjectId>,
+) -> Result<Name, Stop> {
+    let peeled = leads_to(session, listed.id, listed.peeled, ends)?;
     Ok(Name {
         object: peeled.object,
         id: listed.id,
@@ -276,12 +288,13 @@ impl Table {
 
     /// Adds the names of all references in the list that count.
     fn add_all(&mut self, session: &mut Session<'_>, asked: &Asked<'_>) -> Result<(), Stop> {
+        let mut ends = BTreeSet::new(session.alloc);
         for reference in 0..self.listing.references.len() {
             let Some(listed) = self.listing.references.get(reference) else {
                 break;
             };
             if counts(session.alloc, asked, &listed.name)? {
-                let name = name_by(session, listed, reference)?;
+                let name = name_by(session, listed, reference, &mut ends)?;
                 self.add(session, &name)?;
             }
         }
