@@ -20,9 +20,6 @@ use std::collections::{BTreeMap, BTreeSet};
 /// How many changed objects are looked at when a repository is opened.
 const MOST_LOOKED_AT: usize = 1024;
 
-/// How many of the parents that a commit is given are looked at.
-const MOST_PARENTS: usize = 16;
-
 /// The bits of a commit date that a commit-graph file has (gitformat-commit-graph, "Commit Data").
 const DATE_BITS: i64 = 0x3_ffff_ffff;
 
@@ -77,18 +74,17 @@ impl<A: Allocator + Copy> Changes<A> {
         }
     }
 
-    /// Returns whether each object that is given parents is a commit, and so are these parents; and
-    /// whether each object that is replaced is replaced by one of its own kind.
+    /// Returns whether each object that is given parents is a commit, and each object that is
+    /// replaced is replaced by one of its own kind.
     ///
-    /// Only the first 1,024 objects are looked at, and the first 16 parents of each. An object that
-    /// cannot be read counts as right.
+    /// Only the first 1,024 objects are looked at. An object that cannot be read counts as right.
     pub(crate) fn are_of_right_kind<F: Folders + Drop>(
         &self,
         alloc: A,
         store: &mut Store<F, A>,
     ) -> Result<bool, AllocError> {
-        for (id, parents) in self.parents.iter().take(MOST_LOOKED_AT) {
-            if !is_commit(alloc, store, *id)? || !are_commits(alloc, store, parents)? {
+        for (id, _) in self.parents.iter().take(MOST_LOOKED_AT) {
+            if !is_commit(alloc, store, *id)? {
                 return Ok(false);
             }
         }
@@ -136,18 +132,19 @@ fn is_commit<F: Folders + Drop, A: Allocator + Copy>(
     Ok(kind_of(alloc, store, id)?.unwrap_or(Kind::Commit) == Kind::Commit)
 }
 
-/// Returns whether each of these objects, of which it looks at the first 16, is a commit.
-fn are_commits<F: Folders + Drop, A: Allocator + Copy>(
+/// Returns why one of some objects is no commit. One that cannot be read counts as a commit.
+fn why_no_commit<F: Folders + Drop, A: Allocator + Copy>(
     alloc: A,
     store: &mut Store<F, A>,
     ids: &[ObjectId],
-) -> Result<bool, AllocError> {
-    for id in ids.iter().take(MOST_PARENTS) {
-        if !is_commit(alloc, store, *id)? {
-            return Ok(false);
+) -> Result<Option<gix_odb::Error>, AllocError> {
+    for id in ids {
+        match kind_of(alloc, store, *id)? {
+            None | Some(Kind::Commit) => {}
+            Some(kind) => return Ok(Some(gix_odb::Error::NotACommit(*id, kind))),
         }
     }
-    Ok(true)
+    Ok(None)
 }
 
 /// Returns whether two objects have the same kind. One that is not read has any.
@@ -307,7 +304,8 @@ impl<F: Folders + Drop, A: Allocator + Copy> Commits<F, A> {
         }
     }
 
-    /// Reads a commit from objects, with what the repository changes.
+    /// Reads a commit from objects, with what the repository changes. The parents that it is given
+    /// have to be commits.
     fn with_changes<B: Allocator + Copy>(
         &mut self,
         alloc: B,
@@ -320,10 +318,14 @@ impl<F: Folders + Drop, A: Allocator + Copy> Commits<F, A> {
             return Err(ReadError::Failed(id));
         };
         let read = self.replaced(alloc, id, by)?;
-        match self.changes.parents_of(alloc, id)? {
-            Some(parents) => Ok(Read::changed(with_parents(read.commit, parents))),
-            None => Ok(read),
+        let Some(parents) = self.changes.parents_of(alloc, id)? else {
+            return Ok(read);
+        };
+        if let Some(error) = why_no_commit(self.alloc, &mut self.store, &parents)? {
+            self.error = Some(error);
+            return Err(read_error(id, error));
         }
+        Ok(Read::changed(with_parents(read.commit, parents)))
     }
 
     /// Reads the commit `by` in the place of `id`. If it is missing git fails.

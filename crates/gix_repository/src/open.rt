@@ -1,5 +1,7 @@
 //! Opens a repository.
 
+ghost use Rattle.std.specs.Prelude.{◌≡◌, IfOk};
+
 use crate::commits::{Changes, Commits};
 use crate::repository::Repository;
 use gix_discover::{
@@ -50,8 +52,8 @@ pub enum OpenError<A: Allocator = Global> {
     Changes,
     /// `GIT_REPLACE_REF_BASE`, or the name of a replacement, is none that git writes.
     Replacements,
-    /// The file `shallow` or `info/grafts` names an object that is no commit, as commit or parent,
-    /// or an object is replaced by one of another kind.
+    /// The file `shallow` or `info/grafts` changes an object that is no commit, or an object is
+    /// replaced by one of another kind.
     WrongKind,
     /// Only objects are believed, and the repository changes commits.
     IsChanged,
@@ -315,7 +317,10 @@ impl<F: Places + Copy + Drop, A: Allocator + Copy> Repository<F, A> {
         files: F,
         environment: &Environment<A>,
         opening: Opening,
-    ) -> Result<Repository<F, A>, OpenError<A>> {
+    ) -> Result<Repository<F, A>, OpenError<A>>
+        // Questions are asked in the mode that was passed.
+        ensures mode { IfOk result (λ repository. repository.mode ≡ opening.mode) }
+    {
         let layout = discover(alloc, &files, environment)?;
         let settings = Settings::read(alloc, &files, environment, &layout)?;
         let mut references = References::open(alloc, files, &layout.git_dir, &layout.common_dir)?;

@@ -197,7 +197,8 @@ impl<F: Folders + Drop, A: Allocator + Copy> Repository<F, A> {
 
     /// Forgets the commits that were read, and goes on without the commit-graph, since it is damaged.
     pub(crate) fn leave_graph(&mut self)
-        ensures { self.new.loaded ≡ self.old.loaded }
+        ensures loaded { self.new.loaded ≡ self.old.loaded }
+        ensures mode { self.new.mode ≡ self.old.mode }
     {
         self.history.reader.is_without_rows = true;
         self.history.reader.damage = None;
@@ -224,6 +225,9 @@ impl<F: Folders + Drop, A: Allocator + Copy> Repository<F, A> {
         // its id, and has no generation number.
         ensures authentic { self.new.mode ≡ Authentic
             → IfOk result (λ _. AreFromObjects self.new.history.known.commits) }
+
+        // The mode is unchanged.
+        ensures mode { self.new.mode ≡ self.old.mode }
     {
         let answer = self.ask_in_mode::<K, Q>(question)?;
         match (self.mode, self.history.known.foreign()) {
@@ -234,8 +238,9 @@ impl<F: Folders + Drop, A: Allocator + Copy> Repository<F, A> {
 
     /// Answers a question about the commits that the mode lets it read.
     fn ask_in_mode<K: Beyond, Q: Question>(&mut self, question: &Q) -> Result<Q::Answer, Refusal>
-        ensures { IfOk result (Q.means question.now
+        ensures means { IfOk result (Q.means question.now
             (answered_over self.new.loaded self.new.history.known.commits K.beyond)) }
+        ensures mode { self.new.mode ≡ self.old.mode }
     {
         if self.loaded.is_some() {
             return self.ask_loaded::<K, Q>(question);
@@ -255,8 +260,9 @@ impl<F: Folders + Drop, A: Allocator + Copy> Repository<F, A> {
 
     /// Loads all that the commits of a question reach, and answers the question about it.
     fn ask_loaded<K: Beyond, Q: Question>(&mut self, question: &Q) -> Result<Q::Answer, Refusal>
-        ensures { IfOk result (Q.means question.now
+        ensures means { IfOk result (Q.means question.now
             (answered_over self.new.loaded self.new.history.known.commits K.beyond)) }
+        ensures mode { self.new.mode ≡ self.old.mode }
     {
         let mut tips = Vec::new(self.alloc);
         for number in 0..usize::MAX {
@@ -284,14 +290,14 @@ impl<F: Folders + Drop, A: Allocator + Copy> Repository<F, A> {
     }
 
     /// Returns whether commits are changed: by grafts, by replace references, or since the history
-    /// is shallow.
+    /// is shallow. Otherwise no commit reaches a cycle, unless a commit-graph says so or contents name
+    /// each other's hashes in a circle (`gix_authentic`).
     pub fn is_changed(&self) -> bool {
         !self.history.reader.changes.is_empty()
     }
 
-    /// Returns whether questions are best asked early (`gix_range`): no commit has a generation number,
-    /// since no commit-graph is used and nothing is loaded, and no commit is changed. Then no commit
-    /// reaches a cycle, unless contents name each other's hashes in a circle (`gix_authentic`).
+    /// Returns whether ancestry is best asked early (`gix_range`): no commit is changed, and none has a
+    /// generation number, since no commit-graph is used and nothing is loaded.
     pub fn asks_early(&self) -> bool {
         self.loaded.is_none() && self.history.reader.reads_only_objects()
     }
