@@ -6,7 +6,7 @@ mod painting;
 use crate::bases::painting::met;
 use crate::session::Session;
 use crate::stop::{Stop, not_supported};
-use gix_questions::{EarlyBases, EarlyIndependent, Independent, MergeBases, OctopusBases};
+use gix_questions::{EarlyBases, EarlyIndependent, OctopusBases};
 use gix_revision::hash::ObjectId;
 use std::alloc::{AllocError, Global};
 use std::marker::Brand;
@@ -87,8 +87,13 @@ fn in_order(
     Ok(ids)
 }
 
-/// Returns the merge bases of a commit and a merge of others, at least one of which there is.
-fn bases_early(
+/// Returns the merge bases of a commit and a merge of others, in no particular order. Without others
+/// there are none. The answer is that of a proved question.
+///
+/// # Errors
+///
+/// `Refused` if a commit is not read.
+pub fn merge_bases(
     session: &mut Session<'_>,
     first: ObjectId,
     others: &[ObjectId],
@@ -100,34 +105,6 @@ fn bases_early(
     };
     let found = session.repository.ask::<Brand, _>(&question)?;
     Ok(only(session.alloc, &found, &found)?)
-}
-
-/// Returns the merge bases of a commit and a merge of others, in no particular order. The answer is
-/// that of a proved question.
-///
-/// # Errors
-///
-/// `Refused` if a commit is not read.
-pub fn merge_bases(
-    session: &mut Session<'_>,
-    first: ObjectId,
-    others: &[ObjectId],
-) -> Result<Vec<ObjectId>, Stop> {
-    if session.repository.asks_early() && !others.is_empty() {
-        return bases_early(session, first, others);
-    }
-    let question = MergeBases {
-        alloc: session.alloc,
-        first,
-        others,
-    };
-    let mut bases = Vec::new(session.alloc);
-    if let Some(found) = session.repository.ask::<Brand, _>(&question)? {
-        for id in found.iter() {
-            bases.push(*id)?;
-        }
-    }
-    Ok(bases)
 }
 
 /// Returns the merge bases of a commit and a merge of others, in git's order.
@@ -209,7 +186,8 @@ pub fn octopus_in_order(
         first,
         others,
     };
-    let bases = session.repository.ask::<Brand, _>(&question)?;
+    let found = session.repository.ask::<Brand, _>(&question)?;
+    let bases = only(session.alloc, &found, &found)?;
     if bases.len() < 2 {
         return Ok(bases);
     }
@@ -232,11 +210,7 @@ pub fn independent_commits(
     ids: &[ObjectId],
 ) -> Result<Vec<ObjectId>, Stop> {
     let alloc = session.alloc;
-    if session.repository.asks_early() {
-        let ids = only(alloc, ids, ids)?;
-        let question = EarlyIndependent { alloc, ids: &ids };
-        return Ok(session.repository.ask::<Brand, _>(&question)?);
-    }
-    let question = Independent { alloc, ids };
+    let ids = only(alloc, ids, ids)?;
+    let question = EarlyIndependent { alloc, ids: &ids };
     Ok(session.repository.ask::<Brand, _>(&question)?)
 }

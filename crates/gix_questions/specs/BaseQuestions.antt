@@ -3,10 +3,10 @@ use Rattle.std.specs.Prelude.{◌≡◌, ◌↔◌, List, ◌∷◌, [], IsTrue,
 use Rattle.std.specs.List.{IsDistinct, list_all}
 use Rattle.gix_base.specs.declared.error.NonEmpty.{NonEmpty}
 use Rattle.gix_base.specs.declared.hash.ObjectId.{ObjectId}
-use Rattle.gix_revwalk.specs.History.{History, same_id, is_one_of}
+use Rattle.gix_revwalk.specs.History.{History, same_id, is_one_of, IsAncestorOfAll}
 use Rattle.gix_merge_base.specs.Bases.{AreBases, CoverBases, IsCommon, IsMaximal, ids_of, is_trivial}
 use Rattle.gix_merge_base.specs.Keys.{IsInOrder}
-use Rattle.gix_merge_base.specs.Octopus.{IsOctopusBase, AreOctopusBases, IsCommonToAll, IsFirstOctopusBase}
+use Rattle.gix_merge_base.specs.Octopus.{IsOctopusBase, IsCommonToAll, IsFirstOctopusBase}
 use Rattle.gix_merge_base.specs.Premises.{IsAcyclicFrom, GenerationsNeverRiseFrom}
 use Rattle.gix_merge_base.specs.Reducing.{IsIndependent, SomeOf}
 
@@ -47,10 +47,8 @@ pub record MeansOctopus (h : History) (f : ObjectId) (os : List ObjectId) (found
   pub common : IsAcyclicFrom h (f ∷ os) → list_all (same_id f) os ≡ false → IsCommonToAll h f os found
   pub first : IsFirstOctopusBase h f os found
 
--- In the history h, `bases` are in order. If h is acyclic from f and os, and not all of os are f,
--- they are the octopus bases of f and os (`AreOctopusBases`). If all of os are f, `bases` has only
--- f (git-merge-base, "--octopus").
-pub record MeansOctopusBases (h : History) (f : ObjectId) (os bases : List ObjectId) : Type 0 where
-  pub are : IsAcyclicFrom h (f ∷ os) → list_all (same_id f) os ≡ false → AreOctopusBases h f os bases
-  pub order : IsInOrder h bases
-  pub alone : IsTrue (list_all (same_id f) os) → bases ≡ f ∷ []
+-- If the history h is acyclic from f and os, `found` has exactly those common ancestors of f and all
+-- of os that no other such ancestor reaches (git-merge-base, "--octopus").
+abbrev pub MeansOctopusBases : History → ObjectId → List ObjectId → List ObjectId → Type 0
+MeansOctopusBases h f os found =
+    IsAcyclicFrom h (f ∷ os) → (c : ObjectId) → IsTrue (is_one_of found c) ↔ IsMaximal h (IsAncestorOfAll h (f ∷ os)) c

@@ -3,7 +3,7 @@
 ghost use Rattle.std.specs.Prelude.{◌≡◌, IfOk, true};
 ghost use Rattle.gix_questions.specs.AncestryQuestions.{MeanContained, MeansAncestor};
 
-use crate::bases::refused_for;
+use crate::bases::{first_or, refused_for};
 use gix_history::{Question, Refused};
 use gix_range::is_reached;
 use gix_revision::Seed;
@@ -143,9 +143,6 @@ impl<A: Allocator + Copy> Question for Contains<'_, A> {
     }
 
     fn named(&self, number: usize) -> Option<ObjectId> {
-        match number.checked_sub(1) {
-            None => Some(self.commit),
-            Some(place) => self.tips.get(place).copied(),
-        }
+        first_or(self.commit, self.tips, number)
     }
 }

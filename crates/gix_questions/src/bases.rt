@@ -19,6 +19,14 @@ pub(crate) fn refused_for(error: Error) -> Refused {
     }
 }
 
+/// Returns the id with this number among `first` and then `others`.
+pub(crate) fn first_or(first: ObjectId, others: &[ObjectId], number: usize) -> Option<ObjectId> {
+    match number.checked_sub(1) {
+        None => Some(first),
+        Some(place) => others.get(place).copied(),
+    }
+}
+
 /// Asks for the merge bases of `first` and a hypothetical merge of `others`.
 ///
 /// The answer is that of [`merge_base`]: the merge bases in order, or `None` if there is none.
@@ -54,10 +62,7 @@ impl<A: Allocator + Copy> Question for MergeBases<'_, A> {
     }
 
     fn named(&self, number: usize) -> Option<ObjectId> {
-        match number.checked_sub(1) {
-            None => Some(self.first),
-            Some(place) => self.others.get(place).copied(),
-        }
+        first_or(self.first, self.others, number)
     }
 }
 
@@ -126,10 +131,7 @@ impl<A: Allocator + Copy> Question for EarlyBases<'_, A> {
     }
 
     fn named(&self, number: usize) -> Option<ObjectId> {
-        match number.checked_sub(1) {
-            None => Some(self.first),
-            Some(place) => self.others.get(place).copied(),
-        }
+        first_or(self.first, self.others, number)
     }
 }
 

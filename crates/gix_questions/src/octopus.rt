@@ -1,11 +1,12 @@
 //! Asks for octopus bases.
 
-use crate::bases::refused_for;
+use crate::bases::{first_or, refused_for};
 use gix_history::{Question, Refused};
+use gix_range::octopus_bases;
 use gix_revision::Seed;
 use gix_revision::graph::{Find, Graph};
 use gix_revision::hash::ObjectId;
-use gix_revision::merge_base::{octopus, octopus_bases};
+use gix_revision::merge_base::octopus;
 use std::alloc::{Allocator, Global};
 
 /// Asks for the first octopus base of `first` and `others` together.
@@ -39,19 +40,16 @@ impl<A: Allocator + Copy> Question for Octopus<'_, A> {
     }
 
     fn named(&self, number: usize) -> Option<ObjectId> {
-        match number.checked_sub(1) {
-            None => Some(self.first),
-            Some(place) => self.others.get(place).copied(),
-        }
+        first_or(self.first, self.others, number)
     }
 }
 
-/// Asks for all octopus bases of `first` and `others` together (git-merge-base, "--octopus").
+/// Asks for the best common ancestors of `first` and all of `others`, in no certain order
+/// (git-merge-base, "--octopus" with "--all"), and ends early also without generation numbers.
 ///
 /// The answer is that of [`octopus_bases`].
 ///
-/// Premises: acyclic, and ordered generations. Without ordered generations the answer has commits
-/// common to all ids, which together reach all such commits.
+/// Premise: acyclic.
 #[derive(Clone, Copy)]
 pub struct OctopusBases<'a, A: Allocator + Copy = Global> {
     /// The memory of the answer.
@@ -78,9 +76,6 @@ impl<A: Allocator + Copy> Question for OctopusBases<'_, A> {
     }
 
     fn named(&self, number: usize) -> Option<ObjectId> {
-        match number.checked_sub(1) {
-            None => Some(self.first),
-            Some(place) => self.others.get(place).copied(),
-        }
+        first_or(self.first, self.others, number)
     }
 }

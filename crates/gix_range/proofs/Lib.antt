@@ -4,3 +4,4 @@ pub mod HiddenOnes
 pub mod Choosing
 pub mod Frees
 pub mod Gathering
+pub mod Meeting

@@ -11,17 +11,20 @@
 //! reaches (`gix_merge_base`). If one of the others reaches the commit, the commit is such an
 //! ancestor. So painting tells whether they reach it (`reached.rt`). A range takes one painting and
 //! one such question for each of its lowest commits (`range.rt`). Merge bases are the commits that
-//! painting finds and that no other one of them reaches (`independence.rt`).
+//! painting finds and that no other one of them reaches (`independence.rt`). Those of many commits
+//! are the merge bases of one commit and of those of the others (`octopus.rt`).
 #![tactic(auto)]
 
 mod found;
 mod hidden;
 mod independence;
 mod kept;
+mod octopus;
 mod range;
 mod reached;
 mod whole;
 
 pub use independence::{bases, independent};
+pub use octopus::octopus_bases;
 pub use range::{ahead_behind, beyond, count_beyond};
 pub use reached::is_reached;
