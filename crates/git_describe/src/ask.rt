@@ -132,7 +132,7 @@ fn is_exact(
     }
     let question = CountReachable {
         alloc: session.alloc,
-        early: session.repository.asks_early(),
+        early: !session.repository.is_changed(),
         include: &[commit],
         exclude: &[candidate.id],
     };

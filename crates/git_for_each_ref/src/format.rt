@@ -298,7 +298,7 @@ fn print_ahead_behind(
     };
     let question = AheadBehind {
         alloc: session.alloc,
-        early: session.repository.asks_early(),
+        early: !session.repository.is_changed(),
         ours: commit,
         theirs: base,
     };

@@ -21,7 +21,7 @@ fn count_reachable(
     }
     let question = CountReachable {
         alloc: session.alloc,
-        early: !exclude.is_empty() && session.repository.asks_early(),
+        early: !exclude.is_empty() && !session.repository.is_changed(),
         include,
         exclude,
     };
@@ -37,7 +37,7 @@ fn ahead_behind(
 ) -> Result<(usize, usize), Stop> {
     let question = AheadBehind {
         alloc: session.alloc,
-        early: session.repository.asks_early(),
+        early: !session.repository.is_changed(),
         ours,
         theirs,
     };

@@ -64,7 +64,7 @@ pub(crate) fn reachable(
     let question = ReachableNewestFirst {
         alloc: session.alloc,
         // All that is included is read at once if nothing is excluded.
-        early: !exclude.is_empty() && session.repository.asks_early(),
+        early: !exclude.is_empty() && !session.repository.is_changed(),
         include,
         exclude,
     };
