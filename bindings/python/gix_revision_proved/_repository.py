@@ -11,7 +11,7 @@ import time
 import weakref
 from collections.abc import Iterable, Iterator
 from types import TracebackType
-from typing import NamedTuple, NoReturn
+from typing import Literal, NamedTuple, NoReturn
 
 from ._errors import Damaged, refusal_of
 from ._library import PATH, Text
@@ -54,6 +54,14 @@ def _program(library: str = PATH) -> str:
     if found is None:
         raise FileNotFoundError("git-proved is neither beside the library nor on the path, and GIT_PROVED does not name it")
     return found
+
+
+def _mode(authentic: bool | Literal["whole"]) -> list[str]:
+    """Returns the options for what is believed."""
+    modes: dict[object, list[str]] = {False: [], True: ["--authentic"], "whole": ["--authentic=whole"]}
+    if authentic not in modes:
+        raise ValueError("authentic is True, False or 'whole'")
+    return modes[authentic]
 
 
 def _bytes_of(word: Text) -> bytes:
@@ -216,8 +224,9 @@ class Repository:
 
     `path` is a folder of the work tree, or a bare repository: the one that git would find from
     there. `program` is the path of git-proved. Without it the environment variable GIT_PROVED is
-    taken, then the program beside the library, then the one on the path. If `authentic` is set,
-    only objects are believed, each the content of its id.
+    taken, then the program beside the library, then the one on the path. If `authentic` is True,
+    commits are read only from objects whose SHA-1 is their id. If it is "whole", each question also
+    first reads all commits that those of the question reach.
 
     A revision is what git reads as one (gitrevisions), as bytes or as a str. Ids are returned as
     hex digits, and names of references as str; a byte that is not UTF-8 becomes a surrogate.
@@ -247,7 +256,8 @@ class Repository:
       fork.
     - OSError: another program had to be started, and did not start.
 
-    The constructor raises OSError if the program is not found, or does not start.
+    The constructor raises OSError if the program is not found, or does not start, and ValueError if
+    `authentic` is something else.
     """
 
     def __init__(
@@ -255,11 +265,11 @@ class Repository:
         path: Text | os.PathLike[str] = ".",
         *,
         program: str | None = None,
-        authentic: bool = False,
+        authentic: bool | Literal["whole"] = False,
         timeout: float | None = None,
     ) -> None:
         self.timeout = timeout
-        self._words = [program or _program(), "-C", os.fspath(path)] + ["--authentic"] * authentic + ["batch"]
+        self._words = [program or _program(), "-C", os.fspath(path), *_mode(authentic), "batch"]
         # What is relative keeps its meaning if another program is started later.
         self._folder, self._environment = _folder(), dict(os.environ)
         self._lock, self._is_busy, self._is_closed, self._owner = threading.RLock(), False, False, os.getpid()

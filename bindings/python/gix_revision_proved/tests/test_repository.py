@@ -120,6 +120,8 @@ for line in iter(words.readline, b""):
         time.sleep(60)
     if word == "where":
         word = " ".join([os.getcwd(), os.environ.get("STAND_IN", "")])
+    if word == "options":
+        word = " ".join(sys.argv[1:])
     if word == "who":
         word = str(os.getpid())
     status = int(word) if word in ("125", "129") else 0
@@ -195,7 +197,7 @@ class BadEnds(unittest.TestCase):
             os.chmod(self.program, 0o755)
         self.repository = self.opened()
 
-    def opened(self, **options: float) -> Repository:
+    def opened(self, **options: object) -> Repository:
         repository = Repository(program=self.program, **options)
         self.addCleanup(repository.close)
         return repository
@@ -302,6 +304,12 @@ class BadEnds(unittest.TestCase):
         with self.assertRaisesRegex(Damaged, "^fatal: died$"):
             self.repository.rev_parse("dies")
         self.assertNotIn(self.repository.rev_parse("who"), (process, "dies"))
+
+    def test_what_is_believed(self) -> None:
+        for authentic, option in ((False, ""), (True, "--authentic "), ("whole", "--authentic=whole ")):
+            self.assertEqual(self.opened(authentic=authentic).rev_parse("options"), f"-C . {option}batch")
+        with self.assertRaisesRegex(ValueError, "^authentic is "):
+            self.opened(authentic="all")
 
     def test_another_program_is_started_alike(self) -> None:
         here = os.getcwd()

@@ -46,7 +46,7 @@ struct Readme;
 
 mod repository;
 
-pub use repository::{AskError, DescribeOptions, ListOptions, Repository};
+pub use repository::{AskError, Authentic, DescribeOptions, ListOptions, Repository};
 
 use gix_revision_proved_sys as sys;
 use std::collections::hash_map::RandomState;

@@ -21,6 +21,30 @@ const PART: usize = 1 << 16;
 /// How many bytes the first line of an answer has at most.
 const HEAD: usize = 64;
 
+/// Where commits are read from.
+#[derive(Clone, Copy, Debug, Default, PartialEq, Eq)]
+#[non_exhaustive]
+pub enum Authentic {
+    /// From objects and commit-graph files.
+    #[default]
+    No,
+    /// Only from objects whose SHA-1 is their id.
+    Yes,
+    /// As with `Yes`. Each question also first reads all commits that those of the question reach.
+    Whole,
+}
+
+impl Authentic {
+    /// Returns the option of git-proved.
+    fn option(self) -> Option<&'static str> {
+        match self {
+            Authentic::No => None,
+            Authentic::Yes => Some("--authentic"),
+            Authentic::Whole => Some("--authentic=whole"),
+        }
+    }
+}
+
 /// Why a question about a repository has no answer.
 #[derive(Debug)]
 #[non_exhaustive]
@@ -464,11 +488,10 @@ impl Repository {
     ///
     /// [`AskError::Io`]: the program was not started.
     pub fn open(path: impl AsRef<Path>) -> Result<Repository, AskError> {
-        Repository::open_with(program(), path, false)
+        Repository::open_with(program(), path, Authentic::No)
     }
 
-    /// Opens the repository by this program. If `authentic` is set, only objects are believed, each
-    /// the content of its id.
+    /// Opens the repository by this program, which believes what `authentic` says.
     ///
     /// # Errors
     ///
@@ -476,10 +499,10 @@ impl Repository {
     pub fn open_with(
         program: impl AsRef<OsStr>,
         path: impl AsRef<Path>,
-        authentic: bool,
+        authentic: Authentic,
     ) -> Result<Repository, AskError> {
         let mut words = vec!["-C".into(), path.as_ref().into()];
-        words.extend(authentic.then(|| "--authentic".into()));
+        words.extend(authentic.option().map(OsString::from));
         words.push("batch".into());
         let start = Start {
             program: program.as_ref().into(),

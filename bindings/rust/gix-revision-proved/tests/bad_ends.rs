@@ -1,7 +1,7 @@
 //! How a question ends badly: no answer may belong to an earlier question. This program is also the
 //! one that is asked, a stand-in for git-proved, if its first argument is `-C`.
 
-use gix_revision_proved::{AskError, DescribeOptions, Repository};
+use gix_revision_proved::{AskError, Authentic, DescribeOptions, Repository};
 use std::env;
 use std::error::Error;
 use std::io::{self, BufRead, Write};
@@ -35,6 +35,7 @@ fn stand_in() -> io::Result<()> {
                 let folder = env::current_dir()?;
                 word = format!("{} {:?}", folder.display(), env::var_os("STAND_IN"));
             }
+            "options" => word = env::args().skip(1).collect::<Vec<_>>().join(" "),
             "who" => word = process::id().to_string(),
             "loud" => {
                 io::stderr().write_all(&vec![b'x'; 1_000_000])?;
@@ -64,7 +65,11 @@ fn stand_in() -> io::Result<()> {
 }
 
 fn open() -> Result<Repository, Box<dyn Error>> {
-    Ok(Repository::open_with(env::current_exe()?, ".", false)?)
+    open_as(Authentic::No)
+}
+
+fn open_as(authentic: Authentic) -> Result<Repository, Box<dyn Error>> {
+    Ok(Repository::open_with(env::current_exe()?, ".", authentic)?)
 }
 
 /// Asks the stand-in for a word.
@@ -177,6 +182,17 @@ fn messages_need_no_folder() -> Result<(), Box<dyn Error>> {
     Ok(())
 }
 
+fn what_is_believed() -> Result<(), Box<dyn Error>> {
+    for (authentic, options) in [
+        (Authentic::No, "-C . batch"),
+        (Authentic::Yes, "-C . --authentic batch"),
+        (Authentic::Whole, "-C . --authentic=whole batch"),
+    ] {
+        assert_eq!(ask(&mut open_as(authentic)?, "options")?, options);
+    }
+    Ok(())
+}
+
 fn another_program_is_started_alike() -> Result<(), Box<dyn Error>> {
     let here = env::current_dir()?;
     env::set_var("STAND_IN", "before");
@@ -198,5 +214,6 @@ fn main() -> Result<(), Box<dyn Error>> {
     failed_reads()?;
     forks()?;
     messages_need_no_folder()?;
+    what_is_believed()?;
     another_program_is_started_alike()
 }
