@@ -11,8 +11,7 @@ use Rattle.gix_revwalk.proofs.Members.{one_of-left, one_of-right, one_of-cases, 
 use Rattle.gix_merge_base.specs.Premises.{IsAcyclicFrom}
 use Rattle.gix_merge_base.specs.Sides.{CoversSide}
 use Rattle.gix_range.specs.Ranges.{Covers, Keeps}
-use Rattle.gix_range.proofs.Gathering.{all_added_old, all_added_new}
-use Rattle.gix_range.proofs.HiddenOnes.{all_added_cases}
+use Rattle.gix_range.proofs.Gathering.{all_added_cases, all_added_old, all_added_new}
 
 module _ (h : History) (inc ex cands kept : List ObjectId) (are : CoversSide h inc ex cands) (at : Keeps h cands ex kept) where
   reached_has : (xs : List ObjectId) (c : ObjectId) → IsAncestorOfOne h xs c → Has h c

@@ -1,16 +1,14 @@
 -- Kept candidates stay right as one more is looked at.
-use Rattle.std.proofs.Common.{◌≡◌, ℕ, ◌<◌, ◌+◌, Bool, take, length, get_or, true, false, cond, refl, sym, subst, List, [], ◌∷◌, ◌++◌, ◌⊎◌, inl, inr, IsTrue}
-use Rattle.std.specs.Prelude.{MatchBool}
-use Rattle.std.specs.List.{IsDistinct, list_any}
-use Rattle.std.proofs.lemmas.Bool.{or_cases}
+use Rattle.std.proofs.Common.{◌≡◌, ℕ, ◌<◌, ◌+◌, take, length, get_or, true, false, cond, refl, sym, subst, List, [], ◌∷◌, ◌++◌, ◌⊎◌, inl, inr, IsTrue}
+use Rattle.std.specs.List.{IsDistinct}
 use Rattle.std.proofs.lemmas.Map.Keys.{IsDistinct-push}
 use Rattle.gix_base.specs.declared.hash.ObjectId.{ObjectId}
-use Rattle.gix_revwalk.specs.History.{History, Has, IsEdge, IsAncestorOfOne, is_one_of, same_id}
-use Rattle.gix_revwalk.specs.History.IsAncestor.{further}
+use Rattle.gix_revwalk.specs.History.{History, Has, IsAncestorOfOne, is_one_of, same_id}
 use Rattle.gix_revwalk.specs.Walks.{added}
+use Rattle.gix_merge_base.specs.Premises.{IsAcyclicFrom}
 use Rattle.gix_revwalk.proofs.Ids.{same_id-laws}
-use Rattle.gix_revwalk.proofs.Members.{nothing, one_of-left, one_of-right, one_of-cases, one_of-single, one_of-head, one_of-tail, take_next}
-use Rattle.gix_range.specs.Ranges.{Keeps, MayStay}
+use Rattle.gix_revwalk.proofs.Members.{nothing, one_of-left, one_of-right, one_of-cases, one_of-single, one_of-head, take_next}
+use Rattle.gix_range.specs.Ranges.{Keeps}
 
 pub keeps_none : (h : History) (excluded : List ObjectId) → Keeps h [] excluded []
 keeps_none h excluded = record { once = nothing; among = λ c k. k; every = λ c k has out. k; exact = λ has acyclic c k. cc }
@@ -43,9 +41,9 @@ added_new kept x = elim (is_one_of kept x) as (λ b. is_one_of kept x ≡ b → 
 added_once : (kept : List ObjectId) (x : ObjectId) → IsDistinct same_id kept → IsDistinct same_id (added kept x)
 added_once kept x d = elim (is_one_of kept x) as (λ b. is_one_of kept x ≡ b → IsDistinct same_id (cond b kept (kept ++ x ∷ []))) [ true ↦ λ k. d | false ↦ λ k. IsDistinct-push same_id-laws kept x d k ] refl
 
--- the last candidate may stay
-pub keeps_more : (h : History) (xs ex kept : List ObjectId) (x : ObjectId) → MayStay h kept ex x → Keeps h xs ex kept → Keeps h (xs ++ x ∷ []) ex (added kept x)
-keeps_more h xs ex kept x stay at = record {
+-- the last candidate is not reached
+pub keeps_more : (h : History) (xs ex kept : List ObjectId) (x : ObjectId) → (IsAcyclicFrom h ex → ¬ IsAncestorOfOne h ex x) → Keeps h xs ex kept → Keeps h (xs ++ x ∷ []) ex (added kept x)
+keeps_more h xs ex kept x never at = record {
   once = added_once kept x at.once;
   among = λ c k. elim (added_cases kept x c k) as (λ _. IsTrue (is_one_of (xs ++ x ∷ []) c)) [
     | inl a ↦ one_of-left xs (x ∷ []) c (at.among c a)
@@ -55,34 +53,11 @@ keeps_more h xs ex kept x stay at = record {
     | inl a ↦ added_old kept x c (at.every c a has out)
     | inr b ↦ subst (λ z. IsTrue (is_one_of (added kept x) z)) (sym (one_of-single x c b)) (added_new kept x)
   ];
-  exact = λ has acyclic c k.
-      let old : (d : ObjectId) → IsTrue (is_one_of kept d) → ¬ IsAncestorOfOne h ex d = at.exact (λ d i. has d (one_of-left xs (x ∷ []) d i)) acyclic in
-      elim (added_cases kept x c k) as (λ _. ¬ IsAncestorOfOne h ex c) [
-        | inl a ↦ old c a
-        | inr is ↦ subst (λ z. ¬ IsAncestorOfOne h ex z) (sym is) (elim stay as (λ _. ¬ IsAncestorOfOne h ex x) [
-          | inr never ↦ never acyclic
-          | inl p ↦ λ reach.
-              let edge : IsEdge h x p.0 = (p.1, has p.0 (one_of-left xs (x ∷ []) p.0 (at.among p.0 p.2))) in
-              old p.0 p.2 (reach.0, reach.1, further x p.0 reach.2 edge)
-        ])
-      ];
+  exact = λ has acyclic c k. elim (added_cases kept x c k) as (λ _. ¬ IsAncestorOfOne h ex c) [
+    | inl a ↦ at.exact (λ d i. has d (one_of-left xs (x ∷ []) d i)) acyclic c a
+    | inr is ↦ subst (λ z. ¬ IsAncestorOfOne h ex z) (sym is) (never acyclic)
+  ];
 }
-
--- one of a list passes a test
-pub any_one : (p : ObjectId → Bool) (xs : List ObjectId) → IsTrue (list_any p xs) → (x : ObjectId) × IsTrue (is_one_of xs x) × IsTrue (p x)
-any_one p [] k = cc
-any_one p (x ∷ xs) k = elim (or_cases (p x) (list_any p xs) k) as (λ _. (y : ObjectId) × IsTrue (is_one_of (x ∷ xs) y) × IsTrue (p y)) [
-  | inl a ↦ (x, one_of-head x xs, a)
-  | inr b ↦ let r = any_one p xs b in (r.0, one_of-tail x xs r.0 r.1, r.2)
-]
-
-pub match_true : (b : Bool) (P Q : Type 0) → b ≡ true → MatchBool b P Q → P
-match_true true P Q e k = k
-match_true false P Q e k = cc
-
-pub match_false : (b : Bool) (P Q : Type 0) → b ≡ false → MatchBool b P Q → Q
-match_false true P Q e k = cc
-match_false false P Q e k = k
 
 -- the next candidate
 pub keeps_next : (h : History) (xs ex kept kept' : List ObjectId) (i : ℕ) (d : ObjectId) → i < length xs → Keeps h (take i xs) ex kept

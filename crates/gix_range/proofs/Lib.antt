@@ -1,7 +1,8 @@
 pub mod Reaching
 pub mod Keeping
-pub mod HiddenOnes
 pub mod Choosing
 pub mod Frees
 pub mod Gathering
 pub mod Meeting
+pub mod Lines
+pub mod Hiding

@@ -1,3 +1,4 @@
 pub mod Ranges
 pub mod Independent
 pub mod Octopus
+pub mod Lines

@@ -1,8 +1,8 @@
 -- What some commits reach and others do not (git-rev-list, "Description").
-use Rattle.std.specs.Prelude.{◌⊎◌, List, IsTrue}
+use Rattle.std.specs.Prelude.{List, IsTrue}
 use Rattle.std.specs.List.{IsDistinct}
 use Rattle.gix_base.specs.declared.hash.ObjectId.{ObjectId}
-use Rattle.gix_revwalk.specs.History.{History, Has, IsAncestorOfOne, entry_at, is_one_of, parents_in, same_id, IsBeyond}
+use Rattle.gix_revwalk.specs.History.{History, Has, IsAncestorOfOne, is_one_of, same_id, IsBeyond}
 use Rattle.gix_merge_base.specs.Premises.{IsAcyclicFrom}
 
 -- The list ids has each commit that the included commits reach and the excluded ones do not, and
@@ -30,8 +30,8 @@ pub record Keeps (h : History) (candidates excluded kept : List ObjectId) : Type
   pub exact : ((c : ObjectId) → IsTrue (is_one_of candidates c) → Has h c) → IsAcyclicFrom h excluded
       → (c : ObjectId) → IsTrue (is_one_of kept c) → ¬ IsAncestorOfOne h excluded c
 
--- A parent of commit c was kept, or, if the excluded commits reach no cycle, they do not reach c.
-abbrev pub MayStay : History → (kept excluded : List ObjectId) → ObjectId → Type 0
-MayStay h kept excluded c =
-    ((p : ObjectId) × IsTrue (is_one_of (parents_in (entry_at h c)) p) × IsTrue (is_one_of kept p))
-    ⊎ (IsAcyclicFrom h excluded → ¬ IsAncestorOfOne h excluded c)
+-- The list hidden has only commits that the excluded ones reach, of those that the history has. If
+-- the excluded commits reach no cycle, it has each candidate that they reach.
+pub record Hides (h : History) (candidates excluded hidden : List ObjectId) : Type 0 where
+  pub reached : AreReached h excluded hidden
+  pub every : IsAcyclicFrom h excluded → (c : ObjectId) → IsTrue (is_one_of candidates c) → IsAncestorOfOne h excluded c → IsTrue (is_one_of hidden c)

@@ -11,15 +11,6 @@ use gix_revwalk::graph::{Commit, Find, Graph};
 use gix_revwalk::seen::Seen;
 use std::alloc::Allocator;
 
-/// Candidates for what some commits reach and others do not.
-#[derive(Drop)]
-pub(crate) struct Found<A: Allocator> {
-    /// The candidates, from the last that was popped to the first.
-    pub(crate) candidates: Vec<ObjectId, A>,
-    /// How often the walk popped a commit.
-    pub(crate) pops: u128,
-}
-
 /// Adds all that `id` reaches to what others reach.
 fn add_reached<S: Find, A: Allocator + Copy>(
     alloc: A,
@@ -63,29 +54,14 @@ pub(crate) fn find_candidates<S: Find, A: Allocator + Copy>(
     include: &[ObjectId],
     exclude: &[ObjectId],
     graph: &mut Graph<S, Commit<Flags, A>, A>,
-) -> Result<Found<A>, Error>
-    ensures covers { IfOk result (λ found.
-        CoversSide (S.history graph.old.source) include.now exclude.now found.candidates.items) }
+) -> Result<Vec<ObjectId, A>, Error>
+    ensures covers { IfOk result (λ ids.
+        CoversSide (S.history graph.old.source) include.now exclude.now ids.items) }
     ensures after { AfterCall S.history S.fault_count graph.old graph.new result }
 {
     match (include, exclude) {
-        ([one], _) => {
-            let sides = paint_sides(alloc, *one, exclude, graph)?;
-            Ok(Found {
-                candidates: sides.firsts,
-                pops: sides.pops,
-            })
-        }
-        (_, [first, ..]) => {
-            let sides = paint_sides(alloc, *first, include, graph)?;
-            Ok(Found {
-                candidates: sides.seconds,
-                pops: sides.pops,
-            })
-        }
-        _ => Ok(Found {
-            candidates: reached_by(alloc, include, graph)?,
-            pops: 0,
-        }),
+        ([one], _) => Ok(paint_sides(alloc, *one, exclude, graph)?.firsts),
+        (_, [first, ..]) => Ok(paint_sides(alloc, *first, include, graph)?.seconds),
+        _ => reached_by(alloc, include, graph),
     }
 }

@@ -1,53 +1,59 @@
-//! Lists what some commits are known to reach, without a look-up in the source.
+//! Finds out which of some candidates other commits reach.
 
-ghost use Rattle.std.specs.Prelude.{◌⊎◌, OnOk, IfOk, IsTrue};
-ghost use Rattle.gix_base.specs.declared.hash.ObjectId.{ObjectId};
-ghost use Rattle.gix_revwalk.specs.History.{entry_at, is_one_of, parents_in};
-ghost use Rattle.gix_range.specs.Ranges.{AreReached};
+ghost use Rattle.std.specs.Prelude.{◌∷◌, [], IfOk};
+ghost use Rattle.gix_merge_base.specs.AfterCall.{AfterCall};
+ghost use Rattle.gix_merge_base.specs.Sides.{CoversSide};
+ghost use Rattle.gix_range.specs.Ranges.{Hides};
 
+use crate::below::commit_below;
+use crate::whole::all_reached;
 use gix_base::hash::ObjectId;
-use gix_merge_base::merge_base::Flags;
+use gix_merge_base::merge_base::{Error, Flags, paint_sides};
 use gix_revwalk::graph::{Commit, Find, Graph};
 use gix_revwalk::seen::Seen;
-use std::alloc::{AllocError, Allocator};
+use std::alloc::Allocator;
 
-/// Adds the parents of a commit to the list, if the graph holds the commit.
-fn add_parents<S: Find, A: Allocator + Copy>(
-    id: ObjectId,
-    hidden: &mut Seen<A>,
-    graph: &Graph<S, Commit<Flags, A>, A>,
-) -> Result<(), AllocError>
-    ensures { OnOk result ((c : ObjectId) → IsTrue (is_one_of hidden.new c)
-        → IsTrue (is_one_of hidden.old c)
-        ⊎ IsTrue (is_one_of (parents_in (entry_at (S.history graph.now.source) id)) c)) }
+/// Lists what `exclude` reaches and `below` does not.
+fn above<S: Find, A: Allocator + Copy>(
+    alloc: A,
+    below: ObjectId,
+    exclude: &[ObjectId],
+    graph: &mut Graph<S, Commit<Flags, A>, A>,
+) -> Result<Seen<A>, Error>
+    ensures covers { IfOk result
+        (CoversSide (S.history graph.old.source) exclude.now (below ∷ [])) }
+    ensures after { AfterCall S.history S.fault_count graph.old graph.new result }
 {
-    match graph.get(&id) {
-        Some(commit) => {
-            hidden.add_all(commit.parents())?;
-            Ok(())
-        }
-        None => Ok(()),
-    }
+    let found = paint_sides(alloc, below, exclude, graph)?;
+    let mut hidden = Seen::new(alloc, graph.seed());
+    hidden.add_all(&found.seconds)?;
+    Ok(hidden)
 }
 
-/// Lists commits that `exclude` reaches, as far as the graph holds commits. No commit is loaded.
+/// Lists commits that `exclude` reaches, among them each of the candidates that it reaches.
 ///
-/// Ids that the source does not have may be in the list.
-pub(crate) fn hidden_by<S: Find, A: Allocator + Copy>(
+/// # Premises
+///
+/// [Acyclic](gix_merge_base#premises), for what `exclude` reaches. Without it the list may lack
+/// candidates.
+///
+/// # Errors
+///
+/// Those of [`commit_below`].
+pub(crate) fn hidden_of<S: Find, A: Allocator + Copy>(
     alloc: A,
+    candidates: &[ObjectId],
     exclude: &[ObjectId],
-    graph: &Graph<S, Commit<Flags, A>, A>,
-) -> Result<Seen<A>, AllocError>
-    ensures { IfOk result
-        (λ hidden. AreReached (S.history graph.now.source) exclude.now hidden) }
+    graph: &mut Graph<S, Commit<Flags, A>, A>,
+) -> Result<Seen<A>, Error>
+    ensures hides { IfOk result (Hides (S.history graph.old.source) candidates.now exclude.now) }
+    ensures after { AfterCall S.history S.fault_count graph.old graph.new result }
 {
-    let mut hidden = Seen::new(alloc, graph.seed());
-    hidden.add_all(exclude)?;
-    for place in 0..usize::MAX {
-        let Some(id) = hidden.get(place) else {
-            return Ok(hidden);
-        };
-        add_parents(id, &mut hidden, graph)?;
+    match (candidates, exclude) {
+        ([], _) | (_, []) => Ok(Seen::new(alloc, graph.seed())),
+        _ => match commit_below(alloc, candidates, graph)? {
+            Some(below) => above(alloc, below, exclude, graph),
+            None => all_reached(alloc, exclude, graph),
+        },
     }
-    Ok(hidden)
 }

@@ -9,16 +9,17 @@
 //!
 //! Painting from a commit and others finds each common ancestor that no other common ancestor
 //! reaches (`gix_merge_base`). If one of the others reaches the commit, the commit is such an
-//! ancestor. So painting tells whether they reach it (`reached.rt`). A range takes one painting and
-//! one such question for each of its lowest commits (`range.rt`). Merge bases are the commits that
-//! painting finds and that no other one of them reaches (`independence.rt`). Those of many commits
-//! are the merge bases of one commit and of those of the others (`octopus.rt`).
+//! ancestor. So painting tells whether they reach it (`reached.rt`). A range takes two paintings. The
+//! first one finds candidates, and the second one those of them that are excluded after all
+//! (`range.rt`). Merge bases are the commits that painting finds and that no other one of them
+//! reaches (`independence.rt`). Those of many commits are the merge bases of one commit and of those
+//! of the others (`octopus.rt`).
 #![tactic(auto)]
 
+mod below;
 mod found;
 mod hidden;
 mod independence;
-mod kept;
 mod octopus;
 mod range;
 mod reached;

@@ -3,70 +3,104 @@
 //! # Algorithm
 //!
 //! 1. Paint from both sides (`gix_merge_base`). The candidates are the commits that were popped
-//!    with the mark of one side alone. They have each commit of the range.
-//! 2. Drop those that the other side reaches over commits that the graph holds. If the clocks were
-//!    right there are none.
-//! 3. Go over the others, the last popped first. One with a parent that was kept is kept: what
-//!    reaches it reaches its parent. For any other one, such as the lowest ones, paint from it and
-//!    the other side (`reached.rt`).
-//! 4. If these walks take many more pops than the first one, load all that the other side reaches,
-//!    and keep the candidates that are not among it.
+//!    with the mark of one side alone. They have each commit of the range. After a wrong clock the
+//!    other side may reach some of them after all.
+//! 2. Follow the first parents of the candidates until their lines have become one, and take the
+//!    next parent (`below.rt`). Each candidate reaches this commit. So this commit reaches no
+//!    candidate, unless there is a cycle.
+//! 3. Paint from the other side and this commit, and list what only the other side reaches
+//!    (`hidden.rt`). If the other side reaches a candidate, then the candidate is in this list.
+//! 4. Keep the candidates that are not in the list.
+//!
+//! If a line ends at a root before, the list has all that the other side reaches (`whole.rt`).
 
-ghost use Rattle.std.specs.Prelude.{◌∷◌, [], IfOk};
-ghost use Rattle.gix_revwalk.specs.History.{IsAncestorOfOne, IsBeyond};
+ghost use Rattle.std.specs.Prelude.{◌≡◌, ◌∷◌, ◌++◌, [], List, IfOk, OnOk, IsTrue, length};
+ghost use Rattle.gix_base.specs.declared.hash.ObjectId.{ObjectId};
+ghost use Rattle.gix_revwalk.specs.History.{IsAncestorOfOne, IsBeyond, is_one_of};
 ghost use Rattle.gix_revwalk.specs.Sizes.{HasSize, AtLeast, AtMost, Lists};
 ghost use Rattle.gix_merge_base.specs.AfterCall.{AfterCall};
 ghost use Rattle.gix_merge_base.specs.Premises.{IsAcyclicFrom};
-ghost use Rattle.gix_range.specs.Ranges.{Covers, Keeps};
+ghost use Rattle.gix_range.specs.Ranges.{AreReached, Covers, Hides, Keeps};
 
 use crate::found::find_candidates;
-use crate::hidden::hidden_by;
-use crate::kept::keep;
-use crate::whole::{all_reached, keep_all_out};
+use crate::hidden::hidden_of;
 use gix_base::hash::ObjectId;
 use gix_merge_base::merge_base::{Error, Flags, paint_sides};
 use gix_revwalk::graph::{Commit, Find, Graph};
 use gix_revwalk::seen::Seen;
-use std::alloc::Allocator;
+use std::alloc::{AllocError, Allocator};
 
-/// Returns how many pops the walks of single candidates may take, after a first walk of `pops`.
-fn budget(pops: u128) -> u128 {
-    pops.saturating_mul(4).max(100_000)
+/// Adds a candidate to those that are kept, unless it is hidden.
+fn keep_one<S: Find, A: Allocator + Copy>(
+    id: ObjectId,
+    exclude: &[ObjectId],
+    hidden: &Seen<A>,
+    kept: &mut Seen<A>,
+    graph: &Graph<S, Commit<Flags, A>, A>,
+) -> Result<(), AllocError>
+    requires reached { AreReached (S.history graph.now.source) exclude.now hidden.now }
+    requires every { IsAcyclicFrom (S.history graph.now.source) exclude.now
+        → IsAncestorOfOne (S.history graph.now.source) exclude.now id
+        → IsTrue (is_one_of hidden.now id) }
+    ensures { OnOk result ((xs : List ObjectId)
+        → Keeps (S.history graph.now.source) xs exclude.now kept.old
+        → Keeps (S.history graph.now.source) (xs ++ id ∷ []) exclude.now kept.new) }
+{
+    let _held = graph.len();
+    if hidden.contains(id) {
+        return Ok(());
+    }
+    kept.add(id)?;
+    Ok(())
 }
 
-/// Keeps the candidates that `exclude` does not reach. All that it reaches is loaded.
-fn keep_whole<S: Find, A: Allocator + Copy>(
+/// Keeps the candidates that are not hidden.
+fn keep_all<S: Find, A: Allocator + Copy>(
     alloc: A,
     candidates: &[ObjectId],
     exclude: &[ObjectId],
-    graph: &mut Graph<S, Commit<Flags, A>, A>,
-) -> Result<Seen<A>, Error>
-    ensures keeps { IfOk result (Keeps (S.history graph.old.source) candidates.now exclude.now) }
-    ensures after { AfterCall S.history S.fault_count graph.old graph.new result }
+    hidden: &Seen<A>,
+    graph: &Graph<S, Commit<Flags, A>, A>,
+) -> Result<Seen<A>, AllocError>
+    requires { Hides (S.history graph.now.source) candidates.now exclude.now hidden.now }
+    ensures { IfOk result (Keeps (S.history graph.now.source) candidates.now exclude.now) }
 {
-    let all = all_reached(alloc, exclude, graph)?;
-    let kept = keep_all_out(alloc, candidates, exclude, &all, graph)?;
+    let mut kept = Seen::new(alloc, graph.seed());
+    for id in candidates {
+        keep_one(*id, exclude, hidden, &mut kept, graph)?;
+    }
     Ok(kept)
 }
 
-/// Keeps the candidates that `exclude` does not reach, by walks that take at most `most` pops
-/// before the last one, or else as [`keep_whole`] does.
+/// Keeps the candidates that `exclude` does not reach.
 fn kept_of<S: Find, A: Allocator + Copy>(
     alloc: A,
     candidates: &[ObjectId],
     exclude: &[ObjectId],
-    most: u128,
     graph: &mut Graph<S, Commit<Flags, A>, A>,
 ) -> Result<Seen<A>, Error>
     ensures keeps { IfOk result (Keeps (S.history graph.old.source) candidates.now exclude.now) }
     ensures after { AfterCall S.history S.fault_count graph.old graph.new result }
 {
-    let hidden = hidden_by(alloc, exclude, graph)?;
-    let found = keep(alloc, candidates, exclude, &hidden, most, graph)?;
-    match found {
-        Some(kept) => Ok(kept),
-        None => keep_whole(alloc, candidates, exclude, graph),
-    }
+    let hidden = hidden_of(alloc, candidates, exclude, graph)?;
+    let kept = keep_all(alloc, candidates, exclude, &hidden, graph)?;
+    Ok(kept)
+}
+
+/// Counts the candidates that `exclude` does not reach.
+fn count_kept<S: Find, A: Allocator + Copy>(
+    alloc: A,
+    candidates: &[ObjectId],
+    exclude: &[ObjectId],
+    graph: &mut Graph<S, Commit<Flags, A>, A>,
+) -> Result<usize, Error>
+    ensures keeps { IfOk result (λ size. (kept : List ObjectId)
+        × Keeps (S.history graph.old.source) candidates.now exclude.now kept
+        × (length kept ≡ size)) }
+    ensures after { AfterCall S.history S.fault_count graph.old graph.new result }
+{
+    let kept = kept_of(alloc, candidates, exclude, graph)?;
+    Ok(kept.len())
 }
 
 /// Lists the commits that `include` reaches and `exclude` does not, each once.
@@ -112,8 +146,8 @@ pub fn beyond<S: Find, A: Allocator + Copy>(
     // `u64::MAX`. Otherwise it is unchanged.
     ensures after { AfterCall S.history S.fault_count graph.old graph.new result }
 {
-    let found = find_candidates(alloc, include, exclude, graph)?;
-    let kept = kept_of(alloc, &found.candidates, exclude, budget(found.pops), graph)?;
+    let candidates = find_candidates(alloc, include, exclude, graph)?;
+    let kept = kept_of(alloc, &candidates, exclude, graph)?;
     Ok(kept.into_vec())
 }
 
@@ -208,8 +242,7 @@ pub fn ahead_behind<S: Find, A: Allocator + Copy>(
     ensures after { AfterCall S.history S.fault_count graph.old graph.new result }
 {
     let found = paint_sides(alloc, ours, &[theirs], graph)?;
-    let most = budget(found.pops);
-    let ahead = kept_of(alloc, &found.firsts, &[theirs], most, graph)?;
-    let behind = kept_of(alloc, &found.seconds, &[ours], most, graph)?;
-    Ok((ahead.len(), behind.len()))
+    let ahead = count_kept(alloc, &found.firsts, &[theirs], graph)?;
+    let behind = count_kept(alloc, &found.seconds, &[ours], graph)?;
+    Ok((ahead, behind))
 }

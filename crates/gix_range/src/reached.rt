@@ -18,26 +18,6 @@ fn is_in(ids: &[ObjectId], id: ObjectId) -> bool
     ids.contains(&id)
 }
 
-/// Tests whether one of `by` reaches `id`, and returns the number of pops, too.
-///
-/// For the rest see [`is_reached`].
-pub(crate) fn reached_in<S: Find, A: Allocator + Copy>(
-    alloc: A,
-    id: ObjectId,
-    by: &[ObjectId],
-    graph: &mut Graph<S, Commit<Flags, A>, A>,
-) -> Result<(bool, u128), Error>
-    ensures exact { IsAcyclicFrom (S.history graph.old.source) by.now
-        → IfOk result (λ r. IsTrue r.0
-        ↔ IsAncestorOfOne (S.history graph.old.source) by.now id) }
-    ensures reached { IfOk result (λ r. IsTrue r.0
-        → IsAncestorOfOne (S.history graph.old.source) by.now id) }
-    ensures after { AfterCall S.history S.fault_count graph.old graph.new result }
-{
-    let (bases, pops) = paint(alloc, id, by, graph)?;
-    Ok((is_in(&bases, id), pops))
-}
-
 /// Tests whether one of `by` reaches `id` (git-merge-base, "--is-ancestor").
 ///
 /// - A commit reaches itself.
@@ -80,6 +60,6 @@ pub fn is_reached<S: Find, A: Allocator + Copy>(
     // `u64::MAX`. Otherwise it is unchanged.
     ensures after { AfterCall S.history S.fault_count graph.old graph.new result }
 {
-    let (reached, _pops) = reached_in(alloc, id, by, graph)?;
-    Ok(reached)
+    let (bases, _pops) = paint(alloc, id, by, graph)?;
+    Ok(is_in(&bases, id))
 }

@@ -1,4 +1,4 @@
-//! Lists all that some commits reach, and keeps the candidates that are not in such a list.
+//! Lists all that some commits reach.
 
 ghost use Rattle.std.specs.Prelude.{◌≡◌, ◌∷◌, ◌++◌, [], List, IfOk, OnOk, is_some};
 ghost use Rattle.gix_base.specs.declared.hash.ObjectId.{ObjectId};
@@ -30,18 +30,19 @@ fn refused(error: graph::Error) -> Error
     }
 }
 
-/// Loads a commit, unless the graph holds it.
-fn load<S: Find, A: Allocator + Copy>(
+/// Loads a commit, unless the graph holds it, and returns whether the source has it.
+pub(crate) fn load<S: Find, A: Allocator + Copy>(
     alloc: A,
     id: ObjectId,
     graph: &mut Graph<S, Commit<Flags, A>, A>,
-) -> Result<(), Error>
+) -> Result<bool, Error>
+    ensures has { IfOk result (λ has. has ≡ is_some (entry_at (S.history graph.old.source) id)) }
     ensures held { OnOk result (is_some (held_at graph.new id)
         ≡ is_some (entry_at (S.history graph.old.source) id)) }
     ensures after { AfterCall S.history S.fault_count graph.old graph.new result }
 {
     match numbers::take(graph, alloc, id, Flags::default()) {
-        Ok(_) => Ok(()),
+        Ok(number) => Ok(number.is_some()),
         Err(error) => Err(refused(error)),
     }
 }
@@ -76,7 +77,7 @@ fn load_parents<S: Find, A: Allocator + Copy>(
         ≡ all_added seen.old (parents_in (entry_at (S.history graph.old.source) id))) }
     ensures after { AfterCall S.history S.fault_count graph.old graph.new result }
 {
-    load(alloc, id, graph)?;
+    let _has = load(alloc, id, graph)?;
     gather(id, seen, graph)?;
     Ok(())
 }
@@ -105,44 +106,4 @@ pub(crate) fn all_reached<S: Find, A: Allocator + Copy>(
     }
     // Memory runs out before.
     Err(Error::OutOfMemory)
-}
-
-/// Adds a candidate to those that are kept, unless it is in the list of all that `exclude` reaches.
-fn keep_out<S: Find, A: Allocator + Copy>(
-    id: ObjectId,
-    exclude: &[ObjectId],
-    all: &Seen<A>,
-    kept: &mut Seen<A>,
-    graph: &Graph<S, Commit<Flags, A>, A>,
-) -> Result<(), AllocError>
-    requires { AreAll (S.history graph.now.source) exclude.now all.now }
-    ensures { OnOk result ((xs : List ObjectId)
-        → Keeps (S.history graph.now.source) xs exclude.now kept.old
-        → Keeps (S.history graph.now.source) (xs ++ id ∷ []) exclude.now kept.new) }
-{
-    let _held = graph.len();
-    if all.contains(id) {
-        return Ok(());
-    }
-    kept.add(id)?;
-    Ok(())
-}
-
-/// Keeps the candidates that are not in the list of all that `exclude` reaches.
-pub(crate) fn keep_all_out<S: Find, A: Allocator + Copy>(
-    alloc: A,
-    candidates: &[ObjectId],
-    exclude: &[ObjectId],
-    all: &Seen<A>,
-    graph: &Graph<S, Commit<Flags, A>, A>,
-) -> Result<Seen<A>, AllocError>
-    requires { AreAll (S.history graph.now.source) exclude.now all.now }
-    ensures { IfOk result
-        (λ kept. Keeps (S.history graph.now.source) candidates.now exclude.now kept) }
-{
-    let mut kept = Seen::new(alloc, graph.seed());
-    for id in candidates {
-        keep_out(*id, exclude, all, &mut kept, graph)?;
-    }
-    Ok(kept)
 }

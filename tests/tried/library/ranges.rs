@@ -59,7 +59,15 @@ const WRONG_CLOCK: [Row<'static>; 6] = [
     Row(6, 80, None, &[5]),
 ];
 
-static WORKED: [Question; 32] = [
+/// No commit below 3 is reached from 4.
+const TWO_ROOTS: [Row<'static>; 4] = [
+    Row(1, 1, None, &[]),
+    Row(2, 2, None, &[]),
+    Row(3, 3, None, &[2]),
+    Row(4, 4, None, &[1]),
+];
+
+static WORKED: [Question; 34] = [
     Question(Reached, &WRONG_CLOCK, 2, &[4], &[2]),
     Question(Reached, &WRONG_CLOCK, 2, &[4, 6], &[2]),
     Question(Reached, &WRONG_CLOCK, 5, &[4], &[]),
@@ -74,6 +82,8 @@ static WORKED: [Question; 32] = [
     Question(Beyond, &WRONG_CLOCK, 8, &[4], &[]),
     Question(Beyond, &WRONG_CLOCK, 6, &[3, 5], &[6]),
     Question(Beyond, &WRONG_CLOCK, 2, &[4], &[]),
+    Question(Beyond, &TWO_ROOTS, 3, &[4], &[2, 3]),
+    Question(AheadBehind, &TWO_ROOTS, 3, &[4], &[2, 2]),
     Question(OthersBeyond, &WRONG_CLOCK, 4, &[6, 5], &[5, 6]),
     Question(OthersBeyond, &WRONG_CLOCK, 1, &[6, 4], &[2, 3, 4, 5, 6]),
     Question(OthersBeyond, &WRONG_CLOCK, 8, &[3, 2], &[1, 2, 3]),

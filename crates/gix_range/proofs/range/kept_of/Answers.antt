@@ -1,11 +1,9 @@
-use Rattle.gix_merge_base.proofs.AfterCalls.{after_more, after_ok}
+use Rattle.std.proofs.Common.{sym, subst}
+use Rattle.gix_range.specs.Ranges.{Hides}
 use Rattle.gix_range.proofs.range.kept_of.Goals as goal
 
-pub returns-in-Some-clause-keeps : goal.returns-in-Some-clause-keeps
-returns-in-Some-clause-keeps g c = rw c.in-Some.is at c.in_ok-found.ensures.keeps
+pub keep_all-requires : goal.keep_all-requires
+keep_all-requires g c = subst (λ h. Hides h c.args.candidates.now c.args.exclude.now c.in_ok-hidden.hidden) (sym c.in_ok-hidden.ensures.after.graph.same_history) c.in_ok-hidden.ensures.hides
 
 pub returns-clause-keeps : goal.returns-clause-keeps
-returns-clause-keeps g c = rw c.in_ok-found.ensures.after.graph.same_history at c.keep_whole.ensures.keeps
-
-pub returns-clause-after : goal.returns-clause-after
-returns-clause-after g c = after_more _ _ _ _ (after_ok _ _ _ c.in_ok-found.ensures.after) c.keep_whole.ensures.after
+returns-clause-keeps g c = rw c.in_ok-hidden.ensures.after.graph.same_history at c.in_ok-kept.ensures
