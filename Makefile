@@ -23,7 +23,7 @@ install: ## build, then install below PREFIX (DESTDIR is put in front)
 package: ## build, then put the link kit and packages that need no toolchain into dist/
 	FROM='$(FROM)' tools/package
 
-release: ## put the link kit into releases/, after a full check of this commit
+release: ## run the full check, and put the link kit into releases/
 	tools/release
 
 uninstall: ## remove what install has put below PREFIX
