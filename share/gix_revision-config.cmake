@@ -2,6 +2,7 @@
 #
 #   gix_revision::gix_revision   the shared library
 #   gix_revision::static         the archive, which needs nothing when the program runs
+#   gix_revision::repository     gix_repository.c, which is compiled with the target
 #
 # The files are found from the place of this one, so that the prefix may be moved.
 get_filename_component(_gix_revision_lib "${CMAKE_CURRENT_LIST_DIR}/../.." ABSOLUTE)
@@ -20,6 +21,11 @@ if(NOT TARGET gix_revision::gix_revision)
     add_library(gix_revision::static STATIC IMPORTED)
     set_target_properties(gix_revision::static PROPERTIES
         IMPORTED_LOCATION "${_gix_revision_lib}/libgix_revision.a"
+        INTERFACE_INCLUDE_DIRECTORIES "${_gix_revision_include}")
+
+    add_library(gix_revision::repository INTERFACE IMPORTED)
+    set_target_properties(gix_revision::repository PROPERTIES
+        INTERFACE_SOURCES "${_gix_revision_include}/../share/gix_revision/gix_repository.c"
         INTERFACE_INCLUDE_DIRECTORIES "${_gix_revision_include}")
 endif()
 

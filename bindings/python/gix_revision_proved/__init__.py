@@ -67,6 +67,7 @@ __all__ = [
     "AlreadyThere",
     "Altered",
     "Commit",
+    "Damaged",
     "Description",
     "Fault",
     "File",

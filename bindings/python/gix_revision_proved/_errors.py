@@ -40,7 +40,14 @@ class Misshapen(Refused):
 
 
 class Wants(Refused):
-    """The answer needs a commit that was not added; `wanted` has its id."""
+    """The answer needs a commit that was not added: the one with the id `id`."""
+
+    def __init__(self, id: str) -> None:
+        super().__init__(id)
+        self.id = id
+
+    def __str__(self) -> str:
+        return f"the answer needs the commit {self.id}, which was not added"
 
 
 # What the faults mean, in the order of their numbers.
@@ -136,8 +143,10 @@ _REFUSALS = {
     -8: NoLevels,
     -9: Altered,
     -10: Misshapen,
-    -12: Wants,
 }
+
+# The code of Wants.
+WANTS = -12
 
 
 def answered(code: int) -> bool:

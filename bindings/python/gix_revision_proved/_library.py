@@ -10,7 +10,7 @@ import threading
 from collections.abc import Callable, Iterable, Sequence
 from typing import NoReturn
 
-from ._errors import answered
+from ._errors import WANTS, Wants, answered
 
 Id = bytes | bytearray | memoryview | str
 Text = bytes | bytearray | memoryview | str
@@ -183,9 +183,20 @@ class Owner(_Held):
         answered(getattr(_library, f"gix_history_{make}")(*arguments, _seed(), ctypes.byref(self._at)))
 
     def call(self, name: str, *arguments: object) -> int:
-        """Calls a function with the history and these arguments, and returns what it returns."""
+        """Calls a function with the history and these arguments, and returns what it returns.
+
+        Raises Wants."""
         function = getattr(_library, f"gix_history_{name}")
-        return self.use(lambda at: function(at, *arguments))
+
+        def called(at: ctypes.c_void_p) -> int:
+            code: int = function(at, *arguments)
+            if code == WANTS:
+                wanted = RawId()
+                _library.gix_history_wanted(at, wanted)
+                raise Wants(hex_of(wanted))
+            return code
+
+        return self.use(called)
 
     def close(self) -> None:
         with self._lock:

@@ -342,8 +342,11 @@ class Repository:
     def merge_bases(self, first: Text, *others: Text) -> TextList:
         """Returns the merge bases of `first` and a merge of the others, like `git merge-base --all`.
 
-        The newest comes first. The list is empty if there is none.
+        The newest comes first. The list is empty if there is none, and if there are no others.
         """
+        if not others:
+            self.rev_parse(_bytes_of(_revision(first)) + b"^{commit}")
+            return []
         return _lines(self._ask("merge-base", "--all", *_revisions([first, *others])).output)
 
     def octopus_bases(self, *revisions: Text) -> TextList:
@@ -394,6 +397,7 @@ class Repository:
         max_count: int | None = None,
         skip: int = 0,
         first_parent: bool = False,
+        no_merges: bool = False,
         reverse: bool = False,
     ) -> Iterator[str]:
         """Iterates over the commits of revisions and ranges, like `git rev-list`.
@@ -403,7 +407,8 @@ class Repository:
         words: list[Text] = ["rev-list", f"--skip={skip}"]
         if max_count is not None:
             words.append(f"--max-count={max_count}")
-        words += ["--first-parent"] * first_parent + ["--reverse"] * reverse
+        flags = {"--first-parent": first_parent, "--no-merges": no_merges, "--reverse": reverse}
+        words += [it for it, is_set in flags.items() if is_set]
         yield from _lines(self._ask(*words, *_revisions(revisions), "--").output)
 
     def count(self, *revisions: Text) -> int:

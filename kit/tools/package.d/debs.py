@@ -96,10 +96,14 @@ def library(prefix: str) -> Package:
     return Package(LIBRARY, "libs", depends_of(path), "proved answers about git histories: library", text, files, control, "same")
 
 
+# The functions of gix_repository.h, which a program compiles.
+REPOSITORY = "share/gix_revision/gix_repository.c"
+
+
 def development(prefix: str) -> Package:
     described = bytes_of(f"{prefix}/lib/pkgconfig/gix_revision.pc").replace(b"/lib\n", b"/lib/x86_64-linux-gnu\n")
     files = [
-        File("usr/include/gix_revision.h", bytes_of(f"{prefix}/include/gix_revision.h")),
+        *(File(f"usr/{it}", bytes_of(f"{prefix}/{it}")) for it in ("include/gix_revision.h", "include/gix_repository.h", REPOSITORY)),
         File(f"{FOLDER}/libgix_revision.a", bytes_of(f"{prefix}/lib/libgix_revision.a")),
         File(f"{FOLDER}/libgix_revision.so", SONAME.encode(), is_link=True),
         File(f"{FOLDER}/pkgconfig/gix_revision.pc", described),
@@ -107,7 +111,7 @@ def development(prefix: str) -> Package:
         *documents("usr/share/doc/libgix-revision-dev"),
     ]
     summary, depends = "proved answers about git histories: files for development", f"{LIBRARY} (= {VERSION})"
-    text = " The package has the C header, the static library, the files for pkg-config\n and CMake, and the documents.\n"
+    text = " The package has the C headers, the static library, the files for pkg-config\n and CMake, and the documents.\n"
     return Package("libgix-revision-dev", "libdevel", depends, summary, text, files, [], "same")
 
 

@@ -30,7 +30,7 @@ def pages(folder: str, names: tuple[str, ...]) -> list[File]:
 
 def documents(folder: str) -> list[File]:
     """Returns the pages for users of the library, the examples in C, and the reference in HTML."""
-    examples = [File(f"{folder}/examples/{it}.c", bytes_of(f"examples/c/{it}.c")) for it in ("bases", "libgit2")]
+    examples = [File(f"{folder}/examples/{it}.c", bytes_of(f"examples/c/{it}.c")) for it in ("bases", "libgit2", "tasks")]
     reference = [it.at(f"{folder}/reference/{it.path}") for it in files_below("docs/reference")]
     return [*pages(folder, OF_LIBRARY), *examples, *reference]
 

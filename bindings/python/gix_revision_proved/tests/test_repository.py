@@ -342,6 +342,7 @@ class Repositories(unittest.TestCase):
     def test_bases(self) -> None:
         asked = self.repository
         self.assertEqual(self.names_of(asked.merge_bases("one", "two")), ["theirs", "ours"])
+        self.assertEqual(asked.merge_bases("one"), [])
         self.assertEqual(self.names_of(asked.octopus_bases("one", "two", b"ours")), ["ours"])
         self.assertEqual(self.names_of(asked.independent("root", "one", "two")), ["one", "two"])
         self.assertEqual((asked.is_ancestor("ours", "one"), asked.is_ancestor("one", "ours")), (True, False))
@@ -361,12 +362,15 @@ class Repositories(unittest.TestCase):
         self.assertEqual(self.names_of(list(asked.rev_list("one"))), ["one", "theirs", "ours", "root"])
         self.assertEqual(self.names_of(list(asked.rev_list("one", "^ours", max_count=1, skip=1))), ["theirs"])
         self.assertEqual(self.names_of(list(asked.rev_list("root..one", reverse=True, first_parent=True))), ["ours", "one"])
+        self.assertEqual(self.names_of(list(asked.rev_list("one", "^ours", no_merges=True))), ["theirs"])
         self.assertEqual(asked.count("one...two"), 2)
 
     def test_errors(self) -> None:
         asked = self.repository
         with self.assertRaisesRegex(NotThere, "Not a valid object name nosuch"):
             asked.merge_bases("one", "nosuch")
+        with self.assertRaises(NotThere):
+            asked.merge_bases("nosuch")
         with self.assertRaisesRegex(NotSupported, "'one:path': paths are not supported; ask git$"):
             asked.rev_parse("one:path")
         for bad in ("", "-n1", "a\nb"):

@@ -46,7 +46,7 @@ struct Readme;
 
 mod repository;
 
-pub use repository::{AskError, Authentic, DescribeOptions, ListOptions, Repository};
+pub use repository::{AskError, Authentic, DescribeOptions, ListOptions, Reference, Repository};
 
 use gix_revision_proved_sys as sys;
 use std::collections::hash_map::RandomState;
@@ -93,7 +93,7 @@ impl fmt::Debug for Id {
 }
 
 /// The text is not 40 hex digits.
-#[derive(Clone, Copy, Debug, PartialEq, Eq)]
+#[derive(Clone, Copy, Debug, PartialEq, Eq, Hash)]
 pub struct ParseIdError;
 
 impl fmt::Display for ParseIdError {
@@ -136,7 +136,7 @@ impl AsRef<[u8]> for Id {
 }
 
 /// Why a call failed. The history keeps its commits and can be used again.
-#[derive(Clone, Copy, Debug, PartialEq, Eq)]
+#[derive(Clone, Copy, Debug, PartialEq, Eq, Hash)]
 #[non_exhaustive]
 pub enum Error {
     /// An allocation failed.
@@ -282,7 +282,7 @@ const NO_FAULT: sys::gix_fault = sys::gix_fault {
 };
 
 /// Options of [`History::describe`] (git-describe, "Options").
-#[derive(Clone, Copy, Debug)]
+#[derive(Clone, Copy, Debug, PartialEq, Eq, Hash)]
 pub struct How {
     /// How many names are considered; more than 32 count as 32. With 0 only the commit's own name
     /// is used.
@@ -332,7 +332,7 @@ impl Default for How {
 }
 
 /// A commit of a history.
-#[derive(Clone, Debug, PartialEq, Eq)]
+#[derive(Clone, Debug, PartialEq, Eq, Hash)]
 pub struct Commit {
     /// The parents in git's order.
     pub parents: Vec<Id>,
@@ -343,7 +343,7 @@ pub struct Commit {
 }
 
 /// A set of commits (gitrevisions, "Specifying Ranges").
-#[derive(Clone, Copy, Debug, PartialEq, Eq)]
+#[derive(Clone, Copy, Debug, PartialEq, Eq, Hash)]
 pub enum Span {
     /// `id`: what it reaches.
     Include(Id),
@@ -399,6 +399,7 @@ impl Span {
 
 /// Returns the version of the C library that is used: its three numbers.
 pub fn library_version() -> (u32, u32, u32) {
+    // SAFETY: the function has no arguments.
     let version = unsafe { sys::gix_version() };
     (version / 10000, version / 100 % 100, version % 100)
 }
@@ -408,6 +409,7 @@ pub fn library_version() -> (u32, u32, u32) {
 /// The names `GIX_GRAPH_..` in `gix_revision.h` say what it is. It is 0 if the file is well-formed,
 /// so that [`History::open`] does not return [`Error::NoGraph`].
 pub fn graph_fault(bytes: &[u8]) -> u32 {
+    // SAFETY: pointer and length are those of a slice.
     unsafe { sys::gix_graph_fault(bytes.as_ptr(), bytes.len()) }
 }
 
@@ -459,15 +461,17 @@ fn described(
 /// Names of commits, prepared once for many calls of [`History::describe_by`].
 ///
 /// If there are several names for one commit, the first one counts.
+#[derive(Debug)]
 pub struct Names(NonNull<sys::gix_names>);
 
-// It owns what it points to, and nothing there belongs to the thread that made it.
+// SAFETY: it owns what it points to, and nothing there belongs to the thread that made it.
 unsafe impl Send for Names {}
 
 impl Names {
     /// Makes a table of names, with copies of the texts.
     pub fn new(names: &[(Id, &[u8])]) -> Result<Names, Error> {
         let (names, mut at) = (raw_names(names), ptr::null_mut());
+        // SAFETY: pointers and lengths are those of slices, and `at` is written.
         answered(unsafe {
             sys::gix_names_new(names.as_ptr(), names.len(), random_seed(), &mut at)
         })?;
@@ -477,20 +481,23 @@ impl Names {
 
 impl Drop for Names {
     fn drop(&mut self) {
+        // SAFETY: the library made it, and nothing uses it any more.
         unsafe { sys::gix_names_free(self.0.as_ptr()) }
     }
 }
 
 /// Commits, ref names for revisions, and what earlier queries have cached.
+#[derive(Debug)]
 pub struct History(NonNull<sys::gix_history>);
 
-// It owns what it points to, and nothing there belongs to the thread that made it.
+// SAFETY: it owns what it points to, and nothing there belongs to the thread that made it.
 unsafe impl Send for History {}
 
 impl History {
     /// Makes a history without commits.
     pub fn new() -> Result<History, Error> {
         let mut at = ptr::null_mut();
+        // SAFETY: pointers and lengths are those of slices, and `at` is written.
         answered(unsafe { sys::gix_history_new(random_seed(), &mut at) })?;
         NonNull::new(at).map(History).ok_or(Error::OutOfMemory)
     }
@@ -504,6 +511,7 @@ impl History {
     /// [`Error::NoGraph`], of which [`graph_fault`] says more, and [`Error::NoLevels`].
     pub fn open(bytes: &[u8]) -> Result<History, Error> {
         let mut at = ptr::null_mut();
+        // SAFETY: pointers and lengths are those of slices, and `at` is written.
         answered(unsafe {
             sys::gix_history_open(bytes.as_ptr(), bytes.len(), random_seed(), &mut at)
         })?;
@@ -525,6 +533,7 @@ impl History {
         };
         let files: Vec<_> = files.iter().map(raw).collect();
         let mut at = ptr::null_mut();
+        // SAFETY: pointers and lengths are those of slices, and `at` is written.
         answered(unsafe {
             sys::gix_history_open_chain(files.as_ptr(), files.len(), random_seed(), &mut at)
         })?;
@@ -551,6 +560,7 @@ impl History {
         generation: Option<u32>,
     ) -> Result<(), Error> {
         let (has, generation) = (generation.is_some(), generation.unwrap_or(0));
+        // SAFETY: the history is alive, inputs come from references, and outputs have room.
         answered(unsafe {
             sys::gix_history_insert(
                 self.at(),
@@ -575,6 +585,7 @@ impl History {
     /// - [`Error::Misshapen`]: the content cannot be read as a commit.
     /// - [`Error::AlreadyThere`].
     pub fn insert_object(&mut self, id: Id, content: &[u8]) -> Result<(), Error> {
+        // SAFETY: the history is alive, inputs come from references, and outputs have room.
         answered(unsafe {
             sys::gix_history_insert_object(self.at(), id.raw(), content.as_ptr(), content.len())
         })?;
@@ -601,6 +612,7 @@ impl History {
     /// # Ok::<(), Error>(())
     /// ```
     pub fn set_partial(&mut self, partial: bool) {
+        // SAFETY: the history is alive, inputs come from references, and outputs have room.
         unsafe { sys::gix_history_set_partial(self.at(), partial) }
     }
 
@@ -610,6 +622,7 @@ impl History {
     pub fn wanted(&mut self) -> Result<Option<Id>, Error> {
         let mut out = Id([0; 20]);
         let at = ptr::from_mut(&mut out).cast();
+        // SAFETY: the history is alive, inputs come from references, and outputs have room.
         let found = answered(unsafe { sys::gix_history_wanted(self.at(), at) })?;
         Ok(found.then_some(out))
     }
@@ -619,6 +632,7 @@ impl History {
     /// Each insertion that failed with [`Error::OutOfMemory`] may make it too great by one, until a
     /// commit with its id is added.
     pub fn len(&mut self) -> usize {
+        // SAFETY: the history is alive, inputs come from references, and outputs have room.
         unsafe { sys::gix_history_len(self.at()) }
     }
 
@@ -649,6 +663,7 @@ impl History {
         let mut parents = room(2)?;
         loop {
             let (at, len) = (parents.as_mut_ptr().cast(), parents.len());
+            // SAFETY: the history is alive, inputs come from references, and outputs have room.
             let code =
                 unsafe { sys::gix_history_commit(self.at(), id.raw(), &mut fields, at, len) };
             if !answered(code)? {
@@ -671,6 +686,7 @@ impl History {
     /// It is the least number, from `least` on and from 4 to 40, such that no other id of a commit
     /// of the history begins with these digits.
     pub fn abbreviate(&mut self, id: Id, least: usize) -> usize {
+        // SAFETY: the history is alive, inputs come from references, and outputs have room.
         unsafe { sys::gix_history_abbreviate(self.at(), id.raw(), least) }
     }
 
@@ -686,6 +702,7 @@ impl History {
         let mut count = 0;
         loop {
             let (at, len) = (out.as_mut_ptr().cast(), out.len());
+            // SAFETY: the history is alive, inputs come from references, and outputs have room.
             answered(unsafe {
                 sys::gix_history_merge_bases(
                     self.at(),
@@ -714,6 +731,7 @@ impl History {
     pub fn octopus(&mut self, first: Id, others: &[Id]) -> Result<Option<Id>, Error> {
         let mut out = Id([0; 20]);
         let at = ptr::from_mut(&mut out).cast();
+        // SAFETY: the history is alive, inputs come from references, and outputs have room.
         let found = answered(unsafe {
             sys::gix_history_octopus(
                 self.at(),
@@ -733,6 +751,7 @@ impl History {
     /// Premises: [ordered generations](crate#premises). Without it `true` is still right, but
     /// `false` may be wrong. Cycles do not matter.
     pub fn is_ancestor(&mut self, ancestor: Id, of: Id) -> Result<bool, Error> {
+        // SAFETY: the history is alive, inputs come from references, and outputs have room.
         answered(unsafe { sys::gix_history_is_ancestor(self.at(), ancestor.raw(), of.raw()) })
     }
 
@@ -746,6 +765,7 @@ impl History {
         let mut out = room(ids.len())?;
         let mut count = 0;
         let at = out.as_mut_ptr().cast();
+        // SAFETY: the history is alive, inputs come from references, and outputs have room.
         answered(unsafe {
             sys::gix_history_independent(
                 self.at(),
@@ -767,6 +787,7 @@ impl History {
     /// not too small. Cycles do not matter.
     pub fn ahead_behind(&mut self, ours: Id, theirs: Id) -> Result<(usize, usize), Error> {
         let (mut ahead, mut behind) = (0, 0);
+        // SAFETY: the history is alive, inputs come from references, and outputs have room.
         answered(unsafe {
             sys::gix_history_ahead_behind(
                 self.at(),
@@ -785,6 +806,7 @@ impl History {
         let mut out = room(ids.len())?;
         let mut count = 0;
         let at = out.as_mut_ptr().cast();
+        // SAFETY: the history is alive, inputs come from references, and outputs have room.
         answered(unsafe {
             sys::gix_history_newest_first(
                 self.at(),
@@ -863,6 +885,7 @@ impl History {
     ) -> Result<Option<(Vec<u8>, u32)>, Error> {
         let names = raw_names(names);
         let how = how.to_raw();
+        // SAFETY: the history is alive, inputs come from references, and outputs have room.
         described(|out, room, count, depth| unsafe {
             sys::gix_history_describe(
                 self.at(),
@@ -906,6 +929,7 @@ impl History {
         how: How,
     ) -> Result<Option<(Vec<u8>, u32)>, Error> {
         let how = how.to_raw();
+        // SAFETY: the history is alive, inputs come from references, and outputs have room.
         described(|out, room, count, depth| unsafe {
             sys::gix_history_describe_by(
                 self.at(),
@@ -926,12 +950,14 @@ impl History {
     /// found as `main` unless `main` was given, too. If the name was given before, it now stands
     /// for the new id.
     pub fn name(&mut self, name: &[u8], id: Id) -> Result<(), Error> {
+        // SAFETY: the history is alive, inputs come from references, and outputs have room.
         answered(unsafe { sys::gix_history_name(self.at(), name.as_ptr(), name.len(), id.raw()) })?;
         Ok(())
     }
 
     /// Takes a ref name back. Returns whether there was such a name.
     pub fn unname(&mut self, name: &[u8]) -> Result<bool, Error> {
+        // SAFETY: the history is alive, inputs come from references, and outputs have room.
         answered(unsafe { sys::gix_history_unname(self.at(), name.as_ptr(), name.len()) })
     }
 
@@ -946,6 +972,7 @@ impl History {
     pub fn resolve(&mut self, text: &[u8], seconds: i64, offset: i32) -> Result<Span, Error> {
         let mut raw = Span::Include(Id([0; 20])).to_raw();
         let mut fault = NO_FAULT;
+        // SAFETY: the history is alive, inputs come from references, and outputs have room.
         let code = unsafe {
             sys::gix_history_resolve(
                 self.at(),
@@ -969,6 +996,7 @@ impl History {
     pub fn rev_parse(&mut self, text: &[u8], seconds: i64, offset: i32) -> Result<Span, Error> {
         let mut raw = Span::Include(Id([0; 20])).to_raw();
         let mut fault = NO_FAULT;
+        // SAFETY: the history is alive, inputs come from references, and outputs have room.
         let code = unsafe {
             sys::gix_history_rev_parse(
                 self.at(),
@@ -1008,6 +1036,7 @@ impl History {
     pub fn count(&mut self, span: Span) -> Result<usize, Error> {
         let mut count = 0;
         let raw = span.to_raw();
+        // SAFETY: the history is alive, inputs come from references, and outputs have room.
         answered(unsafe { sys::gix_history_count(self.at(), &raw, &mut count) })?;
         Ok(count)
     }
@@ -1016,7 +1045,9 @@ impl History {
     fn all(&mut self, what: What) -> Result<List, Error> {
         let (history, mut at) = (self.at(), ptr::null_mut());
         answered(match what {
+            // SAFETY: the history is alive, inputs come from references, and outputs have room.
             What::Missing => unsafe { sys::gix_history_missing_all(history, &mut at) },
+            // SAFETY: the history is alive, inputs come from references, and outputs have room.
             What::Span(span) => unsafe {
                 let raw = span.to_raw();
                 sys::gix_history_list_all(history, &raw, &mut at)
@@ -1028,25 +1059,28 @@ impl History {
 
 impl Drop for History {
     fn drop(&mut self) {
+        // SAFETY: the library made it, and nothing uses it any more.
         unsafe { sys::gix_history_free(self.at()) }
     }
 }
 
 /// What a list has.
-#[derive(Clone, Copy)]
+#[derive(Clone, Copy, Debug)]
 enum What {
     Span(Span),
     Missing,
 }
 
 /// A list of the library.
+#[derive(Debug)]
 struct List(NonNull<sys::gix_ids>);
 
-// It owns what it points to, and nothing there belongs to the thread that made it.
+// SAFETY: it owns what it points to, and nothing there belongs to the thread that made it.
 unsafe impl Send for List {}
 
 impl List {
     fn len(&mut self) -> usize {
+        // SAFETY: the list is alive.
         unsafe { sys::gix_ids_len(self.0.as_ptr()) }
     }
 
@@ -1054,6 +1088,7 @@ impl List {
     fn read(&mut self, from: usize, most: usize) -> Result<Vec<Id>, Error> {
         let mut out = room(most.min(self.len().saturating_sub(from)))?;
         let (at, len) = (out.as_mut_ptr().cast(), out.len());
+        // SAFETY: the list is alive, and `at` has room for `len` ids.
         let count = unsafe { sys::gix_ids_read(self.0.as_ptr(), from, at, len) };
         out.truncate(count);
         Ok(out)
@@ -1076,12 +1111,14 @@ impl List {
 
 impl Drop for List {
     fn drop(&mut self) {
+        // SAFETY: the library made it, and nothing uses it any more.
         unsafe { sys::gix_ids_free(self.0.as_ptr()) }
     }
 }
 
 /// Iterator over the ids of a list, which is made when the first one is asked for. It ends after an
 /// error.
+#[derive(Debug)]
 pub struct Ids<'a> {
     history: &'a mut History,
     what: What,

@@ -22,7 +22,7 @@ const PART: usize = 1 << 16;
 const HEAD: usize = 64;
 
 /// Where commits are read from.
-#[derive(Clone, Copy, Debug, Default, PartialEq, Eq)]
+#[derive(Clone, Copy, Debug, Default, PartialEq, Eq, Hash)]
 #[non_exhaustive]
 pub enum Authentic {
     /// From objects and commit-graph files.
@@ -111,7 +111,7 @@ impl From<io::Error> for AskError {
 }
 
 /// Options of [`Repository::describe`] (git-describe, "Options").
-#[derive(Clone, Debug, Default)]
+#[derive(Clone, Debug, Default, PartialEq, Eq, Hash)]
 pub struct DescribeOptions {
     /// Use all references, not only annotated tags.
     pub all: bool,
@@ -134,7 +134,7 @@ pub struct DescribeOptions {
 }
 
 /// Options of [`Repository::rev_list_with`] (git-rev-list, "Commit Limiting").
-#[derive(Clone, Copy, Debug, Default)]
+#[derive(Clone, Copy, Debug, Default, PartialEq, Eq, Hash)]
 pub struct ListOptions {
     /// How many commits are listed at most.
     pub max_count: Option<u64>,
@@ -142,8 +142,19 @@ pub struct ListOptions {
     pub skip: u64,
     /// Follow only first parents.
     pub first_parent: bool,
+    /// List no merge commits.
+    pub no_merges: bool,
     /// List the oldest first.
     pub reverse: bool,
+}
+
+/// A reference, and the id of the object that it names.
+#[derive(Clone, Debug, PartialEq, Eq, Hash)]
+pub struct Reference {
+    /// The full name, such as `refs/heads/main`.
+    pub name: Vec<u8>,
+    /// The id of a commit, or of another object such as an annotated tag.
+    pub id: Id,
 }
 
 /// A repository on disk.
@@ -466,6 +477,15 @@ fn ids(output: &[u8]) -> Result<Vec<Id>, AskError> {
     ids.collect()
 }
 
+/// Reads a line of an id, a blank and a name.
+fn reference(line: &[u8]) -> Option<Reference> {
+    let id = std::str::from_utf8(line.get(..40)?).ok()?;
+    Some(Reference {
+        name: line.get(41..)?.to_vec(),
+        id: id.parse().ok()?,
+    })
+}
+
 /// Returns the lines of an output.
 fn lines(output: &[u8]) -> Vec<Vec<u8>> {
     let output = output.strip_suffix(b"\n").unwrap_or(output);
@@ -578,12 +598,16 @@ impl Repository {
     }
 
     /// Returns the merge bases of `first` and a merge of the others, like `git merge-base --all`,
-    /// the newest first. There is none if the list is empty.
+    /// the newest first. The list is empty if there is none, and if there are no others.
     pub fn merge_bases<T: AsRef<[u8]>>(
         &mut self,
         first: impl AsRef<[u8]>,
         others: &[T],
     ) -> Result<Vec<Id>, AskError> {
+        if others.is_empty() {
+            self.rev_parse([first.as_ref(), b"^{commit}"].concat())?;
+            return Ok(Vec::new());
+        }
         let all: Vec<&[u8]> = [first.as_ref()]
             .into_iter()
             .chain(others.iter().map(T::as_ref))
@@ -677,8 +701,12 @@ impl Repository {
     ) -> Result<impl Iterator<Item = Id>, AskError> {
         let mut words = vec!["rev-list".to_string(), format!("--skip={}", options.skip)];
         words.extend(options.max_count.map(|it| format!("--max-count={it}")));
-        words.extend(options.first_parent.then(|| "--first-parent".to_string()));
-        words.extend(options.reverse.then(|| "--reverse".to_string()));
+        let flags = [
+            ("--first-parent", options.first_parent),
+            ("--no-merges", options.no_merges),
+            ("--reverse", options.reverse),
+        ];
+        words.extend(flags.iter().filter(|it| it.1).map(|it| it.0.to_string()));
         let words: Vec<&str> = words.iter().map(String::as_str).collect();
         let answer = self.ask_about(&words, revisions, Some("--"))?;
         Ok(ids(&answer.output)?.into_iter())
@@ -689,6 +717,19 @@ impl Repository {
         let answer = self.ask_about(&["rev-list", "--count"], revisions, Some("--"))?;
         let text = String::from_utf8_lossy(&answer.output);
         text.trim_end().parse().map_err(|_| AskError::Unknown)
+    }
+
+    /// Returns the references that one of the patterns matches, or all if there is no pattern, like
+    /// `git for-each-ref`.
+    pub fn references(&mut self, patterns: &[&str]) -> Result<Vec<Reference>, AskError> {
+        let format = "--format=%(objectname) %(refname)";
+        let words = [&["for-each-ref", format, "--"], patterns].concat();
+        let words: Vec<&[u8]> = words.iter().map(|it| it.as_bytes()).collect();
+        let answer = self.ask(&words)?;
+        lines(&answer.output)
+            .iter()
+            .map(|line| reference(line).ok_or(AskError::Unknown))
+            .collect()
     }
 
     /// Returns the names of references, by an option that takes a commit.

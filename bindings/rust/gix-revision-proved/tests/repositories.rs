@@ -1,7 +1,7 @@
 //! Each question once about a repository that git makes. Nothing is asked without git, and if no
 //! program `git-proved` is found. One that is found, or that `GIT_PROVED` names, has to run.
 
-use gix_revision_proved::{AskError, DescribeOptions, Id, ListOptions, Repository};
+use gix_revision_proved::{AskError, DescribeOptions, Id, ListOptions, Reference, Repository};
 use std::collections::BTreeMap;
 use std::env;
 use std::error::Error;
@@ -95,6 +95,7 @@ fn questions() -> Result<(), Box<dyn Error>> {
         asked.merge_bases("one", &["two"])?,
         [id["theirs"], id["ours"]]
     );
+    assert!(asked.merge_bases("one", &[""; 0])?.is_empty());
     assert_eq!(asked.octopus_bases(&["one", "two", "ours"])?, [id["ours"]]);
     assert_eq!(
         asked.independent(&["root", "one", "two"])?,
@@ -129,6 +130,25 @@ fn questions() -> Result<(), Box<dyn Error>> {
         asked.merged("root")?,
         [b"refs/heads/root".to_vec(), b"refs/tags/v1".to_vec()]
     );
+    let of = |name: &str, id| Reference {
+        name: name.into(),
+        id,
+    };
+    assert_eq!(
+        asked.references(&["refs/tags", "refs/heads/o*"])?,
+        [
+            of("refs/heads/one", id["one"]),
+            of("refs/heads/ours", id["ours"]),
+            of("refs/tags/v1", id["root"])
+        ]
+    );
+    let no_merges = ListOptions {
+        no_merges: true,
+        ..ListOptions::default()
+    };
+    assert!(asked
+        .rev_list_with(&["one", "^ours"], no_merges)?
+        .eq([id["theirs"]]));
     assert!(matches!(
         asked.rev_parse("nosuch"),
         Err(AskError::NotThere(_))
