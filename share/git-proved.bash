@@ -34,7 +34,12 @@ _git_proved() {
         rev-parse,-*)
             __gitcomp "--verify --quiet --short --short= \
                 --symbolic-full-name --abbrev-ref --abbrev-ref= --symbolic \
-                --default --revs-only --no-revs --flags --no-flags --not --sq"
+                --default --revs-only --no-revs --flags --no-flags --not --sq \
+                --git-dir --absolute-git-dir --git-common-dir --git-path \
+                --show-toplevel --show-cdup --show-prefix --path-format= \
+                --is-inside-work-tree --is-inside-git-dir \
+                --is-bare-repository --is-shallow-repository \
+                --show-object-format --show-object-format="
             ;;
         rev-list,-*)
             __gitcomp "--not --all --branches --branches= --tags --tags= \
@@ -45,7 +50,7 @@ _git_proved() {
         for-each-ref,-*)
             __gitcomp "--contains --contains= --no-contains --no-contains= \
                 --merged --merged= --no-merged --no-merged= --count= --sort= \
-                --format="
+                --points-at= --format="
             ;;
         batch,*) ;;
         *) __git_complete_refs ;;

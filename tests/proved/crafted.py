@@ -11,7 +11,7 @@ import subprocess
 
 from questions import Command, each, row, rows
 from repositories import (
-    ENVIRONMENT, LOGS, Repository, Room, age, chained, digit_names, filed, kept, logged,
+    EMPTY_TREE, ENVIRONMENT, LOGS, Repository, Room, age, chained, digit_names, filed, kept, logged,
     many_references, odd_names, one_line, siblings, trees,
 )
 
@@ -43,6 +43,18 @@ COMMON = (
     "for-each-ref --format=%(objectname)%09%(refname)",
     "for-each-ref --format=%(refname:short) --contains HEAD",
     "for-each-ref --format=%(refname) --merged HEAD",
+)
+
+# Questions about where the repository is.
+WHERE = (
+    "rev-parse --git-dir --absolute-git-dir --git-common-dir --show-cdup --show-prefix HEAD",
+    "rev-parse --is-inside-work-tree --is-inside-git-dir --is-bare-repository "
+    "--is-shallow-repository --show-object-format=input",
+    "rev-parse --show-toplevel",
+    "rev-parse --path-format=absolute --git-dir --git-common-dir --show-cdup",
+    "rev-parse --path-format=absolute --show-toplevel --absolute-git-dir",
+    "rev-parse --git-path HEAD --git-path objects/pack --git-path x/y",
+    "rev-parse --path-format=absolute --git-path config --git-path nosuch",
 )
 
 # Further questions that read the whole history.
@@ -500,6 +512,7 @@ def working_trees(room: Room) -> list[Command]:
                          "describe --tags --no-dirty")
         commands += common(place, folder=place.path + b"/folder")
         commands += common(place)[:10]
+        commands += rows(place, *WHERE) + rows(place, *WHERE, folder=place.path + b"/folder")
         commands += each(place, "rev-parse", "main-worktree/HEAD", "worktrees/touched/HEAD",
                          "refs/worktree/own", "worktree/own", "worktrees/touched/refs/worktree/own")
         commands += rows(place, "describe --all HEAD~2", "rev-list --all -n 3", "describe --broken",
@@ -649,7 +662,12 @@ def unusual(room: Room) -> list[Command]:
     for place in (untagged, empty, unborn, detached, packed, blob, nowhere, foreign, bare, shallow,
                   shallow_file):
         commands += common(place, "rev-list HEAD", "describe --tags --exact-match",
-                           "merge-base --octopus", "rev-list --all", "rev-list --branches -n 2")
+                           "merge-base --octopus", "rev-list --all", "rev-list --branches -n 2",
+                           *WHERE)
+    commands += rows(bare, *WHERE, folder=bare.path + b"/refs/heads")
+    commands += rows(base, "rev-parse --git-path", "rev-parse --path-format --git-dir",
+                     "rev-parse --path-format=odd", "rev-parse --show-object-format=odd",
+                     "rev-parse --show-object-format --show-prefix", is_strict=True)
     commands += rows(unborn, "describe --all --dirty", "rev-parse @", "rev-parse --abbrev-ref @",
                      "rev-list --count HEAD --")
     # The current branch is then what the short name `HEAD` stands for.
@@ -712,6 +730,7 @@ def separate(room: Room, base: Repository) -> list[Command]:
         ((b"--no-pager",), {}), ((b"--bare",), {}), ((b"--nosuch",), {}), ((b"-p",), {}),
     ):
         commands += common(base, before=before, **more)[:12:2]
+        commands += rows(base, *WHERE, before=before, **more)
     commands += inside(base)
     # Objects of another repository, and a repository whose folder is elsewhere.
     borrowed = room.clone(base, "borrowed", "--shared")
@@ -719,7 +738,10 @@ def separate(room: Room, base: Repository) -> list[Command]:
     linked = Repository(room.path("linked"), base.ids, base.names)
     os.symlink(base.path, linked.path)
     for place in (borrowed, moved, linked):
-        commands += common(place, "describe --tags --dirty")
+        commands += common(place, "describe --tags --dirty", *WHERE)
+        place.write("folder/below/file", "text")
+        commands += rows(place, *WHERE, folder=place.path + b"/folder/below")
+    commands += elsewhere_asked(room, base)
     for config in ("core.abbrev=5", "core.abbrev=40", "core.abbrev=no", "core.abbrev=auto",
                    "core.abbrev=2", "core.abbrev=x", "core.commitGraph=false",
                    "tag.sort=nonsense", "branch.sort=nonsense", "core.bare=true",
@@ -734,6 +756,41 @@ def separate(room: Room, base: Repository) -> list[Command]:
     return commands + variables(room, base) + gitfiles(room, base)
 
 
+def elsewhere_asked(room: Room, base: Repository) -> list[Command]:
+    """Where a repository is, if settings, variables, links and current folders differ."""
+    made = room.copy(base, "asked where it is")
+    made.write("a/b/file", "text")
+    made.write(".github/file", "text")
+    os.symlink(made.path + b"/a", room.path("link to a"))
+    apart = room.copy(base, "with its work tree apart")
+    apart.git("config", "core.worktree", "../../asked where it is/a")
+    bared = room.copy(made, "bare with files")
+    bared.git("config", "core.bare", "true")
+    linked = Repository(room.path("git folder by a link"), base.ids, base.names)
+    os.makedirs(linked.path + b"/a")
+    os.symlink(made.path + b"/.git", linked.path + b"/.git")
+    commands = []
+    for place, folders in (
+        (made, (b".", b"a", b"a/b", b".github", b".git", b".git/refs", b"../link to a/b")),
+        (apart, (b".", b".git", b"../asked where it is/a", b"../asked where it is/a/b", b"..")),
+        (bared, (b".", b"a/b", b".git")), (linked, (b".", b"a", b".git")),
+    ):
+        git_folder = place.path + b"/.git"
+        for at in folders:
+            here = {"folder": os.path.join(place.path, at)}
+            commands += rows(place, *WHERE, **here)
+            for environment in (
+                {b"GIT_DIR": git_folder}, {b"GIT_DIR": os.path.relpath(git_folder, here["folder"])},
+                {b"GIT_DIR": git_folder, b"GIT_WORK_TREE": place.path},
+                {b"GIT_WORK_TREE": made.path + b"/a"}, {b"GIT_WORK_TREE": b"."},
+                {b"GIT_DIR": git_folder, b"GIT_WORK_TREE": made.path + b"/a"},
+                {b"GIT_INDEX_FILE": b"x", b"GIT_OBJECT_DIRECTORY": git_folder + b"/objects"},
+                {b"GIT_PREFIX": b"x"},
+            ):
+                commands += rows(place, *WHERE, environment=environment, **here)
+    return commands
+
+
 def inside(base: Repository) -> list[Command]:
     """A current folder inside of the git folder, where the files HEAD and refs are."""
     commands = []
@@ -744,8 +801,8 @@ def inside(base: Repository) -> list[Command]:
                        (b"--git-dir=" + git_folder + b"/.",)):
             for work_tree in (None, b".", b"..", base.path, git_folder):
                 more = {} if work_tree is None else {b"GIT_WORK_TREE": work_tree}
-                commands += rows(base, "rev-list -1 HEAD", "rev-list -1 main", before=before,
-                                 folder=folder, environment=more, is_strict=True)
+                commands += rows(base, "rev-list -1 HEAD", "rev-list -1 main", *WHERE[:4],
+                                 before=before, folder=folder, environment=more, is_strict=True)
     return commands
 
 
@@ -795,6 +852,7 @@ def gitfiles(room: Room, base: Repository) -> list[Command]:
             os.rename(above.path + b"/.git/modules", above.path + b"/.git/gone")
         inside.write("folder/file", "text")
         commands += common(inside)[::2] + common(inside, folder=inside.path + b"/folder")[::4]
+        commands += rows(inside, *WHERE) + rows(inside, *WHERE, folder=inside.path + b"/folder")
         commands += common(above)[::4]
     moved = room.copy(base, "to be moved")
     moved.git("worktree", "add", "-q", "--detach", room.path("left behind"))
@@ -1231,6 +1289,125 @@ def hostile(room: Room) -> list[Command]:
     return rows(made, *words)
 
 
+# The fields of objects that for-each-ref prints.
+FIELDS = (
+    "objectname", "objecttype", "subject", "contents:subject", "tag",
+    *(f"{who}{what}" for who in ("author", "committer", "tagger")
+      for what in ("", "name", "email", "email:trim", "email:localpart")),
+    "creator",
+    *(f"{who}date{style}" for who in ("author", "committer", "tagger", "creator")
+      for style in ("", ":iso", ":iso8601-strict", ":rfc2822", ":short", ":raw", ":unix",
+                    ":default")),
+)
+
+# Names that are sorted as versions.
+VERSIONS = ("v1.0", "v1.1", "v1.10", "v1.2", "v1.02", "v1.09", "v1.9", "v1.9rc1", "v1.010", "v1.00",
+            "v1.000", "v1", "v1.x", "v10", "v2-rc1", "v2", "v2.0.0-rc10", "v2.0.0-rc9", "a01x", "a1x",
+            "a001x", "a0x", "a00x", "ax", "a.1", "a.01", "b1/b2", "b1/b10", "007", "7", "0070")
+
+
+def fields(room: Room) -> list[Command]:
+    """What for-each-ref prints of commits and tags, and how it sorts."""
+    made = room.init("fields")
+    person = "A U Thor <author@example.org>"
+    messages = ("one\n", "two\nlines\n\nbody\n", "\n\nlate\n", "", "no end", "cr\r\nlf\r\n\r\nbody\r\n",
+                "tail  \n\n\n\n", "a\rb\nc\n", "x\n \ny\n", "caf\xe9\n",
+                "signed\n\n-----BEGIN PGP SIGNATURE-----\nx\n-----END PGP SIGNATURE-----\n")
+    people = (person, "<nobody>", "X <>", " Y  <y@z@w>", "Jos\xe9 <jos\xe9@x>")
+    zones = ("+0000", "-0000", "+0530", "-0930", "+1400", "-1200", "+0001", "-2359")
+    dates = (0, 1, 86400, 951782400, 1112904793, 1330473600, 2**31, 2**32 + 5, 253402300799 - 10**6)
+    ids = []
+    for n, message in enumerate(messages * 3):
+        date = max(dates[n % len(dates)], 86400)
+        author = f"{people[n % len(people)]} {dates[n % len(dates)] + 86400} {zones[n % len(zones)]}"
+        parents = f"parent {ids[-1]}\n" if ids else ""
+        text = (f"tree {EMPTY_TREE}\n{parents}author {author}\ncommitter {person} {date} "
+                f"{zones[(n // 2) % len(zones)]}\n{'encoding x' * (n % 2)}")
+        text = text.rstrip("\n") + "\n\n" + message
+        words = ("hash-object", "-t", "commit", "-w", "--literally", "--stdin")
+        ids.append(made.git(*words, data=text.encode("latin-1")))
+        made.git("update-ref", f"refs/heads/c{n}", ids[-1])
+    made.ids = ids
+    made.git("hash-object", "-t", "tree", "-w", "--stdin")
+    made.git("symbolic-ref", "HEAD", "refs/heads/c7")
+    for n, message in enumerate(messages):
+        text = (f"object {ids[n]}\ntype commit\ntag t{n}\ntagger {people[n % len(people)]} "
+                f"{10**9 + n % 3} {zones[n % len(zones)]}\n\n{message}")
+        words = ("hash-object", "-t", "tag", "-w", "--literally", "--stdin")
+        tag = made.git(*words, data=text.encode("latin-1"))
+        made.git("update-ref", f"refs/tags/t{n}", tag)
+    made.git("tag", "-a", "-m", "of a tag", "nested", "t3")
+    made.git("tag", "-a", "-m", "of a tree", "tree", EMPTY_TREE)
+    blob = made.git("hash-object", "-w", "--stdin", data=b"author x\n\ny\n")
+    made.git("tag", "blob", blob)
+    made.git("tag", "-a", "-m", "of a blob", "tagged-blob", blob)
+    for name in VERSIONS:
+        made.git("update-ref", f"refs/versions/{name}", ids[len(name) % len(ids)])
+    front = "for-each-ref --format=%(refname)"
+    more = {"is_strict": True}
+    commands = [row(made, "for-each-ref", f"--format=%(refname)|%({it})|%(*{it})|",
+                    is_strict=":localpart" not in it) for it in FIELDS]
+    commands += each(made, "for-each-ref", *(
+        f"--format=%({it})" for it in (
+            "HEAD", *(f"refname:{end}strip={n}" for end in ("", "l", "r") for n in range(-4, 5)),
+            *(f"objectname:short={n}" for n in (1, 4, 7, 12, 40, 50)))), **more)
+    commands += each(made, "for-each-ref", "--format=%(refname:lstrip=x)", "--format=%(objectname:short=0)",
+                     "--format=%(HEAD:x)", "--format=%(subjectx)", "--format=%(creatorname)",
+                     "--format=%(authordate:relative)", "--format=%(*HEAD)", "--format=%(*refname)")
+    keys = ("refname", "v:refname", "version:refname", "authordate", "committerdate", "taggerdate",
+            "creatordate")
+    commands += [row(made, *f"{front} --sort={sign}{key}".split(" "), **more)
+                 for key in keys for sign in ("", "-")]
+    commands += rows(made, f"{front} --sort=authordate --sort=-taggerdate", f"{front} --sort=-v:refname --sort=committerdate",
+                     f"{front} --sort=taggerdate --no-sort", f"{front} --sort=-refname --sort=taggerdate",
+                     f"{front} --count=3 --sort=-creatordate refs/tags",
+                     f"{front} --sort=-v:refname --contains c5 refs/versions", **more)
+    commands += each(made, f"{front} --points-at", ids[3], "t3", "t3^{}", "nested", "tree^{}", "blob",
+                     "HEAD", ids[0][:12], **more)
+    commands += rows(made, f"{front} --points-at c1 --points-at=c2 --no-contains c9", f"{front} --points-at nosuch",
+                     f"{front} --points-at c1 --no-points-at --count=2", f"{front} --points-at")
+    suffixed = room.copy(made, "fields with suffixes")
+    suffixed.git("config", "versionsort.suffix", "-rc")
+    suffixed.may_be_refused = True
+    commands += rows(suffixed, f"{front} --sort=v:refname", f"{front} --sort=committerdate")
+    detached = room.copy(made, "fields without a branch")
+    detached.git("update-ref", "--no-deref", "HEAD", ids[7])
+    unborn = room.copy(made, "fields with an unborn branch")
+    unborn.git("symbolic-ref", "HEAD", "refs/heads/unborn")
+    for place in (detached, unborn):
+        commands += rows(place, "for-each-ref --format=%(HEAD)%(refname)", **more)
+    return commands + malformed_fields(room, ids[0], made)
+
+
+def malformed_fields(room: Room, id: str, base: Repository) -> list[Command]:
+    """Objects whose lines of persons or dates are malformed, and objects that are missing."""
+    made = room.copy(base, "malformed fields")
+    made.may_be_refused = True
+    for n, person in enumerate((
+            "A <a> ", "A <a> x +0000", "A <a> 5", "A <a> 5 0100", "A <a> 5 +01", "A <a", "A", "",
+            "A <a> 99999999999999999999 +0000", "A <a> 18446744073709551615 +0000", "A <a> -5 +0000",
+            "A <a>  7 +0000", "A <a> 7 +0000 x", "A <a> 100 +0200", "A <a> 100 -0200",
+            "A <a> 300000000000 +0000", "Z <z> <w> 5 +0000")):
+        text = f"object {id}\ntype commit\ntag m{n}\ntagger {person}\n\nmessage\n"
+        words = ("hash-object", "-t", "tag", "-w", "--literally", "--stdin")
+        made.git("update-ref", f"refs/odd/m{n}", made.git(*words, data=text.encode()))
+    text = f"object {id}\ntype commit\ntag sig\ntagger A <a> 5 +0000\n\n-----BEGIN PGP MESSAGE-----\nx\n"
+    made.git("update-ref", "refs/odd/signed", made.git("hash-object", "-t", "tag", "-w", "--literally",
+                                                       "--stdin", data=text.encode()))
+    commands = [row(made, "for-each-ref", f"--format=%(refname)|%({it})|", f"refs/odd/{name}")
+                for it in ("taggerdate", "taggerdate:raw", "taggerdate:unix", "creatordate:iso", "taggername",
+                           "taggeremail", "taggeremail:trim", "taggeremail:localpart", "subject")
+                for name in (*(f"m{n}" for n in range(17)), "signed")]
+    commands += rows(made, "for-each-ref --format=%(refname) --sort=taggerdate refs/odd")
+    lacking = room.copy(base, "fields of a lost object")
+    lacking.twin = base.path
+    lacking.remove(base.git("rev-parse", "c5"))
+    return commands + rows(lacking, "for-each-ref --format=%(subject) refs/heads/c5",
+                           "for-each-ref --format=%(*subject) refs/tags/t5",
+                           "for-each-ref --format=%(refname) --sort=authordate refs/heads",
+                           "for-each-ref --format=%(refname) --points-at=c4 refs/heads/c5")
+
+
 def many(room: Room) -> list[Command]:
     """Many references, many arguments and many options."""
     made = many_references(room, 60000)
@@ -1256,7 +1433,7 @@ def many(room: Room) -> list[Command]:
 
 
 MAKERS = (names, signs, digits, branches, reflogs, working_trees, indexes, unusual, graphs, lost, nowhere, ties,
-          crossed, searched, strayed, deceived, packed, hostile, many)
+          crossed, searched, strayed, deceived, packed, hostile, fields, many)
 
 
 def remove_made(room: Room) -> None:

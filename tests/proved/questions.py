@@ -166,6 +166,7 @@ class Asker:
             ["--short=9"], ["--short=4"], ["--short=40"], ["--symbolic-full-name"],
             ["--abbrev-ref"],
             ["--abbrev-ref=strict"], ["--abbrev-ref=loose"], ["--verify", "--short=7"],
+            ["--git-dir"], ["--show-prefix", "--show-toplevel"], ["--is-bare-repository"],
         )
         return ["rev-parse"] + options + [self.text() for _
                                           in range(self.chosen(0, 1, 1, 1, 2, 3))], b""
@@ -214,8 +215,16 @@ class Asker:
             + self.chosen(
                 "%(refname)", "%(refname:short)", "%(objectname)", "%(objectname) %(refname)",
                 "%(refname:short)%09%(objectname)", "<%(refname)>%%", "%(refname:short)",
+                "%(HEAD) %(refname:lstrip=2) %(committerdate:unix)", "%(creatordate) %(subject)",
+                "%(refname) %(*objectname) %(taggerdate:raw)", "%(refname:rstrip=-2) %(refname)",
             )
         ]
+        if self.is_once_in(3):
+            keys = ("refname", "-refname", "committerdate", "-creatordate", "taggerdate",
+                    "version:refname", "-v:refname", "authordate")
+            words += [f"--sort={self.rng.choice(keys)}" for _ in range(self.chosen(1, 1, 2))]
+        if self.is_once_in(6):
+            words.append(f"--points-at={self.commit()}")
         for odds, name in ((2, "--contains"), (4, "--no-contains"), (3, "--merged"),
                            (5, "--no-merged")):
             if self.is_once_in(odds):

@@ -20,6 +20,10 @@ OPTIONS = {
         b"--verify", b"-q", b"--quiet", b"--short", b"--symbolic-full-name", b"--abbrev-ref",
         b"--symbolic", b"--default", b"--revs-only", b"--no-revs", b"--flags", b"--no-flags",
         b"--not", b"--sq",
+        b"--git-dir", b"--absolute-git-dir", b"--git-common-dir", b"--show-toplevel",
+        b"--show-cdup", b"--show-prefix", b"--is-inside-work-tree", b"--is-inside-git-dir",
+        b"--is-bare-repository", b"--is-shallow-repository", b"--show-object-format",
+        b"--path-format",
     },
     b"rev-list": {
         b"--not", b"--all", b"--branches", b"--tags", b"--remotes", b"--stdin", b"--count", b"-n",
@@ -28,7 +32,7 @@ OPTIONS = {
     },
     b"for-each-ref": {
         b"--contains", b"--no-contains", b"--merged", b"--no-merged", b"--format", b"--count",
-        b"--sort",
+        b"--sort", b"--points-at",
     },
 }
 
@@ -45,7 +49,14 @@ BEGINS = (b"--all", b"--branches", b"--tags", b"--remotes", b"--stdin")
 NUMBERS = (b"-n", b"--max-count", b"--skip")
 
 # The atoms of a format that are read.
-ATOMS = (b"refname", b"refname:short", b"objectname", b"objectname:short", b"objecttype")
+ATOMS = re.compile(
+    rb"refname(:short|:(l|r)?strip=-?\d{1,9})?|objectname(:short(=[1-9]\d{0,8})?)?|objecttype|HEAD|ahead-behind:.*"
+    rb"|\*?(objectname|objecttype|(contents:)?subject|tag"
+    rb"|(author|committer|tagger)(name|email(:trim)?)?"
+    rb"|(author|committer|tagger|creator)(date(:(default|iso(8601)?(-strict)?|rfc(2822)?|short|raw|unix))?)?|creator)")
+
+# The keys of an order that are read.
+KEYS = re.compile(rb"-?((v:|version:)?refname|(author|committer|tagger|creator)date)")
 
 
 def is_read(word: bytes, option: bytes) -> bool:
@@ -95,11 +106,11 @@ def refused_option(word: bytes, option: bytes) -> str | None:
     if not is_read(word, option):
         return "an option"
     name, mark, value = option.partition(b"=")
-    if name == b"--sort" and value not in (b"refname", b"-refname"):
+    if name == b"--sort" and not KEYS.fullmatch(value):
         return "an order"
     if word == b"for-each-ref" and name == b"--format":
         atoms = re.findall(rb"%\(([^)]*)\)", value)
-        if any(it not in ATOMS and not it.startswith(b"ahead-behind:") for it in atoms):
+        if any(not ATOMS.fullmatch(it) for it in atoms):
             return "a format"
     numbers = (b"--abbrev", b"--candidates", b"--max-count", b"--skip", b"--short")
     if mark and name in numbers and not re.fullmatch(rb"[-+]?\d{1,9}", value):

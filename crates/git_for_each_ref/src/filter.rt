@@ -1,11 +1,13 @@
-//! Selects references by what their commits reach, and by what reaches them (git-for-each-ref,
-//! `--contains`, `--merged`).
+//! Selects references by their objects, by what their commits reach, and by what reaches them
+//! (git-for-each-ref, `--points-at`, `--contains`, `--merged`).
 
 use crate::list::Candidate;
 use git_session::session::Session;
-use git_session::stop::Stop;
+use git_session::stop::{Stop, fatal};
 use gix_questions::{Contains, ReachableNewestFirst};
+use gix_repository::Refusal;
 use gix_revision::hash::ObjectId;
+use gix_revision::object::Kind;
 use std::alloc::{AllocError, Global};
 use std::marker::Brand;
 
@@ -13,6 +15,8 @@ use std::marker::Brand;
 /// all.
 #[derive(Drop)]
 pub(crate) struct Filter {
+    /// Selects those of one of these objects, and those of tags of one of them.
+    pub(crate) points_at: Vec<ObjectId>,
     /// Selects those that reach one of these commits.
     pub(crate) contains: Vec<ObjectId>,
     /// Selects those that reach none of these commits.
@@ -27,6 +31,7 @@ impl Filter {
     /// Selects all references.
     pub(crate) fn new(alloc: Global) -> Filter {
         Filter {
+            points_at: Vec::new(alloc),
             contains: Vec::new(alloc),
             no_contains: Vec::new(alloc),
             merged: Vec::new(alloc),
@@ -34,13 +39,48 @@ impl Filter {
         }
     }
 
-    /// Tells whether all references are selected.
-    fn selects_all(&self) -> bool {
+    /// Tells whether no commit counts.
+    fn takes_all_commits(&self) -> bool {
         self.contains.is_empty()
             && self.no_contains.is_empty()
             && self.merged.is_empty()
             && self.no_merged.is_empty()
     }
+}
+
+/// Returns the object that an object tags; `None` if it is no tag.
+fn tagged(session: &mut Session<'_>, candidate: &Candidate) -> Result<Option<ObjectId>, Stop> {
+    match session.repository.kind(candidate.id) {
+        Ok(Kind::Tag) => Ok(Some(session.repository.tag(candidate.id)?.target)),
+        Ok(_) => Ok(None),
+        Err(Refusal::Object(gix_odb::Error::Missing(_))) if !session.repository.is_partial() => {
+            Err(fatal(
+                session.alloc,
+                &[b"malformed object at '", &candidate.name, b"'"],
+            ))
+        }
+        Err(refusal) => Err(Stop::from(refusal)),
+    }
+}
+
+/// Keeps the references of some objects, and those of tags of these.
+fn keep_pointing(
+    session: &mut Session<'_>,
+    candidates: &mut Vec<Candidate>,
+    objects: &[ObjectId],
+) -> Result<(), Stop> {
+    if objects.is_empty() {
+        return Ok(());
+    }
+    for candidate in candidates.iter_mut() {
+        candidate.is_wanted = objects.contains(&candidate.id)
+            || match tagged(session, candidate)? {
+                Some(target) => objects.contains(&target),
+                None => false,
+            };
+    }
+    candidates.retain(|candidate| candidate.is_wanted);
+    Ok(())
 }
 
 /// Looks up the commits of references, and keeps those that lead to one.
@@ -170,7 +210,8 @@ pub(crate) fn apply(
     filter: &Filter,
     candidates: &mut Vec<Candidate>,
 ) -> Result<(), Stop> {
-    if filter.selects_all() {
+    keep_pointing(session, candidates, &filter.points_at)?;
+    if filter.takes_all_commits() {
         return Ok(());
     }
     keep_commits(session, candidates)?;

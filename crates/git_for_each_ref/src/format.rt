@@ -1,19 +1,27 @@
 //! Reads formats, and prints references by them (git-for-each-ref, "FIELD NAMES").
 
+use crate::fields::{Field, Read, field_of, field_text, missing, read_own, read_target};
 use crate::list::Candidate;
+use git_session::integer::integer;
 use git_session::names::commit_of;
 use git_session::session::Session;
 use git_session::stop::{Stop, failed, fatal, not_supported};
 use gix_questions::AheadBehind;
-use gix_repository::Refusal;
+use gix_repository::{Refusal, kind_name};
 use gix_revision::hash::ObjectId;
-use gix_revision::object::Kind;
 use std::alloc::{AllocError, Global};
 use std::io::Write;
 use std::marker::Brand;
 
 /// How many names are shortened at least, if all references are listed for it.
 const MANY: usize = 16;
+
+/// Says at which end of a name parts are cut off.
+#[derive(Clone, Copy)]
+pub(crate) enum Side {
+    Left,
+    Right,
+}
 
 /// A part of a format.
 #[derive(Drop)]
@@ -26,10 +34,18 @@ pub(crate) enum Part {
     ShortName,
     /// The id.
     Id,
-    /// The abbreviated id.
-    ShortId,
+    /// The abbreviated id, with this many digits at least, or as many as the setting says.
+    ShortId(Option<usize>),
     /// The kind of the object.
     Type,
+    /// The full name without so many of its parts; a negative number says how many stay.
+    Cut(Side, i32),
+    /// A star for the current branch, of which this is the full name, and a blank for all others.
+    Head(Option<Vec<u8>>),
+    /// What the object says.
+    Own(Field),
+    /// What the object says that is tagged.
+    Target(Field),
     /// How many commits only the reference reaches, and how many only this commit reaches.
     AheadBehind(ObjectId),
 }
@@ -104,8 +120,39 @@ fn base(session: &mut Session<'_>, text: &[u8]) -> Result<ObjectId, Stop> {
     }
 }
 
+/// Returns the part of a field that cuts the name.
+fn cut(name: &[u8]) -> Option<Part> {
+    for (front, side) in [
+        (b"refname:lstrip=".as_slice(), Side::Left),
+        (b"refname:strip=", Side::Left),
+        (b"refname:rstrip=", Side::Right),
+    ] {
+        if let Some(text) = name.strip_prefix(front) {
+            return Some(Part::Cut(side, integer(text)?));
+        }
+    }
+    None
+}
+
+/// Returns the part of a field that is an abbreviated id of some digits.
+fn short_id(name: &[u8]) -> Option<Part> {
+    let count = integer(name.strip_prefix(b"objectname:short=")?)?;
+    match usize::try_from(count) {
+        Ok(0) | Err(_) => None,
+        Ok(count) => Some(Part::ShortId(Some(count.clamp(4, 40)))),
+    }
+}
+
+/// Returns the part of a field of an object.
+fn object_field(name: &[u8]) -> Option<Part> {
+    match name.strip_prefix(b"*") {
+        Some(name) => Some(Part::Target(field_of(name)?)),
+        None => Some(Part::Own(field_of(name)?)),
+    }
+}
+
 /// Returns the part of a field.
-fn field(session: &mut Session<'_>, name: &[u8]) -> Result<Part, Stop> {
+fn part_of(session: &mut Session<'_>, name: &[u8]) -> Result<Part, Stop> {
     if name == b"refname".as_slice() {
         Ok(Part::Name)
     } else if name == b"refname:short".as_slice() {
@@ -113,16 +160,21 @@ fn field(session: &mut Session<'_>, name: &[u8]) -> Result<Part, Stop> {
     } else if name == b"objectname".as_slice() {
         Ok(Part::Id)
     } else if name == b"objectname:short".as_slice() {
-        Ok(Part::ShortId)
+        Ok(Part::ShortId(None))
     } else if name == b"objecttype".as_slice() {
         Ok(Part::Type)
     } else if let Some(text) = name.strip_prefix(b"ahead-behind:") {
         Ok(Part::AheadBehind(base(session, text)?))
+    } else if name == b"HEAD".as_slice() {
+        Ok(Part::Head(session.repository.branch()?))
     } else {
-        Err(not_supported(
-            session.alloc,
-            &[b"the field '", name, b"' is not supported"],
-        ))
+        match cut(name).or(short_id(name)).or(object_field(name)) {
+            Some(part) => Ok(part),
+            None => Err(not_supported(
+                session.alloc,
+                &[b"the field '", name, b"' is not supported"],
+            )),
+        }
     }
 }
 
@@ -154,36 +206,11 @@ pub(crate) fn read_format(session: &mut Session<'_>, format: &[u8]) -> Result<Ve
                 &[b"the format '", begin, b"' is not supported"],
             ));
         };
-        parts.push(field(session, name)?)?;
+        parts.push(part_of(session, name)?)?;
         rest = after;
     }
     add_text(session.alloc, rest, &mut parts)?;
     Ok(parts)
-}
-
-/// Returns the word for a kind of object.
-fn word(kind: Kind) -> &'static [u8] {
-    match kind {
-        Kind::Commit => b"commit",
-        Kind::Tree => b"tree",
-        Kind::Blob => b"blob",
-        Kind::Tag => b"tag",
-    }
-}
-
-/// Returns git's end for a reference whose object is missing.
-fn missing(session: &Session<'_>, candidate: &Candidate) -> Stop {
-    let mut text = [0u8; 40];
-    let written = candidate.id.write_hex(40, &mut text);
-    fatal(
-        session.alloc,
-        &[
-            b"missing object ",
-            &text[..written],
-            b" for ",
-            &candidate.name,
-        ],
-    )
 }
 
 /// Looks up the kind of a reference's object. Returns whether the object is there.
@@ -214,7 +241,7 @@ fn look_up_all_kinds(session: &mut Session<'_>, candidates: &mut [Candidate]) ->
                 &[b"the objects of several references are missing"],
             ));
         }
-        end = Some(missing(session, candidate));
+        end = Some(missing(session, candidate.id, candidate));
     }
     match end {
         Some(end) => Err(end),
@@ -243,8 +270,8 @@ pub(crate) fn look_up(
 /// Prints the kind of a reference's object.
 fn print_type(session: &mut Session<'_>, candidate: &Candidate) -> Result<(), Stop> {
     match candidate.kind {
-        Some(kind) => Ok(session.print(word(kind))?),
-        None => Err(missing(session, candidate)),
+        Some(kind) => Ok(session.print(kind_name(kind))?),
+        None => Err(missing(session, candidate.id, candidate)),
     }
 }
 
@@ -271,8 +298,15 @@ fn print_short_name(session: &mut Session<'_>, candidate: &Candidate) -> Result<
 }
 
 /// Prints the abbreviated id of a reference.
-fn print_short_id(session: &mut Session<'_>, candidate: &Candidate) -> Result<(), Stop> {
-    let least = session.repository.least_digits()?;
+fn print_short_id(
+    session: &mut Session<'_>,
+    least: Option<usize>,
+    candidate: &Candidate,
+) -> Result<(), Stop> {
+    let least = match least {
+        Some(least) => least,
+        None => session.repository.least_digits()?,
+    };
     let digits = session.repository.unique_digits(candidate.id, least)?;
     session.print_digits(candidate.id, digits)?;
     Ok(())
@@ -306,14 +340,116 @@ fn print_ahead_behind(
     print_counts(session, counts)
 }
 
+/// Returns a name without so many of its parts at the left. A negative number says how many stay.
+fn cut_left(name: &[u8], count: i32) -> &[u8] {
+    let mut rest = name;
+    for _ in 0..cuts(name, count) {
+        let Some(slash) = rest.iter().position(|byte| *byte == b'/') else {
+            return &[];
+        };
+        rest = rest.get(slash.saturating_add(1)..).unwrap_or(&[]);
+    }
+    rest
+}
+
+/// Returns a name without so many of its parts at the right.
+fn cut_right(name: &[u8], count: i32) -> &[u8] {
+    let mut rest = name;
+    for _ in 0..cuts(name, count) {
+        let Some(slash) = rest.iter().rposition(|byte| *byte == b'/') else {
+            return &[];
+        };
+        rest = rest.get(..slash).unwrap_or(&[]);
+    }
+    rest
+}
+
+/// Returns how many parts of a name are cut off.
+fn cuts(name: &[u8], count: i32) -> usize {
+    let parts = name.split(|byte| *byte == b'/').count();
+    if count < 0 {
+        let left = usize::try_from(count.unsigned_abs()).unwrap_or(usize::MAX);
+        parts.saturating_sub(left)
+    } else {
+        usize::try_from(count).unwrap_or(0)
+    }
+}
+
+/// The objects of a reference, as far as they were read.
+#[derive(Drop)]
+struct Objects {
+    own: Option<Read>,
+    target: Option<Read>,
+}
+
+impl Objects {
+    /// Reads the objects of which a format has fields.
+    fn read(
+        session: &mut Session<'_>,
+        format: &[Part],
+        candidate: &Candidate,
+    ) -> Result<Objects, Stop> {
+        let wants_target = format.iter().any(|part| matches!(part, Part::Target(_)));
+        if !wants_target && !format.iter().any(|part| matches!(part, Part::Own(_))) {
+            return Ok(Objects {
+                own: None,
+                target: None,
+            });
+        }
+        let own = read_own(session, candidate)?;
+        let target = if wants_target {
+            read_target(session, &own, candidate)?
+        } else {
+            None
+        };
+        Ok(Objects {
+            own: Some(own),
+            target,
+        })
+    }
+}
+
+/// Prints a field of an object; nothing if there is no object.
+fn print_field(session: &mut Session<'_>, read: &Option<Read>, field: Field) -> Result<(), Stop> {
+    if let Some(read) = read {
+        let text = field_text(session, read, field)?;
+        session.print(&text)?;
+    }
+    Ok(())
+}
+
+/// Prints a star for the current branch, and a blank for another reference.
+fn print_head(
+    session: &mut Session<'_>,
+    branch: &Option<Vec<u8>>,
+    candidate: &Candidate,
+) -> Result<(), Stop> {
+    let is_current = match branch {
+        Some(branch) => branch == &candidate.name,
+        None => false,
+    };
+    session.print(if is_current { b"*" } else { b" " })?;
+    Ok(())
+}
+
 /// Prints a part of the line for a reference.
-fn print_part(session: &mut Session<'_>, part: &Part, candidate: &Candidate) -> Result<(), Stop> {
+fn print_part(
+    session: &mut Session<'_>,
+    part: &Part,
+    candidate: &Candidate,
+    objects: &Objects,
+) -> Result<(), Stop> {
     match part {
+        Part::Cut(Side::Left, count) => Ok(session.print(cut_left(&candidate.name, *count))?),
+        Part::Cut(Side::Right, count) => Ok(session.print(cut_right(&candidate.name, *count))?),
+        Part::Head(branch) => print_head(session, branch, candidate),
+        Part::Own(field) => print_field(session, &objects.own, *field),
+        Part::Target(field) => print_field(session, &objects.target, *field),
         Part::Text(text) => Ok(session.print(text)?),
         Part::Name => Ok(session.print(&candidate.name)?),
         Part::ShortName => print_short_name(session, candidate),
         Part::Id => Ok(session.print_id(candidate.id)?),
-        Part::ShortId => print_short_id(session, candidate),
+        Part::ShortId(least) => print_short_id(session, *least, candidate),
         Part::Type => print_type(session, candidate),
         Part::AheadBehind(base) => print_ahead_behind(session, *base, candidate),
     }
@@ -325,8 +461,9 @@ pub(crate) fn print_reference(
     format: &[Part],
     candidate: &Candidate,
 ) -> Result<(), Stop> {
+    let objects = Objects::read(session, format, candidate)?;
     for part in format {
-        print_part(session, part, candidate)?;
+        print_part(session, part, candidate, &objects)?;
     }
     session.print(b"\n")?;
     Ok(())

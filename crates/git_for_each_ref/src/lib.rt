@@ -1,14 +1,18 @@
 //! Answers `for-each-ref` (git-for-each-ref).
 #![tactic(auto)]
 
+mod dates;
+mod fields;
 mod filter;
 mod format;
 mod list;
 mod patterns;
+mod sorting;
 
 use crate::filter::{Filter, apply};
 use crate::format::{Part, expect_names, look_up, print_reference, read_format};
 use crate::list::{Candidate, list_wanted};
+use crate::sorting::{SortKey, sort, sort_key};
 use git_session::integer::integer;
 use git_session::names::commit_of;
 use git_session::options::{add_choice, next_item};
@@ -32,6 +36,7 @@ enum Key {
     Format,
     Count,
     Sort,
+    PointsAt,
     /// An option of git that is not supported, with its name.
     Other(&'static str),
 }
@@ -95,7 +100,7 @@ static CHOICES: [Choice<Key>; 14] = [
         has_no: true,
     },
     Choice {
-        key: Key::Other("points-at"),
+        key: Key::PointsAt,
         short: 0,
         long: "points-at",
         value: Value::Always,
@@ -142,7 +147,8 @@ static CHOICES: [Choice<Key>; 14] = [
 pub fn add_options(text: &mut Vec<u8>) -> Result<(), AllocError> {
     for choice in CHOICES.iter() {
         if !matches!(choice.key, Key::Other(_)) {
-            add_choice(text, choice, matches!(choice.key, Key::Count | Key::Sort))?;
+            let has_no = matches!(choice.key, Key::Count | Key::Sort | Key::PointsAt);
+            add_choice(text, choice, has_no)?;
         }
     }
     Ok(())
@@ -155,8 +161,8 @@ struct Asked<'w> {
     format: &'w [u8],
     /// How many references are printed at most; all if it is 0.
     count: i32,
-    /// Tells whether the last name comes first.
-    is_reversed: bool,
+    /// By what references are sorted, the last key first.
+    keys: Vec<SortKey>,
     patterns: Vec<&'w [u8]>,
 }
 
@@ -182,14 +188,11 @@ fn merged(session: &mut Session<'_>, text: &[u8]) -> Result<ObjectId, Stop> {
     }
 }
 
-/// Returns whether the key of `--sort` puts the last name first.
-fn is_falling(alloc: Global, key: &[u8]) -> Result<bool, Stop> {
-    if key == b"refname".as_slice() {
-        Ok(false)
-    } else if key == b"-refname".as_slice() {
-        Ok(true)
-    } else {
-        Err(not_supported(alloc, &[b"the sort key '", key, b"' is not supported"]))
+/// Returns the object of `--points-at`.
+fn object(session: &mut Session<'_>, text: &[u8]) -> Result<ObjectId, Stop> {
+    match revision(session, text)? {
+        Some(id) => Ok(id),
+        None => Err(not_supported(session.alloc, &[b"'", text, b"' names no object"])),
     }
 }
 
@@ -214,6 +217,7 @@ fn name_of(key: Key) -> &'static str {
         Key::Format => "format",
         Key::Count => "count",
         Key::Sort => "sort",
+        Key::PointsAt => "points-at",
         Key::Other(name) => name,
     }
 }
@@ -248,7 +252,11 @@ impl<'w> Asked<'w> {
             Key::NoMerged => self.filter.no_merged.push(merged(session, commit)?)?,
             Key::Format => self.format = value.unwrap_or(b""),
             Key::Count => self.count = count(session.alloc, value.unwrap_or(b""))?,
-            Key::Sort => self.is_reversed = is_falling(session.alloc, value.unwrap_or(b""))?,
+            Key::Sort => self.keys.push(sort_key(session, value.unwrap_or(b""))?)?,
+            Key::PointsAt => self
+                .filter
+                .points_at
+                .push(object(session, value.unwrap_or(b""))?)?,
             Key::Other(_) => return Err(unsupported(session.alloc, given)),
         }
         Ok(())
@@ -258,7 +266,8 @@ impl<'w> Asked<'w> {
     fn take_back(&mut self, alloc: Global, given: Given<'_, Key>) -> Result<(), Stop> {
         match given.key {
             Key::Count => self.count = 0,
-            Key::Sort => self.is_reversed = false,
+            Key::Sort => self.keys.clear(),
+            Key::PointsAt => self.filter.points_at.clear(),
             _ => return Err(unsupported(alloc, given)),
         }
         Ok(())
@@ -280,7 +289,7 @@ impl<'w> Asked<'w> {
             filter: Filter::new(alloc),
             format: FORMAT,
             count: 0,
-            is_reversed: false,
+            keys: Vec::new(alloc),
             patterns: Vec::new(alloc),
         };
         let mut reader = Reader::new(&CHOICES, words);
@@ -326,9 +335,7 @@ pub fn for_each_ref(session: &mut Session<'_>, words: &[&[u8]]) -> Result<u8, St
     let mut candidates = list_wanted(session, &asked.patterns)?;
     apply(session, &asked.filter, &mut candidates)?;
     look_up(session, &format, &mut candidates)?;
-    if asked.is_reversed {
-        candidates.reverse();
-    }
+    sort(session, &asked.keys, &mut candidates)?;
     print_all(session, &format, &candidates, most)?;
     Ok(0)
 }

@@ -19,6 +19,10 @@ pub(crate) struct Candidate {
     pub(crate) commit: Option<ObjectId>,
     /// The kind of the object, once it was looked up.
     pub(crate) kind: Option<Kind>,
+    /// The date by which references are sorted, in seconds since 1970.
+    pub(crate) seconds: i64,
+    /// Tells whether the object was asked for.
+    pub(crate) is_wanted: bool,
 }
 
 /// Warns of a reference that is left out. As git does, it says nothing of one that leads nowhere.
@@ -58,6 +62,8 @@ fn add_wanted(
                 id: listed.id,
                 commit: None,
                 kind: None,
+                seconds: 0,
+                is_wanted: true,
             })?;
         }
     }

@@ -67,9 +67,34 @@ pub(super) enum Digits {
     AtLeast(usize),
 }
 
+/// Names a fact about the repository that is printed (git-rev-parse, "Options for Files").
+#[derive(Clone, Copy)]
+pub(super) enum Fact {
+    GitDir,
+    AbsoluteGitDir,
+    /// The folder that all worktrees share.
+    CommonDir,
+    /// The top of the work tree.
+    TopLevel,
+    /// The way up to the top of the work tree.
+    WayUp,
+    /// The way down from the top of the work tree.
+    Prefix,
+    /// The path of a file of the git folder. Its name is the next word.
+    GitPath,
+    IsInsideWorkTree,
+    IsInsideGitDir,
+    IsBare,
+    IsShallow,
+    ObjectFormat,
+}
+
 /// Names an option.
 #[derive(Clone, Copy)]
 enum Key {
+    Tell(Fact),
+    PathFormat,
+    ObjectFormat,
     Default,
     RevsOnly,
     NoRevs,
@@ -87,7 +112,7 @@ enum Key {
 }
 
 /// The options.
-static OPTIONS: [Exact<Key>; 15] = [
+static OPTIONS: [Exact<Key>; 28] = [
     Exact("--default", Takes::NextWord, Key::Default),
     Exact("--revs-only", Takes::Nothing, Key::RevsOnly),
     Exact("--no-revs", Takes::Nothing, Key::NoRevs),
@@ -107,6 +132,43 @@ static OPTIONS: [Exact<Key>; 15] = [
     Exact("--end-of-options", Takes::Nothing, Key::EndOfOptions),
     Exact("--short", Takes::Joined, Key::Short),
     Exact("--abbrev-ref", Takes::Joined, Key::AbbrevRef),
+    Exact("--git-dir", Takes::Nothing, Key::Tell(Fact::GitDir)),
+    Exact(
+        "--absolute-git-dir",
+        Takes::Nothing,
+        Key::Tell(Fact::AbsoluteGitDir),
+    ),
+    Exact(
+        "--git-common-dir",
+        Takes::Nothing,
+        Key::Tell(Fact::CommonDir),
+    ),
+    Exact("--show-toplevel", Takes::Nothing, Key::Tell(Fact::TopLevel)),
+    Exact("--show-cdup", Takes::Nothing, Key::Tell(Fact::WayUp)),
+    Exact("--show-prefix", Takes::Nothing, Key::Tell(Fact::Prefix)),
+    Exact("--git-path", Takes::NextWord, Key::Tell(Fact::GitPath)),
+    Exact(
+        "--is-inside-work-tree",
+        Takes::Nothing,
+        Key::Tell(Fact::IsInsideWorkTree),
+    ),
+    Exact(
+        "--is-inside-git-dir",
+        Takes::Nothing,
+        Key::Tell(Fact::IsInsideGitDir),
+    ),
+    Exact(
+        "--is-bare-repository",
+        Takes::Nothing,
+        Key::Tell(Fact::IsBare),
+    ),
+    Exact(
+        "--is-shallow-repository",
+        Takes::Nothing,
+        Key::Tell(Fact::IsShallow),
+    ),
+    Exact("--show-object-format", Takes::Joined, Key::ObjectFormat),
+    Exact("--path-format", Takes::Joined, Key::PathFormat),
 ];
 
 /// Adds the options of `rev-parse` to a text, each on a line.
@@ -136,6 +198,20 @@ fn leading_number(alloc: Global, text: &[u8]) -> Result<usize, Stop> {
     }
 }
 
+/// Returns the fact that `--show-object-format` asks for.
+fn object_format(alloc: Global, holds: Holds<'_>) -> Result<Fact, Stop> {
+    let text = match holds {
+        Holds::Text(text) => text,
+        Holds::Nothing | Holds::NextWord => b"storage",
+    };
+    for format in [b"storage".as_slice(), b"input", b"output"] {
+        if text == format {
+            return Ok(Fact::ObjectFormat);
+        }
+    }
+    Err(fatal(alloc, &[b"unknown mode for --show-object-format: ", text]))
+}
+
 /// What the words ask for so far.
 #[derive(Clone, Copy)]
 pub(super) struct Asked<'w> {
@@ -159,6 +235,8 @@ pub(super) struct Asked<'w> {
     /// unambiguous; `None` in the latter if the setting decides.
     pub(super) short_names: Option<Option<bool>>,
     pub(super) digits: Digits,
+    /// Tells whether paths are printed absolute.
+    pub(super) is_absolute: bool,
     /// The revision that is printed if there is no other.
     pub(super) default: Option<&'w [u8]>,
     /// Counts the revisions of which one is wanted.
@@ -188,6 +266,7 @@ impl<'w> Asked<'w> {
             symbolic: Symbolic::No,
             short_names: None,
             digits: Digits::All,
+            is_absolute: false,
             default: None,
             count: 0,
             last: None,
@@ -221,14 +300,23 @@ impl<'w> Asked<'w> {
         self.is_verify = true;
     }
 
-    /// Reads an option.
+    /// Reads an option. Returns the fact that it asks for, if it asks for one.
     ///
     /// # Errors
     ///
     /// `NotSupported` for another option, and `Fatal` with git's message for a wrong value.
-    pub(super) fn read_option(&mut self, alloc: Global, word: &'w [u8]) -> Result<(), Stop> {
+    pub(super) fn read_option(
+        &mut self,
+        alloc: Global,
+        word: &'w [u8],
+    ) -> Result<Option<Fact>, Stop> {
         match exact_option(&OPTIONS, word) {
-            Some((key, holds)) => self.note(alloc, key, holds),
+            Some((Key::Tell(fact), _)) => Ok(Some(fact)),
+            Some((Key::ObjectFormat, holds)) => Ok(Some(object_format(alloc, holds)?)),
+            Some((key, holds)) => {
+                self.note(alloc, key, holds)?;
+                Ok(None)
+            }
             None => Err(unsupported(alloc, word)),
         }
     }
@@ -236,6 +324,8 @@ impl<'w> Asked<'w> {
     /// Notes an option, and the value that its word has.
     fn note(&mut self, alloc: Global, key: Key, holds: Holds<'w>) -> Result<(), Stop> {
         match key {
+            Key::Tell(_) | Key::ObjectFormat => {}
+            Key::PathFormat => return self.note_path_format(alloc, holds),
             Key::Default => return self.note_default(alloc),
             Key::RevsOnly => self.filter.others = false,
             Key::NoRevs => self.filter.revisions = false,
@@ -252,6 +342,21 @@ impl<'w> Asked<'w> {
             Key::AbbrevRef => return self.note_short_names(alloc, holds),
         }
         Ok(())
+    }
+
+    /// Notes `--path-format`.
+    fn note_path_format(&mut self, alloc: Global, holds: Holds<'w>) -> Result<(), Stop> {
+        let Holds::Text(text) = holds else {
+            return Err(fatal(alloc, &[b"--path-format requires an argument"]));
+        };
+        if text == b"absolute".as_slice() {
+            self.is_absolute = true;
+            return Ok(());
+        }
+        if text == b"relative".as_slice() {
+            return Err(not_supported(alloc, &[b"--path-format=relative is not supported"]));
+        }
+        Err(fatal(alloc, &[b"unknown argument to --path-format: ", text]))
     }
 
     /// Notes the value of `--default`, the next word.

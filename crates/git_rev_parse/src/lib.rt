@@ -2,10 +2,12 @@
 #![tactic(auto)]
 
 mod asked;
+mod folders;
 mod show;
 
 pub use crate::asked::add_options;
 use crate::asked::{Asked, Place};
+use crate::folders::show_fact;
 use crate::show::{show_default, show_text, show_tip};
 use git_session::forms::{asks_sibling, is_counted};
 use git_session::paths::{Turn, verify_file};
@@ -133,7 +135,9 @@ fn read_word<'w>(
     } else if asked.has_ended_options || !word.starts_with(b"-") {
         return read_revision(session, asked, word);
     } else {
-        asked.read_option(session.alloc, word)?;
+        if let Some(fact) = asked.read_option(session.alloc, word)? {
+            show_fact(session, asked, fact)?;
+        }
         if !asked.has_ended_options {
             return Ok(None);
         }

@@ -1,0 +1,230 @@
+//! Reads dates of commits and tags, and writes them as git does (git-log, `--date`).
+
+use git_session::stop::{Stop, not_supported};
+use jiff_core::civil::DateTime;
+use jiff_core::{Offset, Timestamp};
+use std::alloc::Global;
+use std::io::Write;
+
+/// Says how a date is written.
+#[derive(Clone, Copy, PartialEq, Eq)]
+pub(crate) enum Style {
+    /// `Thu Apr 7 22:13:13 2005 +0200`
+    Usual,
+    /// `2005-04-07 22:13:13 +0200`
+    Iso,
+    /// `2005-04-07T22:13:13+02:00`
+    IsoStrict,
+    /// `Thu, 7 Apr 2005 22:13:13 +0200`
+    Rfc,
+    /// `2005-04-07`
+    Short,
+    /// `1112904793 +0200`
+    Raw,
+    /// `1112904793`
+    Unix,
+}
+
+/// A style, and a name that it has behind the colon of a field.
+struct Named {
+    name: &'static str,
+    style: Style,
+}
+
+/// The names of the styles. All but these depend on the local time, or on the present.
+static STYLES: [Named; 10] = [
+    Named {
+        name: "default",
+        style: Style::Usual,
+    },
+    Named {
+        name: "iso",
+        style: Style::Iso,
+    },
+    Named {
+        name: "iso8601",
+        style: Style::Iso,
+    },
+    Named {
+        name: "iso-strict",
+        style: Style::IsoStrict,
+    },
+    Named {
+        name: "iso8601-strict",
+        style: Style::IsoStrict,
+    },
+    Named {
+        name: "rfc",
+        style: Style::Rfc,
+    },
+    Named {
+        name: "rfc2822",
+        style: Style::Rfc,
+    },
+    Named {
+        name: "short",
+        style: Style::Short,
+    },
+    Named {
+        name: "raw",
+        style: Style::Raw,
+    },
+    Named {
+        name: "unix",
+        style: Style::Unix,
+    },
+];
+
+/// The names of the days of the week.
+static DAYS: [&str; 7] = ["Mon", "Tue", "Wed", "Thu", "Fri", "Sat", "Sun"];
+
+/// The names of the months.
+static MONTHS: [&str; 12] = [
+    "Jan", "Feb", "Mar", "Apr", "May", "Jun", "Jul", "Aug", "Sep", "Oct", "Nov", "Dec",
+];
+
+/// Returns the style that a name means.
+pub(crate) fn style_of(name: &[u8]) -> Option<Style> {
+    for one in STYLES.iter() {
+        if name == one.name.as_bytes() {
+            return Some(one.style);
+        }
+    }
+    None
+}
+
+/// A date.
+#[derive(Clone, Copy)]
+pub(crate) struct Date {
+    /// Seconds since 1970.
+    pub(crate) seconds: i64,
+    /// The digits of the time zone: -700 for `-0700`.
+    zone: i32,
+}
+
+/// Returns the number of decimal digits alone, of which there are at most 12.
+fn number(digits: &[u8]) -> Option<i64> {
+    if digits.len() > 12 || !digits.iter().all(|byte| byte.is_ascii_digit()) {
+        return None;
+    }
+    match str::from_utf8(digits) {
+        Ok(digits) => digits.parse::<i64>().ok(),
+        Err(_) => None,
+    }
+}
+
+/// Returns the number of a time zone: a sign and four digits.
+fn zone_of(text: &[u8]) -> Option<i32> {
+    let (sign, digits) = text.split_first()?;
+    if digits.len() != 4 {
+        return None;
+    }
+    let zone = i32::try_from(number(digits)?).ok()?;
+    match *sign {
+        b'+' => Some(zone),
+        b'-' => zone.checked_neg(),
+        _ => None,
+    }
+}
+
+/// Returns the date at the end of a line of a person: seconds and time zone behind `> `.
+pub(crate) fn date_in(line: &[u8]) -> Option<Date> {
+    let end = line.windows(2).position(|two| two == b"> ".as_slice())?;
+    let text = line.get(end.checked_add(2)?..)?;
+    let blank = text.iter().position(|byte| *byte == b' ')?;
+    Some(Date {
+        seconds: number(text.get(..blank)?)?,
+        zone: zone_of(text.get(blank.checked_add(1)?..)?)?,
+    })
+}
+
+/// Returns how many seconds a time zone is ahead of UTC.
+fn offset_of(zone: i32) -> Option<i64> {
+    let zone = i64::from(zone);
+    let minutes = (zone / 100).checked_mul(60)?.checked_add(zone % 100)?;
+    minutes.checked_mul(60)
+}
+
+/// Returns what a clock of the time zone shows; `None` for a year before 1970 or after 9999.
+fn clock(date: Date) -> Option<DateTime> {
+    let nanoseconds = i128::from(date.seconds).checked_mul(1_000_000_000)?;
+    let timestamp = Timestamp::from_nanosecond(nanoseconds).ok()?;
+    let offset = Offset::from_seconds(offset_of(date.zone)?).ok()?;
+    let clock = offset.to_datetime(timestamp);
+    if clock.date.year < 1970 || clock.date.year > 9999 {
+        return None;
+    }
+    Some(clock)
+}
+
+/// Returns the text of a date in a style that shows a clock.
+fn clock_text(alloc: Global, style: Style, at: DateTime, zone: i32) -> Result<Vec<u8>, Stop> {
+    let (year, month, day) = (at.date.year, at.date.month, at.date.day);
+    let (hour, minute, second) = (at.time.hour, at.time.minute, at.time.second);
+    let name = DAYS.get(at.date.weekday().index() as usize).unwrap_or(&"");
+    let title = MONTHS
+        .get((month as usize).saturating_sub(1))
+        .unwrap_or(&"");
+    let sign = if zone < 0 { '-' } else { '+' };
+    let zone = zone.unsigned_abs();
+    let (hours, minutes) = (zone / 100, zone % 100);
+    let mut text = Vec::new(alloc);
+    let written = match style {
+        Style::Iso => write!(
+            text,
+            "{year:04}-{month:02}-{day:02} {hour:02}:{minute:02}:{second:02} {sign}{zone:04}"
+        ),
+        Style::IsoStrict => write!(
+            text,
+            "{year:04}-{month:02}-{day:02}T{hour:02}:{minute:02}:{second:02}{sign}{hours:02}:{minutes:02}"
+        ),
+        Style::Rfc => write!(
+            text,
+            "{name}, {day} {title} {year} {hour:02}:{minute:02}:{second:02} {sign}{zone:04}"
+        ),
+        Style::Short => write!(text, "{year:04}-{month:02}-{day:02}"),
+        _ => write!(
+            text,
+            "{name} {title} {day} {hour:02}:{minute:02}:{second:02} {year} {sign}{zone:04}"
+        ),
+    };
+    match written {
+        Ok(()) => Ok(text),
+        Err(_) => Err(Stop::OutOfMemory),
+    }
+}
+
+/// Returns the text of a date that shows its seconds.
+fn raw_text(alloc: Global, style: Style, date: Date) -> Result<Vec<u8>, Stop> {
+    let seconds = date.seconds;
+    let sign = if date.zone < 0 { '-' } else { '+' };
+    let zone = date.zone.unsigned_abs();
+    let mut text = Vec::new(alloc);
+    let written = if style == Style::Unix {
+        write!(text, "{seconds}")
+    } else {
+        write!(text, "{seconds} {sign}{zone:04}")
+    };
+    match written {
+        Ok(()) => Ok(text),
+        Err(_) => Err(Stop::OutOfMemory),
+    }
+}
+
+/// Returns the text of a date.
+///
+/// # Errors
+///
+/// `NotSupported` if a clock is to be shown whose year is before 1970 or after 9999.
+pub(crate) fn date_text(alloc: Global, style: Style, date: Date) -> Result<Vec<u8>, Stop> {
+    if matches!(style, Style::Raw | Style::Unix) {
+        return raw_text(alloc, style, date);
+    }
+    match clock(date) {
+        Some(at) => clock_text(alloc, style, at, date.zone),
+        None => Err(not_supported(
+            alloc,
+            &[b"a date before 1970 or after 9999 is not supported"],
+        )),
+    }
+}
