@@ -86,7 +86,7 @@ def one_long_tag(place: Repository, size: int) -> None:
 
 def one_long_commit(place: Repository, size: int) -> None:
     """Many refs to one commit, which is long."""
-    place.git("commit", "-q", "--allow-empty", "-F", "-", data=b"z" * 5_000 * size)
+    place.git("commit", "-q", "--allow-empty", "-F", "-", data=b"one\n\n" + b"z" * 5_000 * size)
     with_tags(place, [place.git("rev-parse", "HEAD")] * size)
     with_commit(place)
 
@@ -121,7 +121,9 @@ SHAPES = (
     Shape("unclosed classes", 800, unclosed_classes, ("rev-parse HEAD",)),
     Shape("long commits", 800, long_commits, ("rev-list --count main",)),
     Shape("one long tag", 200, one_long_tag, ("for-each-ref", "for-each-ref --contains main", "describe")),
-    Shape("one long commit", 200, one_long_commit, ("for-each-ref --contains main~1", "describe --tags", "rev-list --count --all")),
+    Shape("one long commit", 200, one_long_commit,
+          ("for-each-ref --contains main~1", "describe --tags", "rev-list --count --all",
+           "for-each-ref --sort=-committerdate --format=%(committerdate)", "for-each-ref --format=%(subject)")),
     Shape("long tags", 100, long_tags, ("for-each-ref",)),
     Shape("nested tags", 500, nested_tags, ("for-each-ref --contains main", "describe")),
     Shape("alternates", 2_000, alternates, ("rev-list --count main", "rev-parse --short HEAD")),

@@ -25,56 +25,6 @@ pub(crate) enum Style {
     Unix,
 }
 
-/// A style, and a name that it has behind the colon of a field.
-struct Named {
-    name: &'static str,
-    style: Style,
-}
-
-/// The names of the styles. All but these depend on the local time, or on the present.
-static STYLES: [Named; 10] = [
-    Named {
-        name: "default",
-        style: Style::Usual,
-    },
-    Named {
-        name: "iso",
-        style: Style::Iso,
-    },
-    Named {
-        name: "iso8601",
-        style: Style::Iso,
-    },
-    Named {
-        name: "iso-strict",
-        style: Style::IsoStrict,
-    },
-    Named {
-        name: "iso8601-strict",
-        style: Style::IsoStrict,
-    },
-    Named {
-        name: "rfc",
-        style: Style::Rfc,
-    },
-    Named {
-        name: "rfc2822",
-        style: Style::Rfc,
-    },
-    Named {
-        name: "short",
-        style: Style::Short,
-    },
-    Named {
-        name: "raw",
-        style: Style::Raw,
-    },
-    Named {
-        name: "unix",
-        style: Style::Unix,
-    },
-];
-
 /// The names of the days of the week.
 static DAYS: [&str; 7] = ["Mon", "Tue", "Wed", "Thu", "Fri", "Sat", "Sun"];
 
@@ -83,11 +33,23 @@ static MONTHS: [&str; 12] = [
     "Jan", "Feb", "Mar", "Apr", "May", "Jun", "Jul", "Aug", "Sep", "Oct", "Nov", "Dec",
 ];
 
-/// Returns the style that a name means.
+/// Returns the style with this name behind the colon of a field; `None` if it is not supported. All
+/// but these depend on the local time, or on the present.
 pub(crate) fn style_of(name: &[u8]) -> Option<Style> {
-    for one in STYLES.iter() {
-        if name == one.name.as_bytes() {
-            return Some(one.style);
+    for (word, style) in [
+        (b"default".as_slice(), Style::Usual),
+        (b"iso", Style::Iso),
+        (b"iso8601", Style::Iso),
+        (b"iso-strict", Style::IsoStrict),
+        (b"iso8601-strict", Style::IsoStrict),
+        (b"rfc", Style::Rfc),
+        (b"rfc2822", Style::Rfc),
+        (b"short", Style::Short),
+        (b"raw", Style::Raw),
+        (b"unix", Style::Unix),
+    ] {
+        if name == word {
+            return Some(style);
         }
     }
     None

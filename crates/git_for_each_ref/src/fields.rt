@@ -11,6 +11,7 @@ use gix_repository::{Refusal, kind_name};
 use gix_revision::hash::ObjectId;
 use gix_revision::object::Kind;
 use std::alloc::{AllocError, Global};
+use std::collections::BTreeMap;
 
 /// Names a person of a commit or of a tag.
 #[derive(Clone, Copy, PartialEq, Eq)]
@@ -48,32 +49,6 @@ pub(crate) enum Field {
     Person(Who, What),
 }
 
-/// A person, and the name of the field.
-struct Named {
-    name: &'static str,
-    who: Who,
-}
-
-/// The names of persons.
-static PERSONS: [Named; 4] = [
-    Named {
-        name: "author",
-        who: Who::Author,
-    },
-    Named {
-        name: "committer",
-        who: Who::Committer,
-    },
-    Named {
-        name: "tagger",
-        who: Who::Tagger,
-    },
-    Named {
-        name: "creator",
-        who: Who::Creator,
-    },
-];
-
 /// Returns the part of a line that the end of a field's name means.
 fn what_of(rest: &[u8]) -> Option<What> {
     if rest.is_empty() {
@@ -102,14 +77,19 @@ fn what_of(rest: &[u8]) -> Option<What> {
 
 /// Returns the field about a person with this name.
 fn person(name: &[u8]) -> Option<Field> {
-    for one in PERSONS.iter() {
-        let Some(rest) = name.strip_prefix(one.name.as_bytes()) else {
+    for (word, who) in [
+        (b"author".as_slice(), Who::Author),
+        (b"committer", Who::Committer),
+        (b"tagger", Who::Tagger),
+        (b"creator", Who::Creator),
+    ] {
+        let Some(rest) = name.strip_prefix(word) else {
             continue;
         };
         let what = what_of(rest)?;
         let is_whole = matches!(what, What::Line | What::Date(_));
-        if one.who != Who::Creator || is_whole {
-            return Some(Field::Person(one.who, what));
+        if who != Who::Creator || is_whole {
+            return Some(Field::Person(who, what));
         }
     }
     None
@@ -130,7 +110,13 @@ pub(crate) fn field_of(name: &[u8]) -> Option<Field> {
     }
 }
 
-/// An object that was read.
+/// How many bytes of objects are kept. If one has no room, all others are dropped.
+const MOST_KEPT: usize = 1 << 24;
+
+/// How many bytes an object takes besides what is kept of its content.
+const OWN_SIZE: usize = 128;
+
+/// An object that was read, with the part of its content in which fields are looked for.
 #[derive(Drop)]
 pub(crate) struct Read {
     id: ObjectId,
@@ -170,7 +156,27 @@ fn ensure_whole(session: &mut Session<'_>, id: ObjectId, object: &Object) -> Res
     Ok(())
 }
 
-/// Reads an object.
+/// Returns the part of a content in which fields are looked for: the header of a commit or a tag
+/// and, if the subject is wanted, its message up to the first empty line.
+fn front(object: &Object, has_subject: bool) -> &[u8] {
+    if !matches!(object.kind, Kind::Commit | Kind::Tag) {
+        return &[];
+    }
+    let content = object.content.as_slice();
+    let message = message(content);
+    let begin = content.len().saturating_sub(message.len());
+    if !has_subject {
+        return content.get(..begin).unwrap_or(content);
+    }
+    match message.windows(2).position(|two| two == b"\n\n".as_slice()) {
+        Some(end) => content
+            .get(..begin.saturating_add(end).saturating_add(2))
+            .unwrap_or(content),
+        None => content,
+    }
+}
+
+/// Reads an object, and keeps the part in which fields are looked for.
 ///
 /// # Errors
 ///
@@ -181,11 +187,16 @@ fn read_object(
     session: &mut Session<'_>,
     id: ObjectId,
     candidate: &Candidate,
-) -> Result<Read, Stop> {
+    has_subject: bool,
+) -> Result<Object, Stop> {
     match session.repository.read_object(id) {
         Ok(object) => {
             ensure_whole(session, id, &object)?;
-            Ok(Read { id, object })
+            let content = front(&object, has_subject).to_vec(session.alloc)?;
+            Ok(Object {
+                kind: object.kind,
+                content,
+            })
         }
         Err(Refusal::Object(gix_odb::Error::Missing(_))) if !session.repository.is_partial() => {
             Err(missing(session, id, candidate))
@@ -194,22 +205,89 @@ fn read_object(
     }
 }
 
-/// Reads the object of a reference.
-pub(crate) fn read_own(session: &mut Session<'_>, candidate: &Candidate) -> Result<Read, Stop> {
-    read_object(session, candidate.id, candidate)
+/// Returns a copy of an object.
+fn copied(alloc: Global, object: &Object) -> Result<Object, AllocError> {
+    Ok(Object {
+        kind: object.kind,
+        content: object.content.to_vec(alloc)?,
+    })
 }
 
-/// Reads the object that is tagged; `None` if the object of the reference is no tag.
-pub(crate) fn read_target(
-    session: &mut Session<'_>,
-    own: &Read,
-    candidate: &Candidate,
-) -> Result<Option<Read>, Stop> {
-    if own.object.kind != Kind::Tag {
-        return Ok(None);
+/// Keeps the objects that were read, since several references may name one, and sorting reads them
+/// as well as printing.
+#[derive(Drop)]
+pub(crate) struct Objects {
+    kept: BTreeMap<ObjectId, Object>,
+    /// How many bytes are kept.
+    size: usize,
+    /// Tells whether a subject is wanted.
+    has_subject: bool,
+}
+
+impl Objects {
+    /// Keeps no object yet.
+    pub(crate) fn new(alloc: Global, has_subject: bool) -> Objects {
+        Objects {
+            kept: BTreeMap::new(alloc),
+            size: 0,
+            has_subject,
+        }
     }
-    let target = session.repository.tag(own.id)?.target;
-    Ok(Some(read_object(session, target, candidate)?))
+
+    /// Keeps a copy of an object, unless it is too large.
+    fn keep(&mut self, alloc: Global, id: ObjectId, object: &Object) -> Result<(), AllocError> {
+        let size = object.content.len().saturating_add(OWN_SIZE);
+        if size > MOST_KEPT {
+            return Ok(());
+        }
+        if self.size > MOST_KEPT - size {
+            self.kept.clear();
+            self.size = 0;
+        }
+        self.size = self.size.saturating_add(size);
+        self.kept.insert(id, copied(alloc, object)?)?;
+        Ok(())
+    }
+
+    /// Returns an object, which is read unless it is kept. The errors are those of [`read_object`].
+    fn read(
+        &mut self,
+        session: &mut Session<'_>,
+        id: ObjectId,
+        candidate: &Candidate,
+    ) -> Result<Read, Stop> {
+        let alloc = session.alloc;
+        if let Some(object) = self.kept.get(&id) {
+            let object = copied(alloc, object)?;
+            return Ok(Read { id, object });
+        }
+        let object = read_object(session, id, candidate, self.has_subject)?;
+        self.keep(alloc, id, &object)?;
+        Ok(Read { id, object })
+    }
+
+    /// Returns the object of a reference.
+    pub(crate) fn own(
+        &mut self,
+        session: &mut Session<'_>,
+        candidate: &Candidate,
+    ) -> Result<Read, Stop> {
+        self.read(session, candidate.id, candidate)
+    }
+
+    /// Returns the object that is tagged; `None` if the object of the reference is no tag.
+    pub(crate) fn target(
+        &mut self,
+        session: &mut Session<'_>,
+        own: &Read,
+        candidate: &Candidate,
+    ) -> Result<Option<Read>, Stop> {
+        if own.object.kind != Kind::Tag {
+            return Ok(None);
+        }
+        let target = session.repository.tag(own.id)?.target;
+        Ok(Some(self.read(session, target, candidate)?))
+    }
 }
 
 /// Returns the rest of the first line of the header that begins with a word and a blank; empty if

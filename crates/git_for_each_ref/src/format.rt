@@ -1,6 +1,6 @@
 //! Reads formats, and prints references by them (git-for-each-ref, "FIELD NAMES").
 
-use crate::fields::{Field, Read, field_of, field_text, missing, read_own, read_target};
+use crate::fields::{Field, Objects, Read, field_of, field_text, missing};
 use crate::list::Candidate;
 use git_session::integer::integer;
 use git_session::names::commit_of;
@@ -375,38 +375,49 @@ fn cuts(name: &[u8], count: i32) -> usize {
     }
 }
 
-/// The objects of a reference, as far as they were read.
+/// The objects of a reference, as far as the format has fields of them.
 #[derive(Drop)]
-struct Objects {
+struct Both {
     own: Option<Read>,
     target: Option<Read>,
 }
 
-impl Objects {
+impl Both {
     /// Reads the objects of which a format has fields.
     fn read(
         session: &mut Session<'_>,
+        objects: &mut Objects,
         format: &[Part],
         candidate: &Candidate,
-    ) -> Result<Objects, Stop> {
+    ) -> Result<Both, Stop> {
         let wants_target = format.iter().any(|part| matches!(part, Part::Target(_)));
         if !wants_target && !format.iter().any(|part| matches!(part, Part::Own(_))) {
-            return Ok(Objects {
+            return Ok(Both {
                 own: None,
                 target: None,
             });
         }
-        let own = read_own(session, candidate)?;
+        let own = objects.own(session, candidate)?;
         let target = if wants_target {
-            read_target(session, &own, candidate)?
+            objects.target(session, &own, candidate)?
         } else {
             None
         };
-        Ok(Objects {
+        Ok(Both {
             own: Some(own),
             target,
         })
     }
+}
+
+/// Tells whether a format has the subject of an object.
+pub(crate) fn has_subject(format: &[Part]) -> bool {
+    format.iter().any(|part| {
+        matches!(
+            part,
+            Part::Own(Field::Subject) | Part::Target(Field::Subject)
+        )
+    })
 }
 
 /// Prints a field of an object; nothing if there is no object.
@@ -437,14 +448,14 @@ fn print_part(
     session: &mut Session<'_>,
     part: &Part,
     candidate: &Candidate,
-    objects: &Objects,
+    read: &Both,
 ) -> Result<(), Stop> {
     match part {
         Part::Cut(Side::Left, count) => Ok(session.print(cut_left(&candidate.name, *count))?),
         Part::Cut(Side::Right, count) => Ok(session.print(cut_right(&candidate.name, *count))?),
         Part::Head(branch) => print_head(session, branch, candidate),
-        Part::Own(field) => print_field(session, &objects.own, *field),
-        Part::Target(field) => print_field(session, &objects.target, *field),
+        Part::Own(field) => print_field(session, &read.own, *field),
+        Part::Target(field) => print_field(session, &read.target, *field),
         Part::Text(text) => Ok(session.print(text)?),
         Part::Name => Ok(session.print(&candidate.name)?),
         Part::ShortName => print_short_name(session, candidate),
@@ -458,12 +469,13 @@ fn print_part(
 /// Prints a reference on a line, by a format for which it was looked up.
 pub(crate) fn print_reference(
     session: &mut Session<'_>,
+    objects: &mut Objects,
     format: &[Part],
     candidate: &Candidate,
 ) -> Result<(), Stop> {
-    let objects = Objects::read(session, format, candidate)?;
+    let read = Both::read(session, objects, format, candidate)?;
     for part in format {
-        print_part(session, part, candidate, &objects)?;
+        print_part(session, part, candidate, &read)?;
     }
     session.print(b"\n")?;
     Ok(())

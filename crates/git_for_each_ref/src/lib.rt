@@ -9,8 +9,9 @@ mod list;
 mod patterns;
 mod sorting;
 
+use crate::fields::Objects;
 use crate::filter::{Filter, apply};
-use crate::format::{Part, expect_names, look_up, print_reference, read_format};
+use crate::format::{Part, expect_names, has_subject, look_up, print_reference, read_format};
 use crate::list::{Candidate, list_wanted};
 use crate::sorting::{SortKey, sort, sort_key};
 use git_session::integer::integer;
@@ -161,7 +162,7 @@ struct Asked<'w> {
     format: &'w [u8],
     /// How many references are printed at most; all if it is 0.
     count: i32,
-    /// By what references are sorted, the last key first.
+    /// By what references are sorted. The last key counts most.
     keys: Vec<SortKey>,
     patterns: Vec<&'w [u8]>,
 }
@@ -316,13 +317,14 @@ fn most(alloc: Global, count: i32) -> Result<usize, Stop> {
 /// Prints references, each on a line.
 fn print_all(
     session: &mut Session<'_>,
+    objects: &mut Objects,
     format: &[Part],
     candidates: &[Candidate],
     most: usize,
 ) -> Result<(), Stop> {
     expect_names(session, format, candidates.len())?;
     for candidate in candidates.iter().take(most) {
-        print_reference(session, format, candidate)?;
+        print_reference(session, objects, format, candidate)?;
     }
     Ok(())
 }
@@ -335,7 +337,8 @@ pub fn for_each_ref(session: &mut Session<'_>, words: &[&[u8]]) -> Result<u8, St
     let mut candidates = list_wanted(session, &asked.patterns)?;
     apply(session, &asked.filter, &mut candidates)?;
     look_up(session, &format, &mut candidates)?;
-    sort(session, &asked.keys, &mut candidates)?;
-    print_all(session, &format, &candidates, most)?;
+    let mut objects = Objects::new(session.alloc, has_subject(&format));
+    sort(session, &mut objects, &asked.keys, &mut candidates)?;
+    print_all(session, &mut objects, &format, &candidates, most)?;
     Ok(0)
 }

@@ -1,6 +1,6 @@
 //! Sorts references (git-for-each-ref, `--sort`).
 
-use crate::fields::{Who, date_of, read_own};
+use crate::fields::{Objects, Who, date_of};
 use crate::list::Candidate;
 use git_session::session::Session;
 use git_session::stop::{Stop, not_supported};
@@ -176,11 +176,12 @@ fn compare_versions(one: &[u8], other: &[u8]) -> Ordering {
 /// Reads the dates of the references' objects. One without a date has 0.
 fn look_up_dates(
     session: &mut Session<'_>,
+    objects: &mut Objects,
     who: Who,
     candidates: &mut [Candidate],
 ) -> Result<(), Stop> {
     for candidate in candidates {
-        let read = read_own(session, candidate)?;
+        let read = objects.own(session, candidate)?;
         candidate.seconds = match date_of(session.alloc, &read, who)? {
             Some(date) => date.seconds,
             None => 0,
@@ -197,6 +198,7 @@ fn turned(order: Ordering, is_falling: bool) -> Ordering {
 /// Sorts by one key. References that are equal by it stay in their order.
 fn sort_by_key(
     session: &mut Session<'_>,
+    objects: &mut Objects,
     key: SortKey,
     candidates: &mut Vec<Candidate>,
 ) -> Result<(), Stop> {
@@ -207,7 +209,7 @@ fn sort_by_key(
             candidates.sort_by(|a, b| turned(compare_versions(&a.name, &b.name), falls))?
         }
         By::Date(who) => {
-            look_up_dates(session, who, candidates)?;
+            look_up_dates(session, objects, who, candidates)?;
             candidates.sort_by(|a, b| turned(a.seconds.cmp(&b.seconds), falls))?;
         }
     }
@@ -222,11 +224,12 @@ fn sort_by_key(
 /// - `NotSupported` if a date is malformed.
 pub(crate) fn sort(
     session: &mut Session<'_>,
+    objects: &mut Objects,
     keys: &[SortKey],
     candidates: &mut Vec<Candidate>,
 ) -> Result<(), Stop> {
     for key in keys {
-        sort_by_key(session, *key, candidates)?;
+        sort_by_key(session, objects, *key, candidates)?;
     }
     Ok(())
 }
