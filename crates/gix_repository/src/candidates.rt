@@ -4,10 +4,10 @@ use crate::dates::{offset_of, push_date};
 use crate::error::{Refusal, Unsupported};
 use crate::names::Wanted;
 use crate::repository::Repository;
+use gix_base::hash::{ObjectId, Prefix};
+use gix_base::object::Kind;
 use gix_files::Folders;
 use gix_odb::Object;
-use gix_revision::hash::{ObjectId, Prefix};
-use gix_revision::object::Kind;
 use memchr::memmem;
 use std::alloc::Allocator;
 

@@ -7,13 +7,13 @@ ghost use Rattle.gix_history.specs.Origins.{IsReadOf};
 ghost use Rattle.gix_odb.specs.Stores.{IsCommitOf};
 
 use crate::error::Refusal;
+use gix_base::hash::ObjectId;
+use gix_base::object::Kind;
 use gix_files::Folders;
 use gix_graph_rows::GraphRows;
 use gix_history::{Origin, Read, ReadError, Reader};
 use gix_odb::Store;
-use gix_revision::graph::SourceCommit;
-use gix_revision::hash::ObjectId;
-use gix_revision::object::Kind;
+use gix_revwalk::graph::SourceCommit;
 use std::alloc::{AllocError, Allocator};
 use std::collections::{BTreeMap, BTreeSet};
 

@@ -2,9 +2,9 @@
 
 use crate::error::{Refusal, Unsupported};
 use crate::repository::Repository;
+use gix_base::hash::{ObjectId, Prefix};
 use gix_discover::Abbrev;
 use gix_files::Folders;
-use gix_revision::hash::{ObjectId, Prefix};
 use std::alloc::Allocator;
 
 /// How many digits an abbreviated object name has at least, if the setting says nothing.

@@ -1,7 +1,7 @@
 //! The reasons why a question has no answer.
 
+use gix_base::hash::ObjectId;
 use gix_history::ReadError;
-use gix_revision::hash::ObjectId;
 use std::alloc::{AllocError, AllocFailed};
 use std::fmt;
 use thiserror::Error as StdError;

@@ -3,7 +3,7 @@
 //!
 //! git reads dates by the local clock and time zone, which are not known here.
 
-use gix_revision::spec::parse::delegate::ReflogLookup;
+use gix_spec::spec::parse::delegate::ReflogLookup;
 use memchr::{memchr, memchr2, memmem};
 
 /// The units of a fixed length that are counted back.

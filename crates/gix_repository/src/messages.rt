@@ -1,10 +1,10 @@
 //! Writes what git prints on standard error about names.
 
 use crate::repository::Repository;
+use gix_base::hash::ObjectId;
+use gix_base::object::Kind;
 use gix_files::Folders;
 use gix_ref::Why;
-use gix_revision::hash::ObjectId;
-use gix_revision::object::Kind;
 use std::alloc::{AllocError, Allocator};
 
 /// Adds a line of three parts.

@@ -2,9 +2,9 @@
 
 use crate::error::{Refusal, Unsupported};
 use crate::repository::Repository;
+use gix_base::hash::{ObjectId, Prefix};
+use gix_base::object::Kind;
 use gix_files::Folders;
-use gix_revision::hash::{ObjectId, Prefix};
-use gix_revision::object::Kind;
 use std::alloc::Allocator;
 
 /// How many objects are looked at if digits are ambiguous and a commit is wanted.

@@ -4,6 +4,8 @@ ghost use Rattle.std.specs.Prelude.{◌≡◌, IfOk};
 
 use crate::commits::{Changes, Commits};
 use crate::repository::Repository;
+use gix_base::hash::ObjectId;
+use gix_date::date::Time;
 use gix_discover::{
     DiscoverError, Environment, Layout, Places, Settings, SmallFileError, Variable, discover,
     grafts, shallow,
@@ -13,9 +15,7 @@ use gix_graph_rows::GraphRows;
 use gix_history::{History, Loaded};
 use gix_odb::Store;
 use gix_ref::References;
-use gix_revision::Seed;
-use gix_revision::date::Time;
-use gix_revision::hash::ObjectId;
+use gix_revwalk::Seed;
 use std::alloc::{AllocError, AllocFailed, Allocator, Global};
 use std::collections::{BTreeMap, BTreeSet};
 

@@ -3,11 +3,11 @@
 use crate::error::{Refusal, Unsupported};
 use crate::open::Mode;
 use crate::repository::Repository;
+use gix_base::hash::ObjectId;
+use gix_base::object::Kind;
 use gix_files::Folders;
 use gix_history::ReadError;
 use gix_odb::{Object, Tag};
-use gix_revision::hash::ObjectId;
-use gix_revision::object::Kind;
 use std::alloc::{AllocError, Allocator};
 
 /// How many tags are followed from one object. git follows any number, also in a circle that

@@ -5,10 +5,10 @@ use crate::error::{Refusal, Unsupported};
 use crate::marks::Doubt;
 use crate::names::{Named, read, unabbreviated};
 use crate::repository::Repository;
+use gix_base::hash::ObjectId;
 use gix_files::Folders;
 use gix_ref::{AtDate, Logged, Reflog, Target};
-use gix_revision::hash::ObjectId;
-use gix_revision::spec::parse::delegate::ReflogLookup;
+use gix_spec::spec::parse::delegate::ReflogLookup;
 use std::alloc::Allocator;
 use std::io::Write;
 

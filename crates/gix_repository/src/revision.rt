@@ -4,15 +4,16 @@ use crate::error::{Refusal, Unsupported};
 use crate::marks::{doubt_about, first_mark};
 use crate::names::{Named, NamedReference, Wanted};
 use crate::repository::Repository;
+use gix_base::error::Exn;
+use gix_base::hash::{ObjectId, Prefix};
+use gix_base::object;
+use gix_date::date::Time;
 use gix_files::Folders;
-use gix_revision::date::Time;
-use gix_revision::error::Exn;
-use gix_revision::hash::{ObjectId, Prefix};
-use gix_revision::spec::parse::delegate::{
+use gix_spec::spec;
+use gix_spec::spec::parse::delegate::{
     Kind, Listener, Navigate, PeelTo, PrefixHint, ReflogLookup, Revision, SiblingBranch, Traversal,
 };
-use gix_revision::spec::parse::{Delegate, parse};
-use gix_revision::{object, spec};
+use gix_spec::spec::parse::{Delegate, parse};
 use memchr::{memchr, memchr3, memmem, memrchr};
 use std::alloc::Allocator;
 

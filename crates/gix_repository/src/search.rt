@@ -4,8 +4,8 @@
 
 use crate::error::{Refusal, Unsupported};
 use crate::repository::Repository;
+use gix_base::hash::ObjectId;
 use gix_files::Folders;
-use gix_revision::hash::ObjectId;
 use memchr::memmem;
 use std::alloc::Allocator;
 use std::collections::{BinaryHeap, HashMap};
@@ -70,7 +70,7 @@ impl<F: Folders + Drop, A: Allocator + Copy> Repository<F, A> {
     fn wait_for(
         &mut self,
         ids: &[ObjectId],
-        met: &mut HashMap<ObjectId, (), gix_revision::Seed, A>,
+        met: &mut HashMap<ObjectId, (), gix_revwalk::Seed, A>,
         waiting: &mut BinaryHeap<Waiting, A>,
     ) -> Result<(), Refusal> {
         for id in ids {

@@ -7,7 +7,7 @@ use crate::repository::Repository;
 use gix_discover::{is_fetch, is_push};
 use gix_files::Folders;
 use gix_ref::Reference;
-use gix_revision::spec::parse::delegate::SiblingBranch;
+use gix_spec::spec::parse::delegate::SiblingBranch;
 use memchr::{memchr, memrchr};
 use std::alloc::{AllocError, Allocator};
 
