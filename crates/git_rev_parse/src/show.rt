@@ -3,7 +3,7 @@
 use crate::asked::{Asked, Digits, Symbolic};
 use git_session::ranges::{Name, Tip, revision};
 use git_session::session::Session;
-use git_session::stop::{Stop, not_supported};
+use git_session::stop::Stop;
 use gix_repository::Refusal;
 use gix_revision::hash::ObjectId;
 use std::alloc::{AllocError, Global};
@@ -104,39 +104,21 @@ fn show_id(
     show_text(session, asked, has_caret, &digits[..written])
 }
 
-/// Ends if a text of 40 digits is also the name of a reference: it means the id, but git prints the
-/// name of the reference.
-fn refuse_id_name(session: &mut Session<'_>, text: &[u8]) -> Result<(), Stop> {
-    for folder in [
-        b"refs/".as_slice(),
-        b"refs/tags/",
-        b"refs/heads/",
-        b"refs/remotes/",
-    ] {
-        let mut name = folder.to_vec(session.alloc)?;
-        name.extend_from_slice(text)?;
-        if session.repository.reference_of(&name).is_ok() {
-            return Err(not_supported(
-                session.alloc,
-                &[
-                    b"'",
-                    text,
-                    b"': a reference named like an id is not supported",
-                ],
-            ));
-        }
+/// Returns the full name of a reference, also of one that is named like an id.
+fn reference_of(session: &mut Session<'_>, text: &[u8]) -> Result<Option<Vec<u8>>, Refusal> {
+    if ObjectId::from_hex(text).is_err() {
+        return session.repository.reference_of(text);
     }
-    Ok(())
+    match session.repository.reference_of_digits(text)? {
+        Some((_, name)) => Ok(Some(name)),
+        None => Ok(None),
+    }
 }
 
 /// Returns the full name of the reference that a text names; `None` if it names none, or if it is
 /// ambiguous, which is said then.
 fn full_name(session: &mut Session<'_>, text: &[u8]) -> Result<Option<Vec<u8>>, Stop> {
-    if ObjectId::from_hex(text).is_ok() {
-        refuse_id_name(session, text)?;
-        return Ok(None);
-    }
-    match session.repository.reference_of(text) {
+    match reference_of(session, text) {
         Ok(found) => Ok(found),
         Err(Refusal::Ambiguous) => {
             session.say(&[b"error: refname '", text, b"' is ambiguous"])?;

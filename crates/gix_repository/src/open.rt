@@ -186,7 +186,10 @@ fn changes_of<F: Folders + Drop, A: Allocator + Copy>(
     let mut changes = Changes::new(alloc);
     // A commit in both files has no parents, as in git.
     changes.add_grafts(alloc, files, &layout.grafts)?;
-    changes.add_shallow(alloc, files, &layout.shallow)?;
+    // With an empty name there is no such file, as in git.
+    if environment.get(Variable::ShallowFile) != Some(b"".as_slice()) {
+        changes.add_shallow(alloc, files, &layout.shallow)?;
+    }
     let is_switched_off = environment.get(Variable::NoReplaceObjects).is_some();
     if settings.uses_replace_refs(alloc)? && !is_switched_off {
         let base = environment.get(Variable::ReplaceRefBase);

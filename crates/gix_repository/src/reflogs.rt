@@ -261,9 +261,15 @@ impl<F: Folders + Drop, A: Allocator + Copy> Repository<F, A> {
         }
     }
 
-    /// Returns the object and the full name of the reference that is named like an id. In a revision
-    /// such a text means the id, but here git reads it as a reference.
-    fn reference_of_digits(
+    /// Returns the object and the full name of the reference that is named like an id, at the end of
+    /// symbolic references; `None` if there is none. In a revision such a text means the id.
+    ///
+    /// # Errors
+    ///
+    /// - `Ambiguous` if several rules read the name, unless `core.warnAmbiguousRefs` is unset.
+    /// - `Reference` if a file was not read.
+    /// - `OutOfMemory` if an allocation failed.
+    pub fn reference_of_digits(
         &mut self,
         digits: &[u8],
     ) -> Result<Option<(ObjectId, Vec<u8, A>)>, Refusal> {
