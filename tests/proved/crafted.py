@@ -333,6 +333,8 @@ def digits(room: Room) -> list[Command]:
         commands += each(place, "rev-parse", ids[5], f"{ids[5]}~1", f"{ids[5]}...feed",
                          f"{ids[5]}..ee", f"heads/{ids[5]}", f"heads/{ids[5]}...{ids[5]}")
         commands += each(place, "rev-list -n 1", ids[5], f"heads/{ids[5]}", ids[1][:3])
+        for option in ("--abbrev-ref", "--abbrev-ref=loose", "--symbolic-full-name", "--symbolic"):
+            commands += each(place, f"rev-parse {option}", *ids[3:6], f"heads/{ids[5]}")
     return commands + ambiguous(room)
 
 
@@ -689,7 +691,12 @@ def changed(room: Room, base: Repository) -> list[Command]:
     replaced = room.copy(base, "replaced")
     replaced.git("replace", "--graft", head, base.ids[3])
     replaced.git("replace", "--graft", base.ids[12])
-    commands = common(grafted, *WHOLE) + common(replaced, *WHOLE)
+    cut = room.copy(base, "cut short")
+    cut.write(".git/shallow", f"{base.ids[4]}\n")
+    cut.write("deeper/file", "")
+    commands = common(grafted, *WHOLE) + common(replaced, *WHOLE) + common(cut, *WHOLE)
+    commands += rows(cut, *WHOLE, environment={b"GIT_SHALLOW_FILE": b""},
+                     folder=cut.path + b"/deeper", is_strict=True)
     commands += common(replaced, environment={b"GIT_NO_REPLACE_OBJECTS": b"1"})
     commands += common(replaced, before=(b"--no-replace-objects",))[:4]
     circle = room.copy(base, "replaced in a circle")

@@ -275,8 +275,9 @@ def digit_names(room: Room) -> Repository:
     made.git("branch", "feed", ids[2])
     made.git("branch", "ee", ids[0])
     made.tag("decade-2024", ids[4], 2000)
-    # A reference with the name of an id.
+    # References with the names of ids.
     made.git("update-ref", f"refs/heads/{ids[5]}", ids[1])
+    made.write(f".git/{ids[4]}", f"{ids[2]}\n")
     return with_names(made)
 
 
