@@ -3,7 +3,8 @@
 //! # Algorithm
 //!
 //! 1. If a commit that the question names is not known, read all commits that it names, and 64 of
-//!    their ancestors. Ancestors are read by their commit dates, the newest first.
+//!    their ancestors. Ancestors are read by their commit dates, the newest first. Of two with the
+//!    same date the one met first is read first, as in git's walks.
 //! 2. Ask over `Partial`, a source over the commits that were read (`partial.rt`). A look-up of any
 //!    other commit fails, and notes that this commit is wanted.
 //! 3. If the question has an answer, return it. The history of `Partial` is the commits that were
@@ -44,7 +45,8 @@ use std::collections::{BinaryHeap, HashSet};
 #[derive(Clone, Copy, PartialEq, Eq, PartialOrd, Ord)]
 struct Waiting {
     time: i64,
-    id: ObjectId,
+    /// The less, the more parents were noted before its own.
+    turn: usize,
     /// Whether it was known before the call.
     was_known: bool,
     /// Where its parents begin among those that the call has noted.
@@ -97,17 +99,12 @@ impl<A: Allocator + Copy> Ahead<A> {
     }
 
     /// Lets a commit wait, and returns its time.
-    fn wait(
-        &mut self,
-        id: ObjectId,
-        commit: &SourceCommit<A>,
-        was_known: bool,
-    ) -> Result<i64, ReadError> {
+    fn wait(&mut self, commit: &SourceCommit<A>, was_known: bool) -> Result<i64, ReadError> {
         let start = self.parents.len();
         self.parents.extend_from_slice(&commit.parents)?;
         self.waiting.push(Waiting {
             time: commit.time,
-            id,
+            turn: usize::MAX - start,
             was_known,
             start,
             end: self.parents.len(),
@@ -154,7 +151,7 @@ impl<R: Reader + Drop, A: Allocator + Copy> History<R, A> {
         let Some(read) = self.reader.read(alloc, id)? else {
             return Err(ReadError::Missing(id));
         };
-        let time = ahead.wait(id, &read.commit, false)?;
+        let time = ahead.wait(&read.commit, false)?;
         self.known.put(id, read)?;
         Ok(time)
     }
@@ -169,7 +166,7 @@ impl<R: Reader + Drop, A: Allocator + Copy> History<R, A> {
         ensures { Grows self.old.known self.new.known }
     {
         match self.known.commits().get(alloc, id)? {
-            Some(commit) => ahead.wait(id, &commit, true),
+            Some(commit) => ahead.wait(&commit, true),
             None => self.read_new(alloc, id, ahead),
         }
     }
