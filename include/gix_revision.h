@@ -705,11 +705,15 @@ typedef struct {
     /* Print depth and digits also if the commit itself has a name. Ignored if
      * hex_len is 0. */
     bool long_form;
+    /* Choose among equally near names as git does: of commits with the same date
+     * visit the one that was met first, and take the name that was visited first.
+     * Otherwise the smaller id and the smaller name come first. */
+    bool git_order;
 } gix_how;
 
 #define GIX_HOW_SIZE sizeof(gix_how)
-/* git's defaults: 10 names, 7 digits, and no other option. */
-#define GIX_HOW_INIT {GIX_HOW_SIZE, 10, 7, false, false, false}
+/* 10 names and 7 digits, as in git, and no other option. */
+#define GIX_HOW_INIT {GIX_HOW_SIZE, 10, 7, false, false, false, false}
 
 /*
  * Describes `commit` by its own name or by that of an ancestor, like

@@ -317,6 +317,26 @@ static void descriptions(gix_history *history) {
     EXPECT(gix_history_describe(history, &four, names, 2, &how, text, sizeof text, &len, &depth) == GIX_NO_HOW && len == 99);
 }
 
+/* Of two names that are equally near the smaller one is taken, or in git's order the one that is visited first. */
+static void near_names(gix_history *history) {
+    gix_id four = id_of(0x44);
+    gix_name names[2];
+    gix_how how = GIX_HOW_INIT;
+    uint8_t text[12];
+    size_t len = 0;
+    uint32_t depth = 0;
+    names[0].id = id_of(0x22);
+    names[0].text = text_of("b");
+    names[1].id = id_of(0x33);
+    names[1].text = text_of("a");
+    names[0].text_len = names[1].text_len = 1;
+    EXPECT(gix_history_describe(history, &four, names, 2, &how, text, sizeof text, &len, &depth) == GIX_OK);
+    EXPECT(len == 12 && memcmp(text, "a-2-g4444444", 12) == 0 && depth == 2);
+    how.git_order = true;
+    EXPECT(gix_history_describe(history, &four, names, 2, &how, text, sizeof text, &len, &depth) == GIX_OK);
+    EXPECT(len == 12 && memcmp(text, "b-2-g4444444", 12) == 0 && depth == 2);
+}
+
 /* A table has copies of the texts, and is as it was after each call. */
 static void tables(gix_history *history) {
     gix_id one = id_of(0x11), four = id_of(0x44), six = id_of(0x66), lost = id_of(0x99);
@@ -545,6 +565,7 @@ static void over_files(gix_history *history) {
     names(history);
     late_parent(history);
     descriptions(history);
+    near_names(history);
     tables(history);
     texts(history);
     EXPECT(put(history, 0x79, 0x55, 0x99, 9) == GIX_OK);

@@ -516,7 +516,7 @@ struct Choice {
 
 void Run::describe() {
     int number = input.number();
-    gix_how how = {GIX_HOW_SIZE + (input.byte() == 0), (size_t)input.byte() % 5, (size_t)input.byte() % 44, input.flag(), input.flag(), input.flag()};
+    gix_how how = {GIX_HOW_SIZE + (input.byte() == 0), (size_t)input.byte() % 5, (size_t)input.byte() % 44, input.flag(), input.flag(), input.flag(), input.flag()};
     if (input.flag()) how.hex_len = 0;
     Names names(numbers());
     gix_id id = numbered(number);

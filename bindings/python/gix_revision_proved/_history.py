@@ -316,6 +316,7 @@ class History:
         first_parent: bool = False,
         always: bool = False,
         long: bool = False,
+        git_order: bool = False,
     ) -> Description | None:
         """Describes `commit` by its own name or by that of an ancestor, like `git describe`.
 
@@ -329,9 +330,14 @@ class History:
         most `candidates` and at most 32 ancestors have names, it is the least such number of all
         named ancestors.
 
+        With `git_order` equally near names are chosen as in git: of commits with the same date the
+        one that was met first is visited first, and the name that was visited first is taken.
+        Otherwise the smaller id and the smaller name come first.
+
         Raises NoCommit or TooMany.
         """
-        how = RawHow(ctypes.sizeof(RawHow), size(candidates), size(digits), bool(first_parent), bool(always), bool(long))
+        flags = bool(first_parent), bool(always), bool(long), bool(git_order)
+        how = RawHow(ctypes.sizeof(RawHow), size(candidates), size(digits), *flags)
         start, room, length, depth = one(commit), 64, Size(), ctypes.c_uint32()
         array, texts = (None, ()) if isinstance(names, Names) else names_of(names)
         while True:

@@ -37,6 +37,7 @@ class RawHow(ctypes.Structure):
         ("first_parent", ctypes.c_bool),
         ("fallback_to_id", ctypes.c_bool),
         ("long_form", ctypes.c_bool),
+        ("git_order", ctypes.c_bool),
     ]
 
 

@@ -1,8 +1,7 @@
 //! Answers `describe` (git-describe).
 //!
-//! The names are those of references ([`table`]). The nearest one is that of the question `Describe`.
-//! Of names that are equally near git takes the one that it meets first, so a walk in git's order
-//! ([`walk`]) ranks them before the question is asked ([`ask`]).
+//! The names are those of references ([`table`]). The nearest one is that of the question `Describe`,
+//! which walks in git's order ([`ask`]).
 #![tactic(auto)]
 
 mod ask;
@@ -11,16 +10,14 @@ mod dirty;
 mod head;
 mod patterns;
 mod table;
-mod walk;
 mod work_tree;
 
-use crate::ask::{is_any_reached, nearest, question};
+use crate::ask::{Near, nearest, question};
 pub use crate::asked::add_options;
 use crate::asked::{Abbrev, Asked};
 use crate::dirty::is_dirty;
 use crate::patterns::refuse_odd;
 use crate::table::{Name, Priority, Table, tag_of};
-use crate::walk::{Candidate, Search, walk_from};
 use git_session::names::commit_of;
 use git_session::ranges::revision;
 use git_session::session::Session;
@@ -36,7 +33,7 @@ use std::alloc::Global;
 struct Describer<'w> {
     asked: Asked<'w>,
     table: Table,
-    /// Has the question with all names that are taken, once it was needed.
+    /// The question with all names that are taken, once it was needed.
     question: Option<Describe<'static>>,
     /// Is printed behind each description.
     mark: &'w [u8],
@@ -257,7 +254,7 @@ impl<'w> Describer<'w> {
         &mut self,
         session: &mut Session<'_>,
         commit: ObjectId,
-        near: Candidate,
+        near: Near,
     ) -> Result<(), Stop> {
         let Some(name) = self.table.name_of(near.id) else {
             return Err(missing(near.id));
@@ -270,35 +267,28 @@ impl<'w> Describer<'w> {
         Ok(())
     }
 
-    /// Returns how names are searched.
-    fn search(&self) -> Search {
-        Search {
-            most: self.asked.candidates,
-            first_parent: self.asked.first_parent,
-        }
-    }
-
     /// Returns the nearest name of an ancestor; `None` if there is none.
     fn nearest(
         &mut self,
         session: &mut Session<'_>,
         commit: ObjectId,
-    ) -> Result<Option<Candidate>, Stop> {
+    ) -> Result<Option<Near>, Stop> {
         if !self.table.has_taken() {
             return Ok(None);
         }
-        let search = self.search();
-        let found = walk_from(session, commit, &self.table, search)?;
         if self.question.is_none() {
-            self.question = Some(question(session, &self.table, search, true)?);
+            let (most, first_parent) = (self.asked.candidates, self.asked.first_parent);
+            self.question = Some(question(session, &self.table, true, most, first_parent)?);
         }
-        match self.question.as_mut() {
-            Some(question) => {
-                question.commit = commit;
-                nearest(session, question, &found)
-            }
-            None => Ok(None),
+        let Some(question) = self.question.as_mut() else {
+            return Ok(None);
+        };
+        question.commit = commit;
+        let near = nearest(session, question)?;
+        if let Some(near) = near {
+            session.repository.check(near.id)?;
         }
+        Ok(near)
     }
 
     /// Returns git's end for a commit that has no name.
@@ -306,13 +296,9 @@ impl<'w> Describer<'w> {
         let mut text = [0u8; 40];
         let written = commit.write_hex(40, &mut text);
         let id = &text[..written];
-        let search = Search {
-            most: 1,
-            first_parent: self.asked.first_parent,
-        };
-        let mut others = question(session, &self.table, search, false)?;
+        let mut others = question(session, &self.table, false, 1, self.asked.first_parent)?;
         others.commit = commit;
-        if is_any_reached(session, &others)? {
+        if nearest(session, &others)?.is_some() {
             return Ok(fatal(
                 session.alloc,
                 &[

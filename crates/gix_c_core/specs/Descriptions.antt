@@ -11,6 +11,7 @@ use Rattle.gix_describe.specs.FormatText.{described_text, hex_text}
 use Rattle.gix_describe.specs.Outcomes.{names_of, Walks}
 use Rattle.gix_describe.specs.declared.describe.options.Manner.{Manner}
 use Rattle.gix_describe.specs.declared.describe.options.Options.{Options}
+use Rattle.gix_describe.specs.declared.describe.options.Tie.TheVariants.{ById, ByMeeting}
 use Rattle.gix_c_core.specs.Answers.{id_of}
 use Rattle.gix_c_core.specs.declared.describe.Name.{Name}
 use Rattle.gix_c_core.specs.declared.describe.How.{How}
@@ -37,12 +38,13 @@ first_of (Some a) b = Some a
 abbrev pub AreNames : {A : Type 0} → List (ObjectId × CowSlice ℕ A) → Names → Type 0
 AreNames entries names = (q : ObjectId) → name_at (names_of entries) q ≡ name_at names q
 
--- The manner m has the number of candidates, the fallback and the first-parent flag of the options
--- how.
+-- The manner m has the number of candidates, the fallback, the first-parent flag and the order of the
+-- options how.
 pub record IsManner (how : How) (m : Manner) : Type 0 where
   pub candidates : m.max_candidates ≡ how.max_candidates
   pub fallback : m.fallback_to_oid ≡ how.fallback_to_id
   pub first_parent : m.first_parent ≡ how.first_parent
+  pub tie : m.tie ≡ (if how.git_order then ByMeeting else ById)
 
 -- The answer r describes s by the names and the options how, as IsDescribed says (git-describe). At
 -- most 32 names are weighed against each other.

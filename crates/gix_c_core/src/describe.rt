@@ -17,7 +17,7 @@ use crate::history::History;
 use crate::status::{NO_COMMIT, NO_HOW, NONE, OK, OUT_OF_MEMORY, TOO_MANY, WANTS};
 use gix_history::Beyond;
 use gix_revision::Seed;
-use gix_revision::describe::{Format, Manner, Names, Nearest};
+use gix_revision::describe::{Format, Manner, Names, Nearest, Tie};
 use gix_revision::hash::ObjectId;
 use std::alloc::{AllocError, Global};
 use std::borrow::CowSlice;
@@ -44,6 +44,7 @@ pub struct How {
     pub first_parent: bool,
     fallback_to_id: bool,
     long_form: bool,
+    git_order: bool,
 }
 
 /// Adds a name to `map`, unless its commit already has one.
@@ -113,6 +114,11 @@ fn manner_of(how: &How) -> Manner
         max_candidates: how.max_candidates,
         fallback_to_oid: how.fallback_to_id,
         first_parent: how.first_parent,
+        tie: if how.git_order {
+            Tie::ByMeeting
+        } else {
+            Tie::ById
+        },
     }
 }
 

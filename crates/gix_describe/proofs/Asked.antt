@@ -1,9 +1,8 @@
 -- Questions to a source, one after another.
-use Rattle.std.proofs.Common.{◌≡◌, ℕ, false, sym, ap, subst, ◌∙◌, Option, Some, None, Result, Err}
+use Rattle.std.proofs.Common.{◌≡◌, ℕ, false, sym, ap, ◌∙◌, Option, Some, None, Result, Err}
 use Rattle.std.specs.Prelude.{IfSome, IsErrAnd}
 use Rattle.std.proofs.lemmas.Result.{err_from_is_err_and}
 use Rattle.gix_base.specs.declared.error.message.Message.{Message}
-use Rattle.gix_base.specs.declared.error.message.Message.TheVariants.{OutOfMemory}
 use Rattle.gix_revwalk.specs.History.{History}
 use Rattle.gix_revwalk.specs.Faults.{count_after}
 use Rattle.gix_describe.specs.Asks.{Asks}
@@ -45,10 +44,6 @@ module _ {S : Type 0} (history : S → History) (faults : S → ℕ) where
     count = asked.count ∙ sym (ap (λ x. count_after x (faults a)) other);
     cause = cause;
   }
-
-  pub asks_memory : (C D : Message → Type 0) (a b : S) (e : Message) → e ≡ OutOfMemory → C OutOfMemory
-      → Asks history faults D a b None → Asks history faults C a b (Some e)
-  asks_memory C D a b e is cause asked = asks_refused C D a b e (ap is_parents_fault is) (subst C (sym is) cause) asked
 
   -- nothing is asked
   pub asks_nothing : (C : Message → Type 0) (a b : S) → b ≡ a → Asks history faults C a b None

@@ -1,5 +1,5 @@
 -- Where a walk ends is the least place at which it may.
-use Rattle.std.proofs.Common.{◌≡◌, ℕ, zero, suc, true, refl, ap, sym, subst, ◌∙◌, List, [], ◌∷◌, ◌++◌, ◌⊎◌, inl, inr, get_or, length, take, is_some, ◌≤◌, ◌<◌, ◌+◌, ◌-◌, arith, append_assoc, length-append, Option}
+use Rattle.std.proofs.Common.{◌≡◌, ℕ, zero, suc, true, refl, ap, sym, subst, ◌∙◌, List, [], ◌∷◌, ◌++◌, ◌⊎◌, inl, inr, get_or, length, take, is_some, ◌≤◌, ◌<◌, ◌+◌, ◌-◌, arith, append_assoc, length-append, Option, Some, None}
 use Rattle.std.specs.List.{filter}
 use Rattle.std.proofs.lemmas.Bool.{cases_lt}
 use Rattle.std.proofs.lemmas.List.{length_push, get_or_push, get_or_append_left, take_all, take-append-le}
@@ -9,8 +9,9 @@ use Rattle.gix_base.specs.declared.hash.ObjectId.{ObjectId}
 use Rattle.gix_revwalk.specs.History.{History, is_one_of, Has}
 use Rattle.gix_revwalk.proofs.Ids.{same_id-laws}
 use Rattle.gix_revwalk.proofs.Members.{one_of-left, one_of-right, one_of-cases, one_of-single, one_of-head, one_of-filter, one_of-filtered, distinct_filter}
+use Rattle.gix_describe.specs.declared.describe.options.Tie.{Tie}
 use Rattle.gix_describe.specs.Described.{Names, IsNamed}
-use Rattle.gix_describe.specs.Order.{GoesOn, Stands, IsSettled, IsFullAt, Stops, IsCut, IsPast, IsCompleted}
+use Rattle.gix_describe.specs.Order.{Ranking, PutBack, tie_rank, GoesOn, Stands, IsSettled, IsFullAt, Stops, IsCut, IsPast, IsCompleted}
 use Rattle.gix_describe.specs.Order.GoesOn.{ended, next}
 use Rattle.gix_describe.proofs.Settles.{goes_on_from}
 use Rattle.gix_describe.specs.Trace.{is_named, IsNext, IsWalk}
@@ -47,8 +48,8 @@ last_split [] l = absurd (omega arith)
 last_split (x ∷ []) l = record { ys = []; x = x; is = refl }
 last_split (x ∷ z ∷ xs) l = let r = last_split (z ∷ xs) (omega arith) in record { ys = x ∷ r.ys; x = r.x; is = ap (λ k. x ∷ k) r.is }
 
-module _ (h : History) (s : ObjectId) (names : Names) (cap : ℕ) (popped cs zs rest : List ObjectId) (has : Has h s) (w : IsWalk h s popped) (are : cs ≡ filter (is_named names) popped) (few : length cs ≤ cap)
-    (is : zs ≡ popped ++ rest) (goes_on : GoesOn h popped zs) (some : 0 < length popped) where
+module _ (tie : Tie) (h : History) (s : ObjectId) (names : Names) (cap : ℕ) (popped cs zs rest : List ObjectId) (has : Has h s) (w : IsWalk (tie, None) h s popped) (are : cs ≡ filter (is_named names) popped) (few : length cs ≤ cap)
+    (is : zs ≡ popped ++ rest) (goes_on : GoesOn (tie, None) h s popped zs) (some : 0 < length popped) where
   long : length zs ≡ length popped + length rest
   long = ap length is ∙ length-append popped rest
 
@@ -58,7 +59,7 @@ module _ (h : History) (s : ObjectId) (names : Names) (cap : ℕ) (popped cs zs 
       let upto : List ObjectId = ys ++ y ∷ [] in
       let whole : popped ≡ upto ++ (z ∷ r) = e ∙ sym (append_assoc ys (y ∷ []) (z ∷ r)) in
       let len : length upto ≡ length ys + 1 = length_push ys y in
-      let last : LastOf h s upto z = walk_part h s popped upto r z w whole in
+      let last : LastOf (tie, None) h s upto z = walk_part (tie, None) h s popped upto r z w whole in
       let out : ¬ In upto z = open_out h s upto z last.next.0 in
       let all : zs ≡ upto ++ (z ∷ (r ++ rest)) = is ∙ ap (λ l. l ++ rest) whole ∙ append_assoc upto (z ∷ r) rest in
       let first : take (length ys + 1) zs ≡ upto = ap (take (length ys + 1)) all ∙ take-append-le (length ys + 1) upto (z ∷ (r ++ rest)) (omega (arith, len)) ∙ take_all (length ys + 1) upto (omega (arith, len)) in
@@ -85,53 +86,53 @@ module _ (h : History) (s : ObjectId) (names : Names) (cap : ℕ) (popped cs zs 
       seam : (u : List ObjectId) (z : ObjectId) (v : List ObjectId) (d : ObjectId) (n : ℕ) → length u ≡ n → get_or (u ++ (z ∷ v)) n d ≡ z
       seam u z v d n e = ap (λ l. get_or l n d) (sym (append_assoc u (z ∷ []) v)) ∙ get_or_append_left (u ++ z ∷ []) v d n (let k : length (u ++ z ∷ []) ≡ length u + 1 = length_push u z in omega arith) ∙ get_or_push u z d n e
 
-  pub least : IsUnsettledBefore h s names popped → (j : ℕ) → 1 ≤ j → Stops h names zs cap j → length popped ≤ j
+  pub least : IsUnsettledBefore tie h s names popped → (j : ℕ) → 1 ≤ j → Stops tie h names zs cap j → length popped ≤ j
   least before j low stops = elim (cases_lt j (length popped)) as (λ _. length popped ≤ j) [
     | inl below ↦
         let r = split_at popped (j - 1) (omega arith) in
         let at : length r.ys + 1 ≡ j = let e : length r.ys ≡ j - 1 = r.at in omega arith in
-        absurd (by r below (subst (λ n. Stops h names zs cap n) (sym at) stops) at)
+        absurd (by r below (subst (λ n. Stops tie h names zs cap n) (sym at) stops) at)
     | inr k ↦ k
   ]
     where
-      by : (r : SplitAt popped (j - 1)) → j < length popped → Stops h names zs cap (length r.ys + 1) → length r.ys + 1 ≡ j → ⊥
-      by r below (inl settled) at = before r.ys r.rest r.y r.z r.is (settled_from h s names zs r.ys ((r.z ∷ r.rest) ++ rest) r.y has (walk_part h s popped r.ys (r.z ∷ r.rest) r.y w r.is)
+      by : (r : SplitAt popped (j - 1)) → j < length popped → Stops tie h names zs cap (length r.ys + 1) → length r.ys + 1 ≡ j → ⊥
+      by r below (inl settled) at = before r.ys r.rest r.y r.z r.is (settled_from (tie, None) h s names zs r.ys ((r.z ∷ r.rest) ++ rest) r.y has (walk_part (tie, None) h s popped r.ys (r.z ∷ r.rest) r.y w r.is)
           (is ∙ ap (λ l. l ++ rest) r.is ∙ append_assoc r.ys (r.y ∷ r.z ∷ r.rest) rest) settled)
       by r below (inr (inl full)) at = not_full r.ys r.y r.z r.rest r.is full
       by r below (inr (inr end)) at = absurd (omega (arith, long))
 
   -- ---- the last place
-  pub settled_last : SettlesLast h s names popped → IsSettled h names zs (length popped)
+  pub settled_last : SettlesLast tie h s names popped → IsSettled tie h names zs (length popped)
   settled_last l =
       let n : length l.ys + 1 ≡ length popped = sym (ap length l.is ∙ length_push l.ys l.x) in
-      subst (λ k. IsSettled h names zs k) n (settled_to h s names zs l.ys rest l.x has (walk_part h s popped l.ys [] l.x w l.is) (is ∙ ap (λ k. k ++ rest) l.is ∙ append_assoc l.ys (l.x ∷ []) rest) l.settled)
+      subst (λ k. IsSettled tie h names zs k) n (settled_to (tie, None) h s names zs l.ys rest l.x has (walk_part (tie, None) h s popped l.ys [] l.x w l.is) (is ∙ ap (λ k. k ++ rest) l.is ∙ append_assoc l.ys (l.x ∷ []) rest) l.settled)
 
   pub end_last : ((c : ObjectId) → ¬ Open h s popped c) → length popped ≡ length zs
   end_last none = by goes_on
     where
-      by : {ws : List ObjectId} → GoesOn h popped ws → length popped ≡ length ws
+      by : {ws : List ObjectId} → GoesOn (tie, None) h s popped ws → length popped ≡ length ws
       by (ended us n) = refl
       by (next us ws c u best more) = absurd (none c (unlisted_open h s popped c u))
 
-  pub cut_ended : IsUnsettledBefore h s names popped → SettlesLast h s names popped ⊎ ((c : ObjectId) → ¬ Open h s popped c) → IsCut h names zs cap (length popped)
-  cut_ended before stop = (omega arith, elim stop as (λ _. Stops h names zs cap (length popped)) [ inl l ↦ inl (settled_last l) | inr none ↦ inr (inr (end_last none)) ], least before)
+  pub cut_ended : IsUnsettledBefore tie h s names popped → SettlesLast tie h s names popped ⊎ ((c : ObjectId) → ¬ Open h s popped c) → IsCut tie h names zs cap (length popped)
+  cut_ended before stop = (omega arith, elim stop as (λ _. Stops tie h names zs cap (length popped)) [ inl l ↦ inl (settled_last l) | inr none ↦ inr (inr (end_last none)) ], least before)
 
-  module _ (x : ObjectId) (nx : IsNext h s popped x) (x_named : IsNamed names x) (full : length cs ≡ cap) (s_in : In popped s) where
+  module _ (x : ObjectId) (nx : IsNext (tie, None) h s popped x) (x_named : IsNamed names x) (full : length cs ≡ cap) (s_in : In popped s) where
     -- the next commit of the order is the one that was given up
     after : (v : List ObjectId) × (zs ≡ (popped ++ x ∷ []) ++ v)
     after = by goes_on
       where
-        by : {ws : List ObjectId} → GoesOn h popped ws → (v : List ObjectId) × (ws ≡ (popped ++ x ∷ []) ++ v)
+        by : {ws : List ObjectId} → GoesOn (tie, None) h s popped ws → (v : List ObjectId) × (ws ≡ (popped ++ x ∷ []) ++ v)
         by (ended us n) = absurd (n x (open_unlisted h s popped x s_in nx.0))
         by {ws = ws} (next us vs c u best more) =
             let same : c ≡ x = elim (nx.1 c (unlisted_open h s popped c u)) as (λ _. c ≡ x) [
               | inl e ↦ e
-              | inr a ↦ elim (best x (open_unlisted h s popped x s_in nx.0)) as (λ _. c ≡ x) [ inl e ↦ sym e | inr b ↦ absurd (before_apart h x c a b) ]
+              | inr a ↦ elim (best x (open_unlisted h s popped x s_in nx.0)) as (λ _. c ≡ x) [ inl e ↦ sym e | inr b ↦ absurd (before_apart (tie_rank (tie, None) h s popped) h x c a b) ]
             ] in
-            let r = goes_on_from h (popped ++ c ∷ []) ws more in
+            let r = goes_on_from (tie, None) h s (popped ++ c ∷ []) ws more in
             (r.0, r.1 ∙ ap (λ q. (popped ++ q ∷ []) ++ r.0) same)
 
-    stands_next : Stands zs (length popped + 1) x
+    pub stands_next : Stands zs (length popped + 1) x
     stands_next =
         let len : length (popped ++ x ∷ []) ≡ length popped + 1 = length_push popped x in
         let all : length zs ≡ length (popped ++ x ∷ []) + length after.0 = ap length after.1 ∙ length-append (popped ++ x ∷ []) after.0 in
@@ -146,7 +147,7 @@ module _ (h : History) (s : ObjectId) (names : Names) (cap : ℕ) (popped cs zs 
         let same_len : length cs ≡ length (filter (is_named names) popped) = ap length are in (
           (
             filter (is_named names) popped,
-            distinct_filter (is_named names) popped (popped_of h s popped has w).once,
+            distinct_filter (is_named names) popped (popped_of (tie, None) h s popped has w).once,
             (λ c m. let r = one_of-filter (is_named names) popped c m in (ap (λ l. is_one_of l c) first ∙ r.0, named_of names c r.1)),
             omega arith,
           ),
@@ -155,46 +156,46 @@ module _ (h : History) (s : ObjectId) (names : Names) (cap : ℕ) (popped cs zs 
           x_named,
         )
 
-    pub cut_full : IsUnsettled h s names popped → IsCut h names zs cap (length popped)
+    pub cut_full : IsUnsettled tie h s names popped → IsCut tie h names zs cap (length popped)
     cut_full going = (omega arith, inr (inl full_last), least (λ ys r a b e. going ys (b ∷ r) a e))
 
     -- at a full stop the walk was not settled, and something is left
-    pub past_full : IsUnsettled h s names popped → IsSettled h names zs (length popped) ⊎ (length popped ≡ length zs) → ⊥
+    pub past_full : IsUnsettled tie h s names popped → IsSettled tie h names zs (length popped) ⊎ (length popped ≡ length zs) → ⊥
     past_full going (inl st) =
         let r = last_split popped some in
         let n : length r.ys + 1 ≡ length popped = sym (ap length r.is ∙ length_push r.ys r.x) in
-        going r.ys [] r.x r.is (settled_from h s names zs r.ys rest r.x has (walk_part h s popped r.ys [] r.x w r.is) (is ∙ ap (λ k. k ++ rest) r.is ∙ append_assoc r.ys (r.x ∷ []) rest) (subst (λ k. IsSettled h names zs k) (sym n) st))
+        going r.ys [] r.x r.is (settled_from (tie, None) h s names zs r.ys rest r.x has (walk_part (tie, None) h s popped r.ys [] r.x w r.is) (is ∙ ap (λ k. k ++ rest) r.is ∙ append_assoc r.ys (r.x ∷ []) rest) (subst (λ k. IsSettled tie h names zs k) (sym n) st))
     past_full going (inr e) = let st = stands_next in absurd (omega (arith, st.1))
 
 -- ---- past the cut
-order_ended : (h : History) (s : ObjectId) (popped ws : List ObjectId) → ((c : ObjectId) → ¬ Open h s popped c) → GoesOn h popped ws → length popped ≡ length ws
-order_ended h s popped ws none (ended us n) = refl
-order_ended h s popped ws none (next us ws' c u best more) = absurd (none c (unlisted_open h s popped c u))
+order_ended : (ranks : Ranking) (h : History) (s : ObjectId) (popped ws : List ObjectId) → ((c : ObjectId) → ¬ Open h s popped c) → GoesOn ranks h s popped ws → length popped ≡ length ws
+order_ended ranks h s popped ws none (ended us n) = refl
+order_ended ranks h s popped ws none (next us ws' c u best more) = absurd (none c (unlisted_open h s popped c u))
 
-module _ {held : ObjectId → Option ℕ} (h : History) (s t : ObjectId) (count seen cut : ℕ) (zs rest : List ObjectId) (e : IsComplete h s t count seen cut held) (is : zs ≡ e.popped ++ rest) (goes_on : GoesOn h e.popped zs) where
+module _ {held : ObjectId → Option ℕ} (tie : Tie) (h : History) (s t : ObjectId) (count seen : ℕ) (cut : PutBack) (zs rest : List ObjectId) (e : IsComplete tie h s t count seen cut held) (is : zs ≡ e.popped ++ rest) (goes_on : GoesOn (tie, Some cut) h s e.popped zs) where
   in_order : (ys r : List ObjectId) (x : ObjectId) → e.popped ≡ ys ++ (x ∷ r) → zs ≡ ys ++ (x ∷ (r ++ rest))
   in_order ys r x p = is ∙ ap (λ l. l ++ rest) p ∙ append_assoc ys (x ∷ r) rest
 
   complete_there : CompletesLast h s t e.popped → IsCompleted h zs t seen
   complete_there l =
       let n : length l.ys + 1 ≡ length e.popped = sym (ap length l.is ∙ length_push l.ys l.x) in
-      subst (λ k. IsCompleted h zs t k) (n ∙ sym e.seen_is) (completed_to h s [] zs l.ys rest l.x e.has (walk_part h s e.popped l.ys [] l.x e.walk l.is) (in_order l.ys [] l.x l.is) t l.in_ys l.completed)
+      subst (λ k. IsCompleted h zs t k) (n ∙ sym e.seen_is) (completed_to (tie, Some cut) h s [] zs l.ys rest l.x e.has (walk_part (tie, Some cut) h s e.popped l.ys [] l.x e.walk l.is) (in_order l.ys [] l.x l.is) t (one_of-left l.ys (l.x ∷ []) t l.in_ys) l.completed)
 
-  pub past_is : IsPast h zs t cut seen
+  pub past_is : IsPast h zs t (length cut.0) seen
   past_is =
       let long : length zs ≡ length e.popped + length rest = ap length is ∙ length-append e.popped rest in
-      let far : cut < length e.popped = e.past in
+      let far : length cut.0 < length e.popped = e.past in
       let seen_is : seen ≡ length e.popped = e.seen_is in (
         omega arith,
         omega arith,
-        elim e.stop as (λ _. IsCompleted h zs t seen ⊎ (seen ≡ length zs)) [ inl l ↦ inl (complete_there l) | inr none ↦ inr (seen_is ∙ order_ended h s e.popped zs none goes_on) ],
+        elim e.stop as (λ _. IsCompleted h zs t seen ⊎ (seen ≡ length zs)) [ inl l ↦ inl (complete_there l) | inr none ↦ inr (seen_is ∙ order_ended (tie, Some cut) h s e.popped zs none goes_on) ],
         λ j low cd. elim (cases_lt j seen) as (λ _. seen ≤ j) [
           | inl below ↦
               let r = split_at e.popped (j - 1) (omega arith) in
               let at : length r.ys ≡ j - 1 = r.at in
               let one : j ≡ length r.ys + 1 = omega arith in
               absurd (e.before r.ys r.rest r.y r.z r.is (omega arith)
-              (completed_from h s [] zs r.ys ((r.z ∷ r.rest) ++ rest) r.y e.has (walk_part h s e.popped r.ys (r.z ∷ r.rest) r.y e.walk r.is) (in_order r.ys (r.z ∷ r.rest) r.y r.is) t (subst (λ k. IsCompleted h zs t k) one cd)))
+              (completed_from (tie, Some cut) h s [] zs r.ys ((r.z ∷ r.rest) ++ rest) r.y e.has (walk_part (tie, Some cut) h s e.popped r.ys (r.z ∷ r.rest) r.y e.walk r.is) (in_order r.ys (r.z ∷ r.rest) r.y r.is) t (subst (λ k. IsCompleted h zs t k) one cd)))
           | inr k ↦ k
         ],
       )

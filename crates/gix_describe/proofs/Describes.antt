@@ -6,6 +6,7 @@ use Rattle.gix_base.specs.declared.hash.ObjectId.{ObjectId}
 use Rattle.gix_base.specs.declared.error.message.Message.{Message}
 use Rattle.gix_base.specs.declared.error.message.Message.TheVariants.{ParentsOf, MissingStart, CounterFull, OutOfMemory}
 use Rattle.gix_revwalk.specs.History.{History}
+use Rattle.gix_describe.specs.declared.describe.options.Tie.{Tie}
 use Rattle.gix_describe.specs.Described.{Names, Description, name_at, IsNamed, named, unnamed, nothing_to_find, IsDescribed}
 use Rattle.gix_describe.specs.Asks.{IsWalkRefused}
 use Rattle.gix_describe.specs.Choice.{IsFound}
@@ -38,30 +39,30 @@ module _ (h : History) (s : ObjectId) (names : Names) (cap : ℕ) (fallback : Bo
   refused_walk OutOfMemory absent busy r = r
 
 -- ---- the fixed answer
-pub fixed_none : (h : History) (s : ObjectId) (names : Names) (cap seen : ℕ) (fallback : Bool) (r : Option Description) → r ≡ unnamed fallback seen → IsFixed h s names cap r
-fixed_none h s names cap seen fallback r is = subst (λ o. IsFixed h s names cap o) (sym is) (by fallback)
+pub fixed_none : (tie : Tie) (h : History) (s : ObjectId) (names : Names) (cap seen : ℕ) (fallback : Bool) (r : Option Description) → r ≡ unnamed fallback seen → IsFixed tie h s names cap r
+fixed_none tie h s names cap seen fallback r is = subst (λ o. IsFixed tie h s names cap o) (sym is) (by fallback)
   where
-    by : (b : Bool) → IsFixed h s names cap (unnamed b seen)
+    by : (b : Bool) → IsFixed tie h s names cap (unnamed b seen)
     by true = tt
     by false = tt
 
-pub fixed_some : (h : History) (s : ObjectId) (names : Names) (cap seen depth : ℕ) (t : ObjectId) (r : Option Description) → r ≡ option_map (λ name. named name depth seen) (name_at names t) → IsTied h s names cap t depth seen → IsFixed h s names cap r
-fixed_some h s names cap seen depth t r is tied = subst (λ o. IsFixed h s names cap o) (sym is) (by (name_at names t) refl)
+pub fixed_some : (tie : Tie) (h : History) (s : ObjectId) (names : Names) (cap seen depth : ℕ) (t : ObjectId) (r : Option Description) → r ≡ option_map (λ name. named name depth seen) (name_at names t) → IsTied tie h s names cap t depth seen → IsFixed tie h s names cap r
+fixed_some tie h s names cap seen depth t r is tied = subst (λ o. IsFixed tie h s names cap o) (sym is) (by (name_at names t) refl)
   where
-    by : (o : Option (List ℕ)) → name_at names t ≡ o → IsFixed h s names cap (option_map (λ name. named name depth seen) o)
+    by : (o : Option (List ℕ)) → name_at names t ≡ o → IsFixed tie h s names cap (option_map (λ name. named name depth seen) o)
     by None e = tt
     by (Some name) e = (t, e, tied)
 
-pub held_none : (h : History) (s : ObjectId) (held : ObjectId → Option ℕ) (seen : ℕ) (fallback : Bool) (r : Option Description) → r ≡ unnamed fallback seen → HoldsFirst h s seen held → IsHeldBy h s r held
-held_none h s held seen fallback r is k = subst (λ o. IsHeldBy h s o held) (sym is) (by fallback)
+pub held_none : (tie : Tie) (h : History) (s : ObjectId) (held : ObjectId → Option ℕ) (seen : ℕ) (fallback : Bool) (r : Option Description) → r ≡ unnamed fallback seen → HoldsFirst tie h s seen held → IsHeldBy tie h s r held
+held_none tie h s held seen fallback r is k = subst (λ o. IsHeldBy tie h s o held) (sym is) (by fallback)
   where
-    by : (b : Bool) → IsHeldBy h s (unnamed b seen) held
+    by : (b : Bool) → IsHeldBy tie h s (unnamed b seen) held
     by true = k
     by false = tt
 
-pub held_some : (h : History) (s : ObjectId) (names : Names) (held : ObjectId → Option ℕ) (seen depth : ℕ) (t : ObjectId) (r : Option Description) → r ≡ option_map (λ name. named name depth seen) (name_at names t) → HoldsFirst h s seen held → IsHeldBy h s r held
-held_some h s names held seen depth t r is k = subst (λ o. IsHeldBy h s o held) (sym is) (by (name_at names t))
+pub held_some : (tie : Tie) (h : History) (s : ObjectId) (names : Names) (held : ObjectId → Option ℕ) (seen depth : ℕ) (t : ObjectId) (r : Option Description) → r ≡ option_map (λ name. named name depth seen) (name_at names t) → HoldsFirst tie h s seen held → IsHeldBy tie h s r held
+held_some tie h s names held seen depth t r is k = subst (λ o. IsHeldBy tie h s o held) (sym is) (by (name_at names t))
   where
-    by : (o : Option (List ℕ)) → IsHeldBy h s (option_map (λ name. named name depth seen) o) held
+    by : (o : Option (List ℕ)) → IsHeldBy tie h s (option_map (λ name. named name depth seen) o) held
     by None = tt
     by (Some name) = k

@@ -12,11 +12,13 @@ pub mod FormatsEqual
 pub mod Early
 pub mod EarlyEnds
 pub mod EarlyAnswer
+pub mod Places
 pub mod Orders
 pub mod Exact
 pub mod Settles
 pub mod Traces
 pub mod Handing
+pub mod Ranking
 pub mod Numbering
 pub mod Marking
 pub mod LookedUp
@@ -24,6 +26,7 @@ pub mod Queued
 pub mod WalkQueue
 pub mod Lacking
 pub mod WalkSteps
+pub mod Tallies
 pub mod Sieve
 pub mod Choosing
 pub mod PopsCounted

@@ -11,7 +11,7 @@ use Rattle.gix_revwalk.specs.History.IsAncestor.{itself, further}
 use Rattle.gix_revwalk.specs.Sizes.{Lists, HasSize}
 use Rattle.gix_describe.specs.Ahead.{IsPath, IsOlder, IsFallingEdge, IsAheadOf, IsFalling}
 use Rattle.gix_describe.specs.Ahead.IsPath.{stay, further as goes_on}
-use Rattle.gix_describe.specs.Order.{IsBefore, IsUnlisted, GoesOn, IsOrder, place, Reaches, IsLate}
+use Rattle.gix_describe.specs.Order.{Ranking, IsBefore, tie_rank, IsUnlisted, GoesOn, IsOrder, place, Reaches, IsLate}
 use Rattle.gix_describe.specs.Order.GoesOn.{ended, next}
 use Rattle.gix_revwalk.proofs.Ids.{same_id-laws, same_id-true, same_id-itself}
 use Rattle.gix_revwalk.proofs.Members.{one_of-left, one_of-right, one_of-cases, one_of-single, one_of-head, one_of-tail, one_of-cons_cases}
@@ -40,16 +40,16 @@ place_past (x ∷ xs) ys c out = elim (same_id c x) as (λ b. same_id c x ≡ b 
   | false ↦ λ e. let r : length xs ≤ place (xs ++ ys) c = place_past xs ys c (λ k. out (one_of-tail x xs c k)) in omega arith
 ] refl
 
-pub not_older : (h : History) (c d : ObjectId) → (d ≡ c) ⊎ IsBefore h c d → ¬ IsOlder h c d
-not_older h c d (inl is) o = let p : IsOlder h c c = subst (λ z. IsOlder h c z) is o in omega (arith, ints)
-not_older h c d (inr (inl b)) o = omega (arith, ints)
-not_older h c d (inr (inr b)) o = let e : time_in (entry_at h c) ≡ time_in (entry_at h d) = b.0 in let p : time_in (entry_at h d) <ℤ time_in (entry_at h d) = subst (λ z. z <ℤ time_in (entry_at h d)) e o in omega (arith, ints)
+pub not_older : (r : ObjectId → ℕ) (h : History) (c d : ObjectId) → (d ≡ c) ⊎ IsBefore r h c d → ¬ IsOlder h c d
+not_older r h c d (inl is) o = let p : IsOlder h c c = subst (λ z. IsOlder h c z) is o in omega (arith, ints)
+not_older r h c d (inr (inl b)) o = omega (arith, ints)
+not_older r h c d (inr (inr b)) o = let e : time_in (entry_at h c) ≡ time_in (entry_at h d) = b.0 in let p : time_in (entry_at h d) <ℤ time_in (entry_at h d) = subst (λ z. z <ℤ time_in (entry_at h d)) e o in omega (arith, ints)
 
 -- the next commit of the order is popped
-pops_next : (h : History) (xs : List ObjectId) (c : ObjectId) → IsUnlisted h xs c → ((d : ObjectId) → IsUnlisted h xs d → (d ≡ c) ⊎ IsBefore h c d) → Pops h xs (IsUnlisted h xs) c (IsUnlisted h (xs ++ c ∷ []))
-pops_next h xs c u best = record {
+pops_next : (r : ObjectId → ℕ) (h : History) (xs : List ObjectId) (c : ObjectId) → IsUnlisted h xs c → ((d : ObjectId) → IsUnlisted h xs d → (d ≡ c) ⊎ IsBefore r h c d) → Pops h xs (IsUnlisted h xs) c (IsUnlisted h (xs ++ c ∷ []))
+pops_next r h xs c u best = record {
   queued = u;
-  greatest = λ q k. not_older h c q (best q k);
+  greatest = λ q k. not_older r h c q (best q k);
   gone = λ k. k.0 (one_of-right xs (c ∷ []) c (one_of-head c []));
   fresh = λ d k m. k.0 (one_of-left xs (c ∷ []) d m);
   from = λ d k. elim (one_of-cases xs (c ∷ []) k.1 k.2) as (λ _. IsUnlisted h xs d ⊎ IsEdge h c d) [
@@ -101,14 +101,14 @@ pub record Walked (h : History) (s : ObjectId) (xs : List ObjectId) : Type 0 whe
   pub rises : Rises h s xs
   pub all : (c : ObjectId) → ¬ IsUnlisted h xs c
 
-order_from : (h : History) (s : ObjectId) (xs zs : List ObjectId) → GoesOn h xs zs → Popped h s xs (IsUnlisted h xs) → Rises h s xs → Walked h s zs
-order_from h s xs zs (ended xs' none) at up = record { popped = at; rises = up; all = none }
-order_from h s xs zs (next xs' zs' c u best rest) at up =
-    let pops = pops_next h xs c u best in
-    order_from h s (xs ++ c ∷ []) zs rest (pop h s xs (IsUnlisted h xs) c (IsUnlisted h (xs ++ c ∷ [])) at pops) (rises_next h s xs c at pops up)
+order_from : (ranks : Ranking) (h : History) (s : ObjectId) (xs zs : List ObjectId) → GoesOn ranks h s xs zs → Popped h s xs (IsUnlisted h xs) → Rises h s xs → Walked h s zs
+order_from ranks h s xs zs (ended xs' none) at up = record { popped = at; rises = up; all = none }
+order_from ranks h s xs zs (next xs' zs' c u best rest) at up =
+    let pops = pops_next (tie_rank ranks h s xs) h xs c u best in
+    order_from ranks h s (xs ++ c ∷ []) zs rest (pop h s xs (IsUnlisted h xs) c (IsUnlisted h (xs ++ c ∷ [])) at pops) (rises_next h s xs c at pops up)
 
-pub order_walked : (h : History) (s : ObjectId) (xs : List ObjectId) → Has h s → IsOrder h s xs → Walked h s xs
-order_walked h s xs has order = order_from h s (s ∷ []) xs order (begins_popped h s has)
+pub order_walked : (ranks : Ranking) (h : History) (s : ObjectId) (xs : List ObjectId) → Has h s → IsOrder ranks h s xs → Walked h s xs
+order_walked ranks h s xs has order = order_from ranks h s (s ∷ []) xs order (begins_popped h s has)
     (λ a b p e k. absurd (let o : IsOlder h s s = path_older h s a s p (subst (λ z. IsFallingEdge h a z) (one_of-single s b k) e) in omega (arith, ints)))
 
 module _ (h : History) (s : ObjectId) (xs : List ObjectId) (walked : Walked h s xs) where

@@ -5,7 +5,7 @@ use Rattle.std.specs.Ordering.{nat_cmp, int_cmp, ordering_then, ordering_reverse
 use Rattle.std.specs.Cmp.Lexicographic.{slice_cmp}
 use Rattle.std.specs.declared.cmp.Ordering.{Ordering}
 use Rattle.std.specs.declared.cmp.Ordering.TheVariants.{Less, Equal, Greater}
-use Rattle.std.proofs.lemmas.Cmp.{int_cmp_total, nat_list_cmp_total}
+use Rattle.std.proofs.lemmas.Cmp.{int_cmp_total, nat_cmp_total, nat_list_cmp_total}
 use Rattle.std.proofs.lemmas.List.Sorted.{IsPermutation-map, IsPermutation-cons, IsPermutation-trans}
 use Rattle.gix_base.specs.declared.hash.ObjectId.{ObjectId}
 use Rattle.gix_revwalk.specs.Queue.{IsGreatest}
@@ -30,14 +30,16 @@ both_in a b xs ys zs first second = IsPermutation-trans (b ∷ a ∷ xs) (b ∷ 
 
 -- no key comes before itself
 not_before : (k : Key) → is_lt (key_order k k) ≡ false
-not_before k = by (int_cmp k.time k.time) (slice_cmp nat_cmp k.id.0 k.id.0) (int_cmp_total.antisymm k.time k.time) (nat_list_cmp_total.antisymm k.id.0 k.id.0)
+not_before k = by (int_cmp k.time k.time) (nat_cmp k.rank k.rank) (slice_cmp nat_cmp k.id.0 k.id.0) (int_cmp_total.antisymm k.time k.time) (nat_cmp_total.antisymm k.rank k.rank) (nat_list_cmp_total.antisymm k.id.0 k.id.0)
   where
-    by : (a b : Ordering) → a ≡ ordering_reverse a → b ≡ ordering_reverse b → is_lt (ordering_then a b) ≡ false
-    by Less b e f = absurd (let k : true ≡ false = ap is_lt e in cc)
-    by Equal Less e f = absurd (let k : true ≡ false = ap is_lt f in cc)
-    by Equal Equal e f = refl
-    by Equal Greater e f = refl
-    by Greater b e f = refl
+    by : (a b c : Ordering) → a ≡ ordering_reverse a → b ≡ ordering_reverse b → c ≡ ordering_reverse c → is_lt (ordering_then a (ordering_then b c)) ≡ false
+    by Less b c e f g = absurd (let k : true ≡ false = ap is_lt e in cc)
+    by Equal Less c e f g = absurd (let k : true ≡ false = ap is_lt f in cc)
+    by Equal Equal Less e f g = absurd (let k : true ≡ false = ap is_lt g in cc)
+    by Equal Equal Equal e f g = refl
+    by Equal Equal Greater e f g = refl
+    by Equal Greater c e f g = refl
+    by Greater b c e f g = refl
 
 -- one alone has the greatest key
 pub alone_first : (k : Key) (p : Place) (ps : List (Key × Place)) → ps ≡ [] → IsGreatest key_order k (map entry_of ((k, p) ∷ ps))

@@ -10,7 +10,7 @@ use Rattle.gix_revwalk.proofs.Members.{one_of-left, one_of-right, one_of-head}
 use Rattle.gix_describe.specs.Asks.{IsHandRefused}
 use Rattle.gix_describe.specs.DescribeRefusals.{is_parents_fault}
 use Rattle.gix_describe.specs.Handing.{Hands, HandsUntil}
-use Rattle.gix_describe.specs.Order.{IsLedTo, StandsAt}
+use Rattle.gix_describe.specs.Order.{Ranking, IsLedTo, StandsAt}
 use Rattle.gix_describe.specs.Ties.{IsHeldAtFault}
 use Rattle.gix_describe.specs.Trace.{is_edge, is_met, IsNext, IsWalk}
 use Rattle.gix_describe.proofs.Cuts.{stands}
@@ -45,18 +45,19 @@ until_next h x ps i m p held before now is p_in hands same none = record {
     taken q k = ap (λ l. is_one_of l q) (sym (take-append-drop i ps)) ∙ one_of-left (take i ps) _ q k
 
 -- ---- in the order of the walk
-pub stands_at : (h : History) (s x : ObjectId) (xs : List ObjectId) (held now : ObjectId → Option ℕ) → Has h s → IsWalk h s xs → IsNext h s xs x → ((c : ObjectId) → is_some (held c) ≡ is_met h s xs c) → HandsUntil h x held now → StandsAt h s x now
-stands_at h s x xs held now has w next met until =
-    let on : IsWalk h s (xs ++ x ∷ []) = goes_more h s xs x w next in
-    let p = walk_prefix h s (xs ++ x ∷ []) has on (some_in h s x (xs ++ x ∷ []) on (one_of-right xs (x ∷ []) x (one_of-head x []))) in
+pub stands_at : (ranks : Ranking) (h : History) (s x : ObjectId) (xs : List ObjectId) (held now : ObjectId → Option ℕ) → Has h s → IsWalk ranks h s xs → IsNext ranks h s xs x → ((c : ObjectId) → is_some (held c) ≡ is_met h s xs c) → HandsUntil h x held now → StandsAt ranks.0 h s x now
+stands_at ranks h s x xs held now has w next met until =
+    let on : IsWalk ranks h s (xs ++ x ∷ []) = goes_more ranks h s xs x w next in
+    let p = walk_prefix ranks h s (xs ++ x ∷ []) has on (some_in ranks h s x (xs ++ x ∷ []) on (one_of-right xs (x ∷ []) x (one_of-head x []))) in
     let whole : p.order ≡ xs ++ (x ∷ p.rest) = p.splits ∙ append_assoc xs (x ∷ []) p.rest in
     let first : take (length xs) p.order ≡ xs = ap (take (length xs)) whole ∙ take-append_seam xs (x ∷ p.rest) in
     let led : (c : ObjectId) → is_some (held c) ≡ true → IsLedTo h s (take (length xs) p.order) c = λ c k. subst (λ l. IsLedTo h s l c) (sym first) (met_led h s xs c (sym (met c) ∙ k)) in
     record {
+      back = ranks.1;
       order = p.order;
       order_is = p.order_is;
       before = length xs;
-      x_is = stands h s [] p.order xs p.rest x has (record { walk = w; next = next }) whole;
+      x_is = stands ranks h s [] p.order xs p.rest x has (record { walk = w; next = next }) whole;
       kept = λ c l. until.kept c (met c ∙ led_met h s xs c (subst (λ l. IsLedTo h s l c) first l));
       new = λ c k. elim (until.new c k) as (λ _. IsLedTo h s (take (length xs) p.order) c ⊎ IsEdge h x c) [ inl a ↦ inl (led c a) | inr e ↦ inr (edge_from h x c e) ];
       lacks = elim until.lacks as (λ _. ((q : ObjectId) × IsTrue (is_one_of (parents_in (entry_at h x)) q) × (now q ≡ None)) ⊎ ((c : ObjectId) → IsTrue (is_some (now c)) → IsLedTo h s (take (length xs) p.order) c)) [
@@ -66,9 +67,9 @@ stands_at h s x xs held now has w next met until =
     }
 
 -- ---- what a refusal says
-pub fault_stands : (h : History) (s x : ObjectId) (xs : List ObjectId) (held now : ObjectId → Option ℕ) → Has h s → IsWalk h s xs → IsNext h s xs x → ((c : ObjectId) → is_some (held c) ≡ is_met h s xs c)
-    → (e : Message) → IsHandRefused h x e → (IsTrue (is_parents_fault e) → HandsUntil h x held now) → IsHeldAtFault h s e now
-fault_stands h s x xs held now has w next met (ParentsOf id) is until = inr (subst (λ z. StandsAt h s z now) (sym is) (stands_at h s x xs held now has w next met (until refl)))
-fault_stands h s x xs held now has w next met (MissingStart id) is until = tt
-fault_stands h s x xs held now has w next met CounterFull is until = tt
-fault_stands h s x xs held now has w next met OutOfMemory is until = tt
+pub fault_stands : (ranks : Ranking) (h : History) (s x : ObjectId) (xs : List ObjectId) (held now : ObjectId → Option ℕ) → Has h s → IsWalk ranks h s xs → IsNext ranks h s xs x → ((c : ObjectId) → is_some (held c) ≡ is_met h s xs c)
+    → (e : Message) → IsHandRefused h x e → (IsTrue (is_parents_fault e) → HandsUntil h x held now) → IsHeldAtFault ranks.0 h s e now
+fault_stands ranks h s x xs held now has w next met (ParentsOf id) is until = inr (subst (λ z. StandsAt ranks.0 h s z now) (sym is) (stands_at ranks h s x xs held now has w next met (until refl)))
+fault_stands ranks h s x xs held now has w next met (MissingStart id) is until = tt
+fault_stands ranks h s x xs held now has w next met CounterFull is until = tt
+fault_stands ranks h s x xs held now has w next met OutOfMemory is until = tt

@@ -8,6 +8,7 @@ use Rattle.gix_revwalk.specs.History.{History, entry_at, same_id, is_one_of, par
 use Rattle.gix_revwalk.specs.History.IsAncestor.{itself}
 use Rattle.gix_revwalk.proofs.Ids.{same_id-true, same_id-itself}
 use Rattle.gix_revwalk.proofs.Members.{or_none, nothing, one_of-left, one_of-right, one_of-cases, one_of-single, one_of-head}
+use Rattle.gix_describe.specs.Order.{Ranking, tie_rank}
 use Rattle.gix_describe.specs.Trace.{is_edge, is_met, is_open, marked_after, marked_by, late_by, has_mark, late_of, IsNext, IsWalk}
 use Rattle.gix_describe.specs.Trace.IsWalk.{begins, goes}
 use Rattle.gix_describe.proofs.Early.{In, either, absent, Popped, Pops, pop, Counted, begins as count_begins, counts, counts_not}
@@ -118,10 +119,10 @@ open_out h s xs c o k = not_true (is_one_of xs c) (and_right (is_met h s xs c) _
 pub open_is : (h : History) (s : ObjectId) (xs : List ObjectId) (c : ObjectId) → is_met h s xs c ≡ true → (¬ In xs c) → Open h s xs c
 open_is h s xs c m out = both _ _ m (true_not (is_one_of xs c) out)
 
-pub pops_of : (h : History) (s : ObjectId) (xs : List ObjectId) (x : ObjectId) → IsNext h s xs x → Pops h xs (Open h s xs) x (Open h s (xs ++ x ∷ []))
-pops_of h s xs x next = record {
+pub pops_of : (ranks : Ranking) (h : History) (s : ObjectId) (xs : List ObjectId) (x : ObjectId) → IsNext ranks h s xs x → Pops h xs (Open h s xs) x (Open h s (xs ++ x ∷ []))
+pops_of ranks h s xs x next = record {
   queued = next.0;
-  greatest = λ q k. not_older h x q (next.1 q k);
+  greatest = λ q k. not_older (tie_rank ranks h s xs) h x q (next.1 q k);
   gone = λ k. open_out h s (xs ++ x ∷ []) x k (one_of-right xs (x ∷ []) x (one_of-head x []));
   fresh = λ d k m. open_out h s (xs ++ x ∷ []) d k (one_of-left xs (x ∷ []) d m);
   from = λ d k. elim (or_split (is_met h s xs d) (is_edge h x d) (sym (met_more h s xs x d) ∙ open_met h s (xs ++ x ∷ []) d k)) as (λ _. Open h s xs d ⊎ IsEdge h x d) [
@@ -151,25 +152,25 @@ nothing_popped h s has = record {
   falls = λ a b p e k. absurd (let f : false ≡ true = k in cc);
 }
 
-pub popped_of : (h : History) (s : ObjectId) (xs : List ObjectId) → Has h s → IsWalk h s xs → Popped h s xs (Open h s xs)
-popped_of h s xs has begins = nothing_popped h s has
-popped_of h s ys has (goes xs ys' x is w next) =
-    subst (λ l. Popped h s l (Open h s l)) (sym is) (pop h s xs (Open h s xs) x (Open h s (xs ++ x ∷ [])) (popped_of h s xs has w) (pops_of h s xs x next))
+pub popped_of : (ranks : Ranking) (h : History) (s : ObjectId) (xs : List ObjectId) → Has h s → IsWalk ranks h s xs → Popped h s xs (Open h s xs)
+popped_of ranks h s xs has begins = nothing_popped h s has
+popped_of ranks h s ys has (goes xs ys' x is w next) =
+    subst (λ l. Popped h s l (Open h s l)) (sym is) (pop h s xs (Open h s xs) x (Open h s (xs ++ x ∷ [])) (popped_of ranks h s xs has w) (pops_of ranks h s xs x next))
 
 -- each popped commit counts as a candidate
-pub counted_of : (h : History) (s t : ObjectId) (xs : List ObjectId) → Has h s → IsWalk h s xs → In xs t → Counted h s t xs (Marked h t xs) (late_of h t xs)
-counted_of h s t xs has begins m = absurd (let f : false ≡ true = m in cc)
-counted_of h s t ys has (goes xs ys' x is w next) m =
+pub counted_of : (ranks : Ranking) (h : History) (s t : ObjectId) (xs : List ObjectId) → Has h s → IsWalk ranks h s xs → In xs t → Counted h s t xs (Marked h t xs) (late_of h t xs)
+counted_of ranks h s t xs has begins m = absurd (let f : false ≡ true = m in cc)
+counted_of ranks h s t ys has (goes xs ys' x is w next) m =
     subst (λ l. Counted h s t l (Marked h t l) (late_of h t l)) (sym is) (elim (one_of-cases xs (x ∷ []) t (ap (λ l. is_one_of l t) (sym is) ∙ m)) as (λ _. Counted h s t (xs ++ x ∷ []) (Marked h t (xs ++ x ∷ [])) (late_of h t (xs ++ x ∷ []))) [
-      | inl k ↦ more (counted_of h s t xs has w k)
+      | inl k ↦ more (counted_of ranks h s t xs has w k)
       | inr k ↦ subst (λ z. Counted h s z (xs ++ x ∷ []) (Marked h z (xs ++ x ∷ [])) (late_of h z (xs ++ x ∷ []))) (sym (one_of-single x t k)) first
     ])
   where
     at : Popped h s xs (Open h s xs)
-    at = popped_of h s xs has w
+    at = popped_of ranks h s xs has w
 
     pops : Pops h xs (Open h s xs) x (Open h s (xs ++ x ∷ []))
-    pops = pops_of h s xs x next
+    pops = pops_of ranks h s xs x next
 
     kept : (t c : ObjectId) → Marked h t xs c → Marked h t (xs ++ x ∷ []) c
     kept t c k = marked_more h (same_id t) xs x c ∙ or_left _ _ k

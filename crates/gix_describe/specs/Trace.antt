@@ -4,7 +4,7 @@ use Rattle.std.specs.List.{list_any}
 use Rattle.gix_base.specs.declared.hash.ObjectId.{ObjectId}
 use Rattle.gix_revwalk.specs.History.{History, entry_at, same_id, is_one_of, parents_in}
 use Rattle.gix_describe.specs.Described.{Names, name_at}
-use Rattle.gix_describe.specs.Order.{IsBefore}
+use Rattle.gix_describe.specs.Order.{Ranking, IsBefore, tie_rank}
 
 -- Whether an edge leads from a to b.
 abbrev pub is_edge : History → ObjectId → ObjectId → Bool
@@ -45,11 +45,11 @@ abbrev pub is_named : Names → ObjectId → Bool
 is_named names c = is_some (name_at names c)
 
 -- Commit x is open, and comes first of the open commits.
-abbrev pub IsNext : History → ObjectId → List ObjectId → ObjectId → Type 0
-IsNext h s popped x =
-    IsTrue (is_open h s popped x) × ((d : ObjectId) → IsTrue (is_open h s popped d) → (d ≡ x) ⊎ IsBefore h x d)
+abbrev pub IsNext : Ranking → History → ObjectId → List ObjectId → ObjectId → Type 0
+IsNext ranks h s popped x =
+    IsTrue (is_open h s popped x) × ((d : ObjectId) → IsTrue (is_open h s popped d) → (d ≡ x) ⊎ IsBefore (tie_rank ranks h s popped) h x d)
 
 -- Each popped commit came first of the commits that were open before it.
-pub data IsWalk (h : History) (s : ObjectId) : List ObjectId → Type 0 where
-  begins : IsWalk h s []
-  goes : (xs ys : List ObjectId) (x : ObjectId) → ys ≡ xs ++ x ∷ [] → IsWalk h s xs → IsNext h s xs x → IsWalk h s ys
+pub data IsWalk (ranks : Ranking) (h : History) (s : ObjectId) : List ObjectId → Type 0 where
+  begins : IsWalk ranks h s []
+  goes : (xs ys : List ObjectId) (x : ObjectId) → ys ≡ xs ++ x ∷ [] → IsWalk ranks h s xs → IsNext ranks h s xs x → IsWalk ranks h s ys

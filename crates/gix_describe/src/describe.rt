@@ -17,7 +17,7 @@ mod walk;
 pub use format::Format;
 pub use function::{counted, counted_by, describe};
 pub use nearest::Nearest;
-pub use options::{Manner, Names, Options};
+pub use options::{Manner, Names, Options, Tie};
 pub use outcome::Outcome;
 pub use queries::{Answer, Query, run};
 

@@ -9,7 +9,6 @@
 
 ghost use Rattle.std.specs.Prelude.{◌≡◌, ◌<◌, ◌||◌, List, [], ◌∷◌, ◌++◌, length, Some, None, IsTrue, IsOk, is_some, IfSome, IfOk, OnOk, OnErr, false, map};
 ghost use Rattle.std.specs.Option.{option_map};
-ghost use Rattle.std.specs.List.{IsDistinct, sum_by};
 ghost use Rattle.gix_base.specs.declared.hash.ObjectId.{ObjectId};
 ghost use Rattle.gix_revwalk.specs.Faults.{count_after, is_source_fault};
 ghost use Rattle.gix_revwalk.specs.History.{entry_at, parents_in};
@@ -20,8 +19,8 @@ ghost use Rattle.gix_revwalk.specs.Number.{place_in};
 ghost use Rattle.gix_revwalk.specs.Pasts.{link_id};
 ghost use Rattle.gix_revwalk.specs.Numbers.{number_at, named, value_at, item_at, Grows, Puts};
 ghost use Rattle.gix_revwalk.specs.Walks.{HoldsMore};
-ghost use Rattle.gix_revwalk.specs.Nodes.{unturned, node_lacks};
-ghost use Rattle.gix_revwalk.specs.Noted.{noted_at, unnoted_lacks};
+ghost use Rattle.gix_revwalk.specs.Nodes.{unturned};
+ghost use Rattle.gix_revwalk.specs.Noted.{noted_at};
 ghost use Rattle.gix_revwalk.specs.History.{same_id};
 ghost use Rattle.gix_revwalk.specs.Rows.{AreNumbers};
 
@@ -552,36 +551,6 @@ pub fn is_noted<S: Find, T: Held, A: Allocator>(graph: &Graph<S, T, A>, number: 
         → result ≡ noted_at graph.now id }
 {
     graph.nodes[number.place()].turn == graph.turn
-}
-
-/// Counts the nodes of another turn whose value lacks the bit at `place`.
-fn nodes_lacking(nodes: &[Node<u32>], turn: u32, place: usize) -> usize
-    requires few { place < 32 }
-    ensures { result ≡ sum_by (node_lacks turn place) nodes.now }
-{
-    let mut lacking = nodes.len();
-    for node in nodes {
-        if node.turn == turn || (node.value >> place) & 1 == 1 {
-            lacking -= 1;
-        }
-    }
-    lacking
-}
-
-/// Counts the held ids that the current walk has not noted and whose value lacks the bit at
-/// `place`.
-pub fn unnoted_lacking<S: Find, A: Allocator>(graph: &Graph<S, u32, A>, place: usize) -> usize
-    // A `u32` has a bit at `place`.
-    requires few { place < 32 }
-
-    // No id is held twice.
-    ensures once { IsDistinct same_id (held_ids graph.now) }
-
-    // The answer is the number of held ids that the current walk has not noted and whose value
-    // lacks the bit at `place`.
-    ensures count { result ≡ sum_by (unnoted_lacks graph.now place) (held_ids graph.now) }
-{
-    nodes_lacking(&graph.nodes, graph.turn, place)
 }
 
 /// Sets the turn of each node to 0.

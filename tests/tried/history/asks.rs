@@ -3,9 +3,11 @@
 use crate::history::fake::{Fake, id_of};
 use gix_history::{History, ReadError};
 use gix_questions::{AheadBehind, Contains, Describe, IsAncestor, MergeBases};
-use gix_revision::describe::Options;
+use gix_revision::Seed;
+use gix_revision::describe::{Manner, Names, Tie};
 use std::alloc::Allocator;
 use std::borrow::CowSlice;
+use std::collections::HashMap;
 use std::marker::Brand;
 
 /// Tells whether the merge base of the two tips is the fork.
@@ -61,16 +63,20 @@ pub(crate) fn describes<A: Allocator + Copy>(
     alloc: A,
     history: &mut History<Fake, A>,
 ) -> Result<bool, ReadError> {
-    let mut options = Options::new(alloc);
-    options
-        .name_by_oid
-        .insert(id_of(98), CowSlice::Borrowed(b"v1"))?;
+    let mut names: Names<'static, A> = HashMap::with_hasher(alloc, Seed::default());
+    names.insert(id_of(98), CowSlice::Borrowed(b"v1"))?;
     let question = Describe {
         alloc,
         commit: id_of(118),
-        options,
+        names,
+        manner: Manner {
+            max_candidates: 10,
+            fallback_to_oid: false,
+            first_parent: false,
+            tie: Tie::ByMeeting,
+        },
     };
-    match history.ask::<Brand, Describe<'_, A>>(alloc, &question)? {
+    match history.ask::<Brand, _>(alloc, &question)? {
         Ok(Some(found)) => Ok(found.depth == 10),
         _ => Ok(false),
     }

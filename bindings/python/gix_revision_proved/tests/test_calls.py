@@ -154,6 +154,10 @@ class Calls(unittest.TestCase):
             self.history.describe(id_of(0x99), names)
         long = [(id_of(0x11), b"v" * 100)]
         self.assertEqual(self.history.describe(id_of(0x11), long), Description(b"v" * 100, 0))
+        # Both names are equally near; git takes the one that it visits first.
+        near = [(id_of(0x22), "b"), (id_of(0x33), "a")]
+        self.assertEqual(str(self.history.describe(id_of(0x44), near)), "a-2-g4444444")
+        self.assertEqual(str(self.history.describe(id_of(0x44), near, git_order=True)), "b-2-g4444444")
 
     def test_prepared_names(self) -> None:
         names = Names((id_of(byte), text) for byte, text in [(0x11, "v1"), (0x22, "é"), (0x22, "second")])

@@ -86,6 +86,7 @@ pub struct gix_how {
     pub first_parent: bool,
     pub fallback_to_id: bool,
     pub long_form: bool,
+    pub git_order: bool,
 }
 
 #[repr(C)]

@@ -296,6 +296,10 @@ pub struct How {
     pub fallback_to_id: bool,
     /// Print depth and digits also if the commit itself has a name. Ignored if `hex_len` is 0.
     pub long_form: bool,
+    /// Choose among equally near names as git does: of commits with the same date visit the one that
+    /// was met first, and take the name that was visited first. Otherwise the smaller id and the
+    /// smaller name come first.
+    pub git_order: bool,
 }
 
 impl How {
@@ -306,6 +310,7 @@ impl How {
             first_parent,
             fallback_to_id,
             long_form,
+            git_order,
         } = self;
         sys::gix_how {
             size: size_of::<sys::gix_how>(),
@@ -314,6 +319,7 @@ impl How {
             first_parent,
             fallback_to_id,
             long_form,
+            git_order,
         }
     }
 }
@@ -327,6 +333,7 @@ impl Default for How {
             first_parent: false,
             fallback_to_id: false,
             long_form: false,
+            git_order: false,
         }
     }
 }

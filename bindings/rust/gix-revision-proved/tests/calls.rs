@@ -209,6 +209,16 @@ fn commits_are_described() -> Result<(), Error> {
     assert_eq!(found, Some((b"v1".to_vec(), 3)));
     let found = history.describe(id(0x44), &[], how)?;
     assert_eq!(found, Some((b"4".repeat(40), 0)));
+    // Both names are equally near; git takes the one that it visits first.
+    let near: [(Id, &[u8]); 2] = [(id(0x22), b"b"), (id(0x33), b"a")];
+    for (git_order, text) in [(false, b"a-2-g4444444"), (true, b"b-2-g4444444")] {
+        let how = How {
+            git_order,
+            ..How::default()
+        };
+        let found = history.describe(id(0x44), &near, how)?;
+        assert_eq!(found, Some((text.to_vec(), 2)));
+    }
     let long = [b'v'; 100];
     assert_eq!(
         history.describe(id(0x11), &[(id(0x11), &long)], How::default())?,

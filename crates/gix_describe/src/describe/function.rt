@@ -13,7 +13,7 @@ ghost use Rattle.gix_describe.specs.Ties.{Holds, HoldsAtFault, Ties};
 ghost use Rattle.gix_revwalk.specs.Graph.{held_at};
 
 use crate::describe::nearest::Nearest;
-use crate::describe::options::{Manner, Names, Options};
+use crate::describe::options::{Manner, Names, Options, Tie};
 use crate::describe::outcome::Outcome;
 use crate::describe::walk::{Found, Search, find_name};
 use gix_base::error::Message;
@@ -106,8 +106,9 @@ fn room(max_candidates: usize) -> usize
 
 /// Finds a name as [`counted`] does, by names that stay with the caller.
 ///
-/// A program that describes many commits makes the map of names once. Answer, count, graph and
-/// errors are those of [`counted`] with options that have these names and this manner.
+/// A program that describes many commits makes the map of names once. With `Tie::ById`, answer,
+/// count, graph and errors are those of [`counted`] with options that have these names and the rest of
+/// the manner. With `Tie::ByMeeting` they are those of a walk in git's order.
 ///
 /// # Errors
 ///
@@ -130,19 +131,19 @@ pub fn counted_by<'name, S: Find, A: Allocator + Copy>(
 
     // If the history is walked, an answer with a name is the fixed answer (`IsTied`): the name, the
     // depth and the number of commits seen.
-    ensures tied { IfOk result (λ r. Ties (S.history graph.old.source) commit.now
+    ensures tied { IfOk result (λ r. Ties manner.tie (S.history graph.old.source) commit.now
         (options_by names.now manner) (outcomes_by names.now r.0)) }
 
     // If the history is walked and the answer has `n` commits seen, the graph holds exactly
     // `commit` and, of the followed parents of the first `n - 1` commits in the walking order,
     // those that the history has.
-    ensures held { IfOk result (λ r. Holds (S.history graph.old.source) commit.now
+    ensures held { IfOk result (λ r. Holds manner.tie (S.history graph.old.source) commit.now
         (options_by names.now manner) (outcomes_by names.now r.0) (held_at graph.new)) }
 
     // The number of pops is 0 without a walk. If the walk finds no name, it is the number of
     // followed ancestors. Otherwise it is the number of commits seen, and one more exactly if only
     // a lack of room caused the cut. It is at most one more than the number of followed ancestors.
-    ensures pops { IfOk result (λ r. CountsPops (S.history graph.old.source) commit.now
+    ensures pops { IfOk result (λ r. CountsPops manner.tie (S.history graph.old.source) commit.now
         (options_by names.now manner) (outcomes_by names.now r.0) r.1) }
 
     // `ParentsOf` names `commit` or an ancestor of it. `MissingStart` names `commit`, which the
@@ -154,7 +155,7 @@ pub fn counted_by<'name, S: Find, A: Allocator + Copy>(
     // After `ParentsOf`, either the error names `commit` and the graph holds nothing, or the graph
     // holds `commit`, those followed parents of all commits walked before the named one that the
     // history has, and apart from these only followed parents of the named one (`StandsAt`).
-    ensures fault { IfErr result (λ e. HoldsAtFault (S.history graph.old.source) commit.now
+    ensures fault { IfErr result (λ e. HoldsAtFault manner.tie (S.history graph.old.source) commit.now
         (options_by names.now manner) e (held_at graph.new)) }
 
     // Also after an error, the graph is unchanged if the history is not walked.
@@ -185,6 +186,7 @@ pub fn counted_by<'name, S: Find, A: Allocator + Copy>(
         start: *commit,
         cap: room(manner.max_candidates),
         first_parent: manner.first_parent,
+        tie: manner.tie,
     };
     let found = find_name(alloc, names, search, graph)?;
     let Found { best, seen, pops } = found;
@@ -241,19 +243,19 @@ pub fn counted<'name, S: Find, A: Allocator + Copy>(
     // If the history is walked, an answer with a name is the fixed answer (`IsTied`): the name, the
     // depth and the number of commits seen.
     ensures tied { IfOk result
-        (λ r. Ties (S.history graph.old.source) commit.now options.entry r.0) }
+        (λ r. Ties Tie.ById (S.history graph.old.source) commit.now options.entry r.0) }
 
     // If the history is walked and the answer has `n` commits seen, the graph holds exactly
     // `commit` and, of the followed parents of the first `n - 1` commits in the walking order,
     // those that the history has.
     ensures held { IfOk result
-        (λ r. Holds (S.history graph.old.source) commit.now options.entry r.0 (held_at graph.new)) }
+        (λ r. Holds Tie.ById (S.history graph.old.source) commit.now options.entry r.0 (held_at graph.new)) }
 
     // The number of pops is 0 without a walk. If the walk finds no name, it is the number of
     // followed ancestors. Otherwise it is the number of commits seen, and one more exactly if only
     // a lack of room caused the cut. It is at most one more than the number of followed ancestors.
     ensures pops { IfOk result
-        (λ r. CountsPops (S.history graph.old.source) commit.now options.entry r.0 r.1) }
+        (λ r. CountsPops Tie.ById (S.history graph.old.source) commit.now options.entry r.0 r.1) }
 
     // `ParentsOf` names `commit` or an ancestor of it. `MissingStart` names `commit`, which the
     // history does not have. `CounterFull` means that 2^32 or more commits are reachable. These
@@ -265,7 +267,7 @@ pub fn counted<'name, S: Find, A: Allocator + Copy>(
     // holds `commit`, those followed parents of all commits walked before the named one that the
     // history has, and apart from these only followed parents of the named one (`StandsAt`).
     ensures fault { IfErr result (λ e.
-        HoldsAtFault (S.history graph.old.source) commit.now options.entry e (held_at graph.new)) }
+        HoldsAtFault Tie.ById (S.history graph.old.source) commit.now options.entry e (held_at graph.new)) }
 
     // Also after an error, the graph is unchanged if the history is not walked.
     ensures untouched { (¬ Walks commit.now options.entry) → graph.new ≡ graph.old }
@@ -292,6 +294,7 @@ pub fn counted<'name, S: Find, A: Allocator + Copy>(
         max_candidates,
         fallback_to_oid,
         first_parent,
+        tie: Tie::ById,
     };
     let (found, pops) = counted_by(alloc, commit, graph, &name_by_oid, manner)?;
     Ok((with_names(found, name_by_oid), pops))
@@ -367,13 +370,13 @@ pub fn describe<'name, S: Find, A: Allocator + Copy>(
     // If the history is walked, an answer with a name is the fixed answer (`IsTied`): the name, the
     // depth and the number of commits seen.
     ensures tied { IfOk result
-        (Ties (S.history graph.old.source) commit.now options.entry) }
+        (Ties Tie.ById (S.history graph.old.source) commit.now options.entry) }
 
     // If the history is walked and the answer has `n` commits seen, the graph holds exactly
     // `commit` and, of the followed parents of the first `n - 1` commits in the walking order,
     // those that the history has.
     ensures held { IfOk result
-        (λ r. Holds (S.history graph.old.source) commit.now options.entry r (held_at graph.new)) }
+        (λ r. Holds Tie.ById (S.history graph.old.source) commit.now options.entry r (held_at graph.new)) }
 
     // `ParentsOf` names `commit` or an ancestor of it. `MissingStart` names `commit`, which the
     // history does not have. `CounterFull` means that 2^32 or more commits are reachable. These
@@ -385,7 +388,7 @@ pub fn describe<'name, S: Find, A: Allocator + Copy>(
     // holds `commit`, those followed parents of all commits walked before the named one that the
     // history has, and apart from these only followed parents of the named one (`StandsAt`).
     ensures fault { IfErr result (λ e.
-        HoldsAtFault (S.history graph.old.source) commit.now options.entry e (held_at graph.new)) }
+        HoldsAtFault Tie.ById (S.history graph.old.source) commit.now options.entry e (held_at graph.new)) }
 
     // Also after an error, the graph is unchanged if the history is not walked.
     ensures untouched { (¬ Walks commit.now options.entry) → graph.new ≡ graph.old }

@@ -1,10 +1,10 @@
 //! Loads the commits that a walk meets.
 
-ghost use Rattle.std.specs.Prelude.{◌≡◌, ◌&&◌, IfOk, IfSome, OnErr, OnOk, Some, None, is_some, cond, false, map, min};
+ghost use Rattle.std.specs.Prelude.{◌≡◌, ◌&&◌, ◌++◌, ◌∷◌, [], IfOk, IfSome, OnErr, OnOk, Some, None, is_some, cond, false, map, min};
 ghost use Rattle.gix_revwalk.specs.Followed.{followed};
 ghost use Rattle.gix_revwalk.specs.Pasts.{link_id};
 ghost use Rattle.gix_revwalk.specs.History.{History, entry_at, parents_in, same_id};
-ghost use Rattle.gix_revwalk.specs.Graph.{held_at};
+ghost use Rattle.gix_revwalk.specs.Graph.{held_at, held_ids};
 ghost use Rattle.gix_revwalk.specs.Noted.{noted_at};
 ghost use Rattle.gix_revwalk.specs.Numbers.{number_at};
 ghost use Rattle.std.specs.Option.{option_map};
@@ -133,6 +133,8 @@ fn ask_in<S: Find, A: Allocator + Copy>(
         (IsMet (followed first_parent (S.history graph.old.source)) id)) }
     ensures held { IfOk result (λ found. (q : ObjectId) → held_at graph.new q
         ≡ cond (is_some found && same_id id q) (Some marks) (held_at graph.old q)) }
+    ensures ids { IfOk result (λ found. held_ids graph.new
+        ≡ cond (is_some found) (held_ids graph.old ++ id ∷ []) (held_ids graph.old)) }
     ensures number { IfOk result (λ found. IfSome found (λ m. IsNumbered graph.new m.1)) }
     ensures numbers { OnOk result (KeepsNumbers graph.old graph.new) }
     ensures noted { OnOk result ((q : ObjectId) → noted_at graph.new q ≡ noted_at graph.old q) }
@@ -180,6 +182,8 @@ pub(crate) fn take_in<S: Find, A: Allocator + Copy>(
         (IsMet (followed first_parent (S.history graph.old.source)) id.now)) }
     ensures held { IfOk result (λ found. (q : ObjectId) → held_at graph.new q
         ≡ cond (is_some found && same_id id.now q) (Some marks) (held_at graph.old q)) }
+    ensures ids { IfOk result (λ found. held_ids graph.new
+        ≡ cond (is_some found) (held_ids graph.old ++ id.now ∷ []) (held_ids graph.old)) }
     ensures number { IfOk result (λ found. IfSome found (λ m. IsNumbered graph.new m.1)) }
     ensures numbers { OnOk result (KeepsNumbers graph.old graph.new) }
     ensures noted { OnOk result ((q : ObjectId) → noted_at graph.new q ≡ noted_at graph.old q) }

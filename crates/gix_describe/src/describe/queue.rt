@@ -139,6 +139,17 @@ impl<A: Allocator> Queue<A> {
         Some(commit_at(key, place))
     }
 
+    /// Returns the number of queued commits.
+    #[inline(always)]
+    pub(crate) fn len(&self) -> usize
+        ensures { result ≡ length self.now }
+    {
+        if let Some(_) = self.alone {
+            return 1;
+        }
+        self.places.len()
+    }
+
     /// Tests whether the queue is empty.
     #[inline(always)]
     pub(crate) fn is_empty(&self) -> bool

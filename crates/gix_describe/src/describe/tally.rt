@@ -1,10 +1,10 @@
-//! Counts how many of the queued commits do not have a mark, while marks are handed on.
+//! Counts, for each candidate, the queued commits that do not have its mark.
 
-ghost use Rattle.std.specs.Prelude.{◌≡◌, ◌<◌, ◌+◌, ◌-◌, ℕ, IfSome, None, OnOk, Option, Some, cond};
+ghost use Rattle.std.specs.Prelude.{◌≡◌, ◌<◌, ◌≤◌, ◌+◌, ◌-◌, ℕ, OnOk, length, slice_index};
 ghost use Rattle.std.specs.Int.{bit_at};
 ghost use Rattle.gix_describe.specs.Lacking.{lacks};
 
-use std::alloc::AllocError;
+use std::alloc::{AllocError, Allocator};
 
 /// Returns the bit at a place.
 #[inline(always)]
@@ -19,86 +19,58 @@ pub(crate) fn bit_of(marks: u32, place: usize) -> u32
 #[inline(always)]
 fn lack_of(marks: u32, place: usize) -> usize
     requires few { place < 32 }
-    ensures { result ≡ lacks (Some place) marks }
+    ensures { result ≡ lacks place marks }
 {
     1 - bit_of(marks, place) as usize
 }
 
-/// A counter that is notified of each commit that gets marks.
+/// Records that a commit with these marks is queued.
 ///
-/// An implementor names the place of the mark that it looks for, if any, and its count of the
-/// queued commits without that mark.
-pub(crate) trait Tally {
-    ghost looked_for: { Self → Option ℕ };
-
-    ghost lacking: { Self → ℕ };
-
-    /// Records that a held commit with the marks `old` gets `marks` as well.
-    fn marked(&mut self, old: u32, marks: u32, queued: bool)
-        requires few { IfSome (looked_for self.old) (λ j. j < 32) }
-        ensures place { looked_for self.new ≡ looked_for self.old }
-        ensures counted { lacking self.new ≡ cond queued
-            (lacking self.old - (lacks (looked_for self.old) old - lacks (looked_for self.old) marks))
-            (lacking self.old) };
-
-    /// Records that a commit is queued with these marks.
-    ///
-    /// # Errors
-    ///
-    /// The count is full.
-    fn entered(&mut self, marks: u32) -> Result<(), AllocError>
-        requires few { IfSome (looked_for self.old) (λ j. j < 32) }
-        ensures place { looked_for self.new ≡ looked_for self.old }
-        ensures counted { OnOk result
-            (lacking self.new ≡ lacking self.old + lacks (looked_for self.old) marks) };
+/// # Errors
+///
+/// A count is full.
+#[inline(always)]
+pub(crate) fn enter<A: Allocator>(lacking: &mut Vec<usize, A>, marks: u32) -> Result<(), AllocError>
+    requires few { length lacking.old.items ≤ 32 }
+    ensures len { length lacking.new.items ≡ length lacking.old.items }
+    ensures entered { OnOk result ((k : ℕ) → k < length lacking.old.items
+        → slice_index lacking.new.items k ≡ slice_index lacking.old.items k + lacks k marks) }
+{
+    for i in 0..lacking.len() {
+        let Some(count) = lacking[i].checked_add(lack_of(marks, i)) else {
+            return Err(AllocError);
+        };
+        lacking[i] = count;
+    }
+    Ok(())
 }
 
-/// A counter that looks for no mark and counts nothing.
-#[derive(Drop)]
-pub(crate) struct Uncounted;
-
-impl Tally for Uncounted {
-    ghost looked_for = { λ _. None };
-
-    ghost lacking = { λ _. 0 };
-
-    #[inline(always)]
-    fn marked(&mut self, _old: u32, _marks: u32, _queued: bool) {}
-
-    #[inline(always)]
-    fn entered(&mut self, _marks: u32) -> Result<(), AllocError> {
-        Ok(())
+/// Records that a queued commit with the marks `old` gets `marks` as well.
+#[inline(always)]
+pub(crate) fn gain<A: Allocator>(lacking: &mut Vec<usize, A>, old: u32, marks: u32)
+    requires few { length lacking.old.items ≤ 32 }
+    ensures len { length lacking.new.items ≡ length lacking.old.items }
+    ensures gained { (k : ℕ) → k < length lacking.old.items
+        → slice_index lacking.new.items k ≡ slice_index lacking.old.items k - (lacks k old - lacks k marks) }
+{
+    if old | marks == old {
+        return;
+    }
+    for i in 0..lacking.len() {
+        let gained = lack_of(old, i).saturating_sub(lack_of(marks, i));
+        lacking[i] = lacking[i].saturating_sub(gained);
     }
 }
 
-/// A count of the queued commits that do not have the mark of a place.
-#[derive(Drop)]
-pub(crate) struct Lacking {
-    pub(crate) place: usize,
-    pub(crate) count: usize,
-}
-
-impl Tally for Lacking {
-    ghost looked_for = { λ l. Some l.place };
-
-    ghost lacking = { λ l. l.count };
-
-    #[inline(always)]
-    fn marked(&mut self, old: u32, marks: u32, queued: bool) {
-        if queued {
-            let gained = lack_of(old, self.place).saturating_sub(lack_of(marks, self.place));
-            self.count = self.count.saturating_sub(gained);
-        }
-    }
-
-    #[inline(always)]
-    fn entered(&mut self, marks: u32) -> Result<(), AllocError> {
-        match self.count.checked_add(lack_of(marks, self.place)) {
-            Some(count) => {
-                self.count = count;
-                Ok(())
-            }
-            None => Err(AllocError),
-        }
+/// Records that a commit with these marks has left the queue.
+#[inline(always)]
+pub(crate) fn leave<A: Allocator>(lacking: &mut Vec<usize, A>, marks: u32)
+    requires few { length lacking.old.items ≤ 32 }
+    ensures len { length lacking.new.items ≡ length lacking.old.items }
+    ensures left { (k : ℕ) → k < length lacking.old.items
+        → slice_index lacking.new.items k ≡ slice_index lacking.old.items k - lacks k marks }
+{
+    for i in 0..lacking.len() {
+        lacking[i] = lacking[i].saturating_sub(lack_of(marks, i));
     }
 }

@@ -5,13 +5,16 @@
 //!
 //! 1. Answer without a walk if the commit has a name, or if there is no name to find. Otherwise
 //!    empty the graph and queue the commit.
-//! 2. Pop the newest commit; on equal times, the one with the smaller id.
+//! 2. Pop the newest commit; on equal times, the one with the smaller id, or the one that was met first.
 //! 3. If it has a name, it becomes a candidate with a mark bit of its own. If there is no room for
-//!    one more (`max_candidates`, at most 32), put it back and go to step 5.
-//! 4. Count the commit for each candidate whose mark it lacks, hand its marks to its parents, and
-//!    queue those that are new to the graph. Stop if the popped commit was the last one and has the
-//!    marks of all nearest candidates, or if the queue is empty.
-//! 5. Choose the nearest candidate, then the smaller name, then the smaller id. If there was no
+//!    one more (`max_candidates`, at most 32), put it back, behind all that were met before, and go
+//!    to step 5.
+//! 4. Count the commit for each candidate whose mark it lacks. Stop if it and everything that is
+//!    queued have the marks of all nearest candidates (by id, only if nothing is queued). Otherwise
+//!    hand its marks to its parents, and queue those that are new to the graph. Stop if the queue is
+//!    empty.
+//! 5. Choose the nearest candidate, then the smaller name, then the smaller id, or the one that was
+//!    popped first. If there was no
 //!    room, go on until all that is queued has its mark; each popped commit without it adds one to
 //!    the depth.
 //!
@@ -23,15 +26,14 @@
 //!   An edge that a walk has followed before needs no hash; a new one looks up the parent's id.
 //! - The sieve has 4,096 bits (`sieve.rt`). A commit whose bit is clear has no name, without a
 //!   look-up.
-//! - In step 5 a running count says how many queued commits lack the mark (`tally.rt`), so that no
-//!   walk scans its queue. The graph notes what has left the queue; the count begins with the held
-//!   commits that are neither noted nor marked.
+//! - For each candidate a running count says how many queued commits lack its mark (`tally.rt`), so
+//!   that no walk scans its queue. The graph notes what has left the queue.
 
-ghost use Rattle.std.specs.Prelude.{◌≡◌, ◌≤◌, ◌<◌, ◌+◌, ◌^◌, ◌++◌, ◌∷◌, [], ℕ, IfOk, IfErr, IfSome, IsNone, OnOk, Some, None, List, cond, bit_or, length, get_or, MatchBool, MatchOption, false};
+ghost use Rattle.std.specs.Prelude.{◌≡◌, ◌≤◌, ◌<◌, ◌↔◌, ◌+◌, ◌^◌, ◌++◌, ◌∷◌, [], ℕ, IsTrue, IfOk, IfErr, IfSome, IsNone, OnOk, Some, None, List, cond, bit_or, length, get_or, MatchBool, MatchOption, false};
 ghost use Rattle.std.specs.Option.{option_map};
 ghost use Rattle.std.specs.List.Sorted.{IsPermutation};
 ghost use Rattle.gix_base.specs.declared.hash.ObjectId.{ObjectId};
-ghost use Rattle.gix_revwalk.specs.Graph.{held_at};
+ghost use Rattle.gix_revwalk.specs.Graph.{held_at, held_ids};
 ghost use Rattle.gix_revwalk.specs.Noted.{noted_at};
 ghost use Rattle.gix_revwalk.specs.History.{History, same_id};
 ghost use Rattle.std.specs.Ordering.{is_lt, is_gt};
@@ -40,21 +42,22 @@ ghost use Rattle.gix_describe.specs.DescribeRefusals.{refusal};
 ghost use Rattle.gix_describe.specs.Choice.{rank_order, rank_at, name_of, IsChosen, IsFound};
 ghost use Rattle.gix_describe.specs.Counted.{CountsNamed};
 ghost use Rattle.gix_describe.specs.Described.{name_at};
-ghost use Rattle.gix_describe.specs.Handing.{bits};
-ghost use Rattle.gix_describe.specs.Lacking.{lacks, lacking_in};
+ghost use Rattle.gix_describe.specs.Handing.{Settles};
 ghost use Rattle.gix_describe.specs.Numbered.{IsNumbered, KeepsNumbers};
 ghost use Rattle.gix_describe.specs.Order.{HoldsFirst, IsTied};
 ghost use Rattle.gix_describe.specs.Outcomes.{names_of};
 ghost use Rattle.gix_describe.specs.Sieve.{LetsPass};
 ghost use Rattle.gix_describe.specs.Searches.{along, RestsBy, TakesBy, AdmitsBy, IsEndedBy, IsFullBy, CompletesBy, CompletesTakenBy, IsCompleteBy, IsHeldAtFaultBy, AsksBy};
 
-use crate::describe::handing::{Hand, count_late, hand_on, is_settled, mark, marks_of};
+use crate::describe::handing::{
+    Hand, count_late, hand_on, is_settled, mark, marks_of, rank_behind,
+};
 use crate::describe::key::Key;
 use crate::describe::met::{Met, take_in};
-use crate::describe::options::Names;
+use crate::describe::options::{Names, Tie};
 use crate::describe::queue::Queue;
 use crate::describe::sieve::{Sieve, has_name};
-use crate::describe::tally::{Lacking, Uncounted, bit_of};
+use crate::describe::tally::{bit_of, leave};
 use gix_base::error::Message;
 use gix_base::hash::ObjectId;
 use gix_revwalk::graph::{Find, Graph};
@@ -62,12 +65,14 @@ use gix_revwalk::numbers::{self, Link};
 use std::alloc::Allocator;
 use std::cmp::Ordering;
 
-/// What is searched: the start, how many names are weighed, and which parents are followed.
+/// What is searched: the start, how many names are weighed, which parents are followed, and which of
+/// two commits or names comes first.
 #[derive(Clone, Copy)]
 pub(crate) struct Search {
     pub(crate) start: ObjectId,
     pub(crate) cap: usize,
     pub(crate) first_parent: bool,
+    pub(crate) tie: Tie,
 }
 
 /// The queue, and the named commits that were popped (the candidates), each with its count.
@@ -78,6 +83,8 @@ pub(crate) struct Walk<A: Allocator> {
     queue: Queue<A>,
     candidates: Vec<ObjectId, A>,
     counts: Vec<u32, A>,
+    /// How many queued commits do not have the mark of each candidate.
+    lacking: Vec<usize, A>,
     seen: u32,
     /// The parents of the commit whose marks are being handed on.
     row: Vec<Link, A>,
@@ -94,7 +101,8 @@ fn name_bytes<'a, 'name, A: Allocator + Copy>(names: &'a Names<'name, A>, id: &O
 }
 
 impl<A: Allocator + Copy> Walk<A> {
-    ghost use Rattle.gix_describe.specs.Handing.{IsEntry};
+    ghost use Rattle.gix_describe.specs.Handing.{HaveRanks, IsEntry};
+    ghost use Rattle.gix_describe.specs.Order.{PutBack, Ranking, tie_rank};
     ghost use Rattle.gix_describe.specs.Trace.{is_open, IsNext, IsWalk};
     ghost use Rattle.gix_describe.specs.WalkState.{others, IsQueue};
 
@@ -128,6 +136,7 @@ impl<A: Allocator + Copy> Walk<A> {
         let mut queue = Queue::new(alloc);
         let key = Key {
             time: i64::MAX,
+            rank: 0,
             id: start,
         };
         if queue.insert(key, met).is_err() {
@@ -137,6 +146,7 @@ impl<A: Allocator + Copy> Walk<A> {
             queue,
             candidates: Vec::new(alloc),
             counts: Vec::new(alloc),
+            lacking: Vec::new(alloc),
             seen: 0,
             row: Vec::new(alloc),
         })
@@ -145,12 +155,14 @@ impl<A: Allocator + Copy> Walk<A> {
     /// Pops the next commit, with its key; `None` if the queue is empty.
     fn next(&mut self) -> Option<(Key, Met)>
         ensures none { IsNone result → self.old.queue ≡ [] }
-        ensures next { IfSome result (λ p. (h : History) (s : ObjectId) (popped : List ObjectId) → IsWalk h s popped
-            → IsQueue h s self.old.queue (is_open h s popped)
-            → IsNext h s popped p.1.id × IsEntry h s p × IsQueue h s self.new.queue (others h s popped p.1.id)) }
+        ensures next { IfSome result (λ p. (ranks : Ranking) (h : History) (s : ObjectId) (popped : List ObjectId)
+            → IsWalk ranks h s popped → IsQueue h s self.old.queue (is_open h s popped)
+            → HaveRanks (tie_rank ranks h s popped) self.old.queue
+            → IsNext ranks h s popped p.1.id × IsEntry h s p × IsQueue h s self.new.queue (others h s popped p.1.id)) }
         ensures taken { IfSome result (λ p. IsPermutation self.old.queue (p ∷ self.new.queue)) }
         ensures candidates { self.new.candidates ≡ self.old.candidates }
         ensures counts { self.new.counts ≡ self.old.counts }
+        ensures lacking { self.new.lacking ≡ self.old.lacking }
         ensures seen { self.new.seen ≡ self.old.seen }
     {
         self.queue.pop()
@@ -163,7 +175,9 @@ impl<A: Allocator + Copy> Walk<A> {
         requires numbered { IsNumbered graph.old met.now }
         ensures candidates { OnOk result (self.new.candidates.items ≡ self.old.candidates.items ++ met.now.id ∷ []) }
         ensures counts { OnOk result (self.new.counts.items ≡ self.old.counts.items ++ self.old.seen ∷ []) }
+        ensures lacking { OnOk result (self.new.lacking.items ≡ self.old.lacking.items ++ length self.old.queue ∷ []) }
         ensures numbers { KeepsNumbers graph.old graph.new }
+        ensures ids { held_ids graph.new ≡ held_ids graph.old }
         ensures noted { (q : ObjectId) → noted_at graph.new q ≡ noted_at graph.old q }
         ensures marks { (q : ObjectId) → held_at graph.new q ≡ cond (same_id met.now.id q)
             (option_map (λ k. bit_or k (2 ^ length self.old.candidates.items)) (held_at graph.old q)) (held_at graph.old q) }
@@ -173,14 +187,17 @@ impl<A: Allocator + Copy> Walk<A> {
         ensures refused { IfErr result (λ e. e ≡ Message.OutOfMemory) }
     {
         let _ = mark(met.number, 1 << self.candidates.len(), graph);
-        if self.candidates.push(met.id).is_err() || self.counts.push(self.seen).is_err() {
+        if self.candidates.push(met.id).is_err()
+            || self.counts.push(self.seen).is_err()
+            || self.lacking.push(self.queue.len()).is_err()
+        {
             return Err(Message::OutOfMemory);
         }
         Ok(())
     }
 
     /// Makes a popped commit a candidate if it is named, and returns `true`. If there is no room
-    /// for it, puts it back into the queue and returns `false`.
+    /// for it, puts it back into the queue, behind what was met, and returns `false`.
     fn admit<'name, S: Find>(
         &mut self,
         key: Key,
@@ -208,10 +225,27 @@ impl<A: Allocator + Copy> Walk<A> {
             self.take_up(met, graph)?;
             return Ok(true);
         }
+        let mut key = key;
+        key.rank = rank_behind(search.tie, graph.len())?.saturating_sub(1);
         if self.queue.insert(key, *met).is_err() {
             return Err(Message::OutOfMemory);
         }
         Ok(false)
+    }
+
+    /// Tests whether the walk ends, at a popped commit with these marks: it and everything that is
+    /// queued have the marks of all nearest candidates.
+    fn settles(&self, marks: u32, tie: Tie) -> bool
+        requires few { length self.now.counts.items ≤ 32 }
+        requires each { length self.now.lacking.items ≡ length self.now.counts.items }
+        ensures { IsTrue result
+            ↔ Settles tie self.now.queue self.now.counts.items self.now.lacking.items marks }
+    {
+        let may = match tie {
+            Tie::ById => self.queue.is_empty(),
+            Tie::ByMeeting => true,
+        };
+        may && !self.counts.is_empty() && is_settled(&self.counts, &self.lacking, marks)
     }
 
     /// Counts a popped commit and queues its parents. Returns `true` if the walk ends, because
@@ -240,20 +274,21 @@ impl<A: Allocator + Copy> Walk<A> {
         self.seen += 1;
         let marks = marks_of(met, graph);
         count_late(&mut self.counts, marks);
-        if self.queue.is_empty() && !self.candidates.is_empty() && is_settled(&self.counts, marks) {
+        leave(&mut self.lacking, marks);
+        if self.settles(marks, search.tie) {
             return Ok(true);
         }
         let hand = Hand {
             marks,
             first_parent: search.first_parent,
+            tie: search.tie,
         };
-        let mut uncounted = Uncounted;
         hand_on(
             alloc,
             met,
             hand,
             &mut self.row,
-            &mut uncounted,
+            &mut self.lacking,
             &mut self.queue,
             graph,
         )?;
@@ -299,13 +334,13 @@ impl<A: Allocator + Copy> Walk<A> {
 
     /// Tests whether one candidate comes before another: by the lesser count, then by the smaller
     /// name, then by the smaller id.
-    fn precedes<'name>(&self, i: usize, j: usize, names: &Names<'name, A>) -> bool
+    fn is_named_before<'name>(&self, i: usize, j: usize, names: &Names<'name, A>) -> bool
         requires each { length self.now.counts.items ≡ length self.now.candidates.items }
         requires i { i < length self.now.candidates.items }
         requires j { j < length self.now.candidates.items }
         ensures { (d : ObjectId) → result ≡ is_lt (rank_order
-            (rank_at (names_of names.now.entries) self.now.candidates.items self.now.counts.items d i)
-            (rank_at (names_of names.now.entries) self.now.candidates.items self.now.counts.items d j)) }
+            (rank_at Tie.ById (names_of names.now.entries) self.now.candidates.items self.now.counts.items d i)
+            (rank_at Tie.ById (names_of names.now.entries) self.now.candidates.items self.now.counts.items d j)) }
     {
         let a = self.candidates[i];
         let b = self.candidates[j];
@@ -314,22 +349,49 @@ impl<A: Allocator + Copy> Walk<A> {
         by_name.then(a.cmp(&b)) == Ordering::Less
     }
 
+    /// Tests whether one candidate comes before another: by the lesser count, then by its place.
+    fn is_met_before(&self, i: usize, j: usize) -> bool
+        requires each { length self.now.counts.items ≡ length self.now.candidates.items }
+        requires i { i < length self.now.candidates.items }
+        requires j { j < length self.now.candidates.items }
+        ensures { (names : List (ObjectId × List ℕ)) (d : ObjectId) → result ≡ is_lt (rank_order
+            (rank_at Tie.ByMeeting names self.now.candidates.items self.now.counts.items d i)
+            (rank_at Tie.ByMeeting names self.now.candidates.items self.now.counts.items d j)) }
+    {
+        self.counts[i].cmp(&self.counts[j]).then(i.cmp(&j)) == Ordering::Less
+    }
+
+    /// Tests whether one candidate comes before another.
+    fn precedes<'name>(&self, i: usize, j: usize, names: &Names<'name, A>, tie: Tie) -> bool
+        requires each { length self.now.counts.items ≡ length self.now.candidates.items }
+        requires i { i < length self.now.candidates.items }
+        requires j { j < length self.now.candidates.items }
+        ensures { (d : ObjectId) → result ≡ is_lt (rank_order
+            (rank_at tie (names_of names.now.entries) self.now.candidates.items self.now.counts.items d i)
+            (rank_at tie (names_of names.now.entries) self.now.candidates.items self.now.counts.items d j)) }
+    {
+        match tie {
+            Tie::ById => self.is_named_before(i, j, names),
+            Tie::ByMeeting => self.is_met_before(i, j),
+        }
+    }
+
     /// Returns the place of the first candidate among those up to `i`, if `best` is the first of
     /// those before `i`.
-    fn first_of<'name>(&self, best: usize, i: usize, names: &Names<'name, A>) -> usize
+    fn first_of<'name>(&self, best: usize, i: usize, names: &Names<'name, A>, tie: Tie) -> usize
         requires each { length self.now.counts.items ≡ length self.now.candidates.items }
         requires best { best < length self.now.candidates.items }
         requires i { i < length self.now.candidates.items }
         ensures inside { result < length self.now.candidates.items }
         ensures first { (d : ObjectId)
             → ((k : ℕ) → k < i → is_gt (rank_order
-            (rank_at (names_of names.now.entries) self.now.candidates.items self.now.counts.items d best)
-            (rank_at (names_of names.now.entries) self.now.candidates.items self.now.counts.items d k)) ≡ false)
+            (rank_at tie (names_of names.now.entries) self.now.candidates.items self.now.counts.items d best)
+            (rank_at tie (names_of names.now.entries) self.now.candidates.items self.now.counts.items d k)) ≡ false)
             → (k : ℕ) → k < i + 1 → is_gt (rank_order
-            (rank_at (names_of names.now.entries) self.now.candidates.items self.now.counts.items d result)
-            (rank_at (names_of names.now.entries) self.now.candidates.items self.now.counts.items d k)) ≡ false }
+            (rank_at tie (names_of names.now.entries) self.now.candidates.items self.now.counts.items d result)
+            (rank_at tie (names_of names.now.entries) self.now.candidates.items self.now.counts.items d k)) ≡ false }
     {
-        if self.precedes(i, best, names) {
+        if self.precedes(i, best, names, tie) {
             i
         } else {
             best
@@ -337,45 +399,39 @@ impl<A: Allocator + Copy> Walk<A> {
     }
 
     /// Returns the place of the chosen candidate; `None` if there is no candidate.
-    fn chosen<'name>(&self, names: &Names<'name, A>) -> Option<usize>
+    fn chosen<'name>(&self, names: &Names<'name, A>, tie: Tie) -> Option<usize>
         requires each { length self.now.counts.items ≡ length self.now.candidates.items }
         ensures none { IsNone result → self.now.candidates.items ≡ [] }
-        ensures chosen { IfSome result (IsChosen (names_of names.now.entries) self.now.candidates.items self.now.counts.items) }
+        ensures chosen { IfSome result (IsChosen tie (names_of names.now.entries) self.now.candidates.items self.now.counts.items) }
     {
         if self.candidates.is_empty() {
             return None;
         }
         let mut best = 0;
         for i in 0..self.candidates.len() {
-            best = self.first_of(best, i, names);
+            best = self.first_of(best, i, names, tie);
         }
         Some(best)
     }
 
     /// Counts a popped commit for one candidate and queues its parents. Returns `true` if the count
     /// is complete, because the commit and everything that is queued have the mark of the
-    /// candidate. `lacking` counts those that do not.
+    /// candidate.
     fn pass_for<S: Find>(
         &mut self,
         alloc: A,
         met: &Met,
         place: usize,
         count: u32,
-        lacking: &mut usize,
         search: Search,
         graph: &mut Graph<S, u32, A>,
     ) -> Result<(u32, bool), Message>
-        requires few { place < 32 }
-        requires lacking { lacking.old ≡ lacks (Some place) (bits (held_at graph.old met.now.id))
-            + lacking_in (Some place) (held_at graph.old) self.old.queue }
-        requires taken { (cut : ℕ) × CompletesTakenBy (S.history graph.old.source) search place count met.now cut self.old graph.old }
-        ensures passed { IfOk result (λ r. (cut : ℕ)
+        requires taken { (cut : PutBack) × CompletesTakenBy (S.history graph.old.source) search place count met.now cut self.old graph.old }
+        ensures passed { IfOk result (λ r. (cut : PutBack)
             → CompletesTakenBy (S.history graph.old.source) search place count met.now cut self.old graph.old
             → MatchBool r.1
             (IsCompleteBy (S.history graph.old.source) search place self.old r.0 self.new.seen cut (held_at graph.new))
             (CompletesBy (S.history graph.old.source) search place r.0 cut self.new graph.new)) }
-        ensures lacking { IfOk result (λ r. r.1 ≡ false
-            → lacking.new ≡ lacking_in (Some place) (held_at graph.new) self.new.queue) }
         ensures seen { OnOk result (self.new.seen ≡ self.old.seen + 1) }
         ensures candidates { self.new.candidates ≡ self.old.candidates }
         ensures fault { IfErr result (IsHeldAtFaultBy (S.history graph.old.source) search (held_at graph.new)) }
@@ -385,29 +441,26 @@ impl<A: Allocator + Copy> Walk<A> {
             return Err(Message::CounterFull);
         }
         self.seen += 1;
-        if *lacking == 0 {
+        if self.lacking[place] == 0 {
             return Ok((count, true));
         }
         let marks = marks_of(met, graph);
-        let late = 1 - bit_of(marks, place);
-        let mut left = Lacking {
-            place,
-            count: lacking.saturating_sub(late as usize),
-        };
+        leave(&mut self.lacking, marks);
         let hand = Hand {
             marks,
             first_parent: search.first_parent,
+            tie: search.tie,
         };
         hand_on(
             alloc,
             met,
             hand,
             &mut self.row,
-            &mut left,
+            &mut self.lacking,
             &mut self.queue,
             graph,
         )?;
-        *lacking = left.count;
+        let late = 1 - bit_of(marks, place);
         Ok((count + late, false))
     }
 
@@ -420,26 +473,16 @@ impl<A: Allocator + Copy> Walk<A> {
         search: Search,
         graph: &mut Graph<S, u32, A>,
     ) -> Result<u32, Message>
-        requires few { place < 32 }
-        requires completes { CompletesBy (S.history graph.old.source) search place count self.old.seen self.old graph.old }
-        ensures complete { IfOk result (λ depth.
-            IsCompleteBy (S.history graph.old.source) search place self.old depth self.new.seen self.old.seen (held_at graph.new)) }
+        requires completes { (cut : PutBack) × CompletesBy (S.history graph.old.source) search place count cut self.old graph.old }
+        ensures complete { IfOk result (λ depth. (cut : PutBack)
+            → CompletesBy (S.history graph.old.source) search place count cut self.old graph.old
+            → IsCompleteBy (S.history graph.old.source) search place self.old depth self.new.seen cut (held_at graph.new)) }
         ensures fault { IfErr result (IsHeldAtFaultBy (S.history graph.old.source) search (held_at graph.new)) }
         ensures asked { AsksBy S.history S.fault_count search graph.old.source graph.new.source (refusal result) }
     {
         let mut depth = count;
-        // A commit that was met and is not noted is queued.
-        let mut lacking = numbers::unnoted_lacking(graph, place);
         while let Some((_, met)) = self.next() {
-            let (counted, complete) = self.pass_for(
-                alloc,
-                &met,
-                place,
-                depth,
-                &mut lacking,
-                search,
-                graph,
-            )?;
+            let (counted, complete) = self.pass_for(alloc, &met, place, depth, search, graph)?;
             depth = counted;
             if complete {
                 return Ok(depth);
@@ -481,12 +524,12 @@ fn found_by<'name, S: Find, A: Allocator + Copy>(
     requires rests { RestsBy (S.history graph.old.source) search (names_of names.now.entries) walk.old graph.old }
     ensures found { IfOk result (λ f. IsFound (along search (S.history graph.old.source)) search.start
         (names_of names.now.entries) search.cap f.best f.seen) }
-    ensures tied { IfOk result (λ f. IfSome f.best (λ p. IsTied
+    ensures tied { IfOk result (λ f. IfSome f.best (λ p. IsTied search.tie
         (along search (S.history graph.old.source)) search.start
         (names_of names.now.entries) search.cap p.0 p.1 f.seen)) }
-    ensures held { IfOk result (λ f. HoldsFirst
+    ensures held { IfOk result (λ f. HoldsFirst search.tie
         (along search (S.history graph.old.source)) search.start f.seen (held_at graph.new)) }
-    ensures pops { IfOk result (λ f. MatchOption f.best (f.pops ≡ f.seen) (λ _. CountsNamed
+    ensures pops { IfOk result (λ f. MatchOption f.best (f.pops ≡ f.seen) (λ _. CountsNamed search.tie
         (along search (S.history graph.old.source)) search.start
         (names_of names.now.entries) search.cap f.seen f.pops)) }
     ensures fault { IfErr result (IsHeldAtFaultBy (S.history graph.old.source) search (held_at graph.new)) }
@@ -494,7 +537,7 @@ fn found_by<'name, S: Find, A: Allocator + Copy>(
 {
     let sieve = Sieve::of(names);
     let full = walk.run(alloc, names, &sieve, search, graph)?;
-    let Some(place) = walk.chosen(names) else {
+    let Some(place) = walk.chosen(names, search.tie) else {
         return Ok(Found {
             best: None,
             seen: walk.seen,
@@ -532,12 +575,12 @@ pub(crate) fn find_name<'name, S: Find, A: Allocator + Copy>(
     requires empty { (q : ObjectId) → held_at graph.old q ≡ None }
     ensures found { IfOk result (λ f. IsFound (along search (S.history graph.old.source)) search.start
         (names_of names.now.entries) search.cap f.best f.seen) }
-    ensures tied { IfOk result (λ f. IfSome f.best (λ p. IsTied
+    ensures tied { IfOk result (λ f. IfSome f.best (λ p. IsTied search.tie
         (along search (S.history graph.old.source)) search.start
         (names_of names.now.entries) search.cap p.0 p.1 f.seen)) }
-    ensures held { IfOk result (λ f. HoldsFirst
+    ensures held { IfOk result (λ f. HoldsFirst search.tie
         (along search (S.history graph.old.source)) search.start f.seen (held_at graph.new)) }
-    ensures pops { IfOk result (λ f. MatchOption f.best (f.pops ≡ f.seen) (λ _. CountsNamed
+    ensures pops { IfOk result (λ f. MatchOption f.best (f.pops ≡ f.seen) (λ _. CountsNamed search.tie
         (along search (S.history graph.old.source)) search.start
         (names_of names.now.entries) search.cap f.seen f.pops)) }
     ensures fault { IfErr result (IsHeldAtFaultBy (S.history graph.old.source) search (held_at graph.new)) }

@@ -25,6 +25,7 @@ fn described<'t, A: Allocator + Copy>(
         max_candidates: manner.candidates(),
         fallback_to_oid: manner.is_always(),
         first_parent: manner.first_parent,
+        tie: describe::Tie::ById,
     };
     let (found, _pops) = counted_by(alloc, commit, graph, &options.name_by_oid, chosen)?;
     Ok(found)

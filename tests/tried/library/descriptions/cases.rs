@@ -123,7 +123,7 @@ pub fn options_of<A: Allocator + Copy>(
 }
 
 /// Tests whether a name is this one, borrowed from the given names.
-fn is_name<A: Allocator>(found: &Option<CowSlice<'static, u8, A>>, name: &str) -> bool {
+pub fn is_name<A: Allocator>(found: &Option<CowSlice<'static, u8, A>>, name: &str) -> bool {
     match found {
         Some(CowSlice::Borrowed(found)) => *found == name.as_bytes(),
         _ => false,

@@ -4,6 +4,7 @@ use Rattle.gix_describe.specs.Lent.{NameMap, options_by, outcomes_by}
 use Rattle.gix_describe.specs.Outcomes.{Keeps}
 use Rattle.gix_describe.specs.declared.describe.nearest.Nearest.{Nearest}
 use Rattle.gix_describe.specs.declared.describe.options.Manner.{Manner}
+use Rattle.gix_describe.specs.declared.describe.options.Tie.TheVariants.{ById}
 use Rattle.gix_describe.proofs.Asked.{err_came}
 use Rattle.gix_describe.proofs.describe.function.counted.Goals as goal
 
@@ -21,6 +22,7 @@ returns-clause-kept g c =
       max_candidates = c.args.options.max_candidates;
       fallback_to_oid = c.args.options.fallback_to_oid;
       first_parent = c.args.options.first_parent;
+      tie = ById;
     } in
     rw c.with_names.ensures (kept_by c.args.commit.now c.args.options.name_by_oid manner c.in_ok-found.found c.in_ok-found.ensures.kept)
 

@@ -25,7 +25,7 @@ returns-then-contains_key-clause-described g c =
 
 pub returns-then-contains_key-clause-pops : goal.returns-then-contains_key-clause-pops
 returns-then-contains_key-clause-pops g c =
-    pops_named (g.S.Find.history c.args.graph.now.source) c.args.commit.now (options_by c.args.names.now c.args.manner) (outcomes_by c.args.names.now c.in_ok-own.own) (named_from c.args.names.now.entries c.args.commit.now (sym c.contains_key.ensures ∙ c.if-contains_key.true))
+    pops_named c.args.manner.tie (g.S.Find.history c.args.graph.now.source) c.args.commit.now (options_by c.args.names.now c.args.manner) (outcomes_by c.args.names.now c.in_ok-own.own) (named_from c.args.names.now.entries c.args.commit.now (sym c.contains_key.ensures ∙ c.if-contains_key.true))
 
 pub returns-in_err-own-clause-no_walk : goal.returns-in_err-own-clause-no_walk
 returns-in_err-own-clause-no_walk g c = λ absent idle.
@@ -66,7 +66,7 @@ returns-in_default-clause-pops g c =
     let found = rw (c.in_default.is, c.clear.ensures.source) at c.in_ok-found.ensures.found in
     let counts = rw c.in_default.is at c.in_ok-found.ensures.pops in
     let w : Walks c.args.commit.now (options_by c.args.names.now c.args.manner) = (unnamed_from c.args.names.now.entries c.args.commit.now (sym c.contains_key.ensures ∙ c.if-contains_key.false), walks _ (sym c.is_idle.ensures) c.if-is_idle.false) in
-    pops_none (g.S.Find.history c.args.graph.now.source) c.args.commit.now (options_by c.args.names.now c.args.manner) (outcomes_by c.args.names.now c.without_name-answer.result) c.args.manner.fallback_to_oid c.in_ok-found.found.seen c.in_ok-found.found.pops w found counts (c.without_name-answer.ensures.answer c.args.names.now)
+    pops_none c.args.manner.tie (g.S.Find.history c.args.graph.now.source) c.args.commit.now (options_by c.args.names.now c.args.manner) (outcomes_by c.args.names.now c.without_name-answer.result) c.args.manner.fallback_to_oid c.in_ok-found.found.seen c.in_ok-found.found.pops w found counts (c.without_name-answer.ensures.answer c.args.names.now)
 
 pub returns-in_default-clause-untouched : goal.returns-in_default-clause-untouched
 returns-in_default-clause-untouched g c = λ no. absurd (no (unnamed_from c.args.names.now.entries c.args.commit.now (sym c.contains_key.ensures ∙ c.if-contains_key.false), walks _ (sym c.is_idle.ensures) c.if-is_idle.false))
@@ -83,7 +83,7 @@ returns-clause-pops g c =
     let found = rw (c.in-Some.is, c.clear.ensures.source, c.room.ensures) at c.in_ok-found.ensures.found in
     let counts = rw (c.in-Some.is, c.clear.ensures.source, c.room.ensures) at c.in_ok-found.ensures.pops in
     let w : Walks c.args.commit.now (options_by c.args.names.now c.args.manner) = (unnamed_from c.args.names.now.entries c.args.commit.now (sym c.contains_key.ensures ∙ c.if-contains_key.false), walks _ (sym c.is_idle.ensures) c.if-is_idle.false) in
-    pops_some (g.S.Find.history c.args.graph.now.source) c.args.commit.now (options_by c.args.names.now c.args.manner) (outcomes_by c.args.names.now c.in_ok-named.named) (c.in-Some.id, c.in-Some.depth) c.in_ok-found.found.seen c.in_ok-found.found.pops w found counts c.in_ok-named.ensures.answer
+    pops_some c.args.manner.tie (g.S.Find.history c.args.graph.now.source) c.args.commit.now (options_by c.args.names.now c.args.manner) (outcomes_by c.args.names.now c.in_ok-named.named) (c.in-Some.id, c.in-Some.depth) c.in_ok-found.found.seen c.in_ok-found.found.pops w found counts c.in_ok-named.ensures.answer
 
 pub returns-clause-untouched : goal.returns-clause-untouched
 returns-clause-untouched g c = λ no. absurd (no (unnamed_from c.args.names.now.entries c.args.commit.now (sym c.contains_key.ensures ∙ c.if-contains_key.false), walks _ (sym c.is_idle.ensures) c.if-is_idle.false))
@@ -101,13 +101,13 @@ returns-then-is_idle-clause-tied g c = λ w. absurd (let no : true ≡ false = s
 
 pub returns-in_default-clause-tied : goal.returns-in_default-clause-tied
 returns-in_default-clause-tied g c = λ w.
-    fixed_none (followed c.args.manner.first_parent (g.S.Find.history c.args.graph.now.source)) c.args.commit.now (names_of c.args.names.now.entries)
+    fixed_none c.args.manner.tie (followed c.args.manner.first_parent (g.S.Find.history c.args.graph.now.source)) c.args.commit.now (names_of c.args.names.now.entries)
     (min c.args.manner.max_candidates 32) c.in_ok-found.found.seen c.args.manner.fallback_to_oid (option_map description_of (outcomes_by c.args.names.now c.without_name-answer.result)) (c.without_name-answer.ensures.answer c.args.names.now)
 
 pub returns-clause-tied : goal.returns-clause-tied
 returns-clause-tied g c = λ w.
     let tied = rw (c.in-Some.is, c.clear.ensures.source, c.room.ensures) at c.in_ok-found.ensures.tied in
-    fixed_some (followed c.args.manner.first_parent (g.S.Find.history c.args.graph.now.source)) c.args.commit.now (names_of c.args.names.now.entries)
+    fixed_some c.args.manner.tie (followed c.args.manner.first_parent (g.S.Find.history c.args.graph.now.source)) c.args.commit.now (names_of c.args.names.now.entries)
     (min c.args.manner.max_candidates 32) c.in_ok-found.found.seen c.in-Some.depth c.in-Some.id (option_map description_of (outcomes_by c.args.names.now c.in_ok-named.named)) c.in_ok-named.ensures.answer tied
 
 pub returns-then-contains_key-clause-held : goal.returns-then-contains_key-clause-held
@@ -121,13 +121,13 @@ returns-then-is_idle-clause-held g c = λ w. absurd (let no : true ≡ false = s
 pub returns-in_default-clause-held : goal.returns-in_default-clause-held
 returns-in_default-clause-held g c = λ w.
     let held = rw c.clear.ensures.source at c.in_ok-found.ensures.held in
-    held_none (followed c.args.manner.first_parent (g.S.Find.history c.args.graph.now.source)) c.args.commit.now (held_at c.find_name.new.graph)
+    held_none c.args.manner.tie (followed c.args.manner.first_parent (g.S.Find.history c.args.graph.now.source)) c.args.commit.now (held_at c.find_name.new.graph)
     c.in_ok-found.found.seen c.args.manner.fallback_to_oid (option_map description_of (outcomes_by c.args.names.now c.without_name-answer.result)) (c.without_name-answer.ensures.answer c.args.names.now) held
 
 pub returns-clause-held : goal.returns-clause-held
 returns-clause-held g c = λ w.
     let held = rw c.clear.ensures.source at c.in_ok-found.ensures.held in
-    held_some (followed c.args.manner.first_parent (g.S.Find.history c.args.graph.now.source)) c.args.commit.now (names_of c.args.names.now.entries) (held_at c.find_name.new.graph)
+    held_some c.args.manner.tie (followed c.args.manner.first_parent (g.S.Find.history c.args.graph.now.source)) c.args.commit.now (names_of c.args.names.now.entries) (held_at c.find_name.new.graph)
     c.in_ok-found.found.seen c.in-Some.depth c.in-Some.id (option_map description_of (outcomes_by c.args.names.now c.in_ok-named.named)) c.in_ok-named.ensures.answer held
 
 pub returns-in_err-found-clause-fault : goal.returns-in_err-found-clause-fault

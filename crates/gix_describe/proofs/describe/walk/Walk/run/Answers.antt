@@ -15,7 +15,7 @@ loop-next-smaller g c =
     let size = λ (x : History). length (followed c.args.search.first_parent x) in
     let hist : g.S.Find.history c.admit.new.graph.source ≡ g.S.Find.history c.args.graph.now.source = ap g.S.Find.history c.admit.ensures.source ∙ c.loop-next.invariant.asked.same_history in
     let rests = rw (hist, c.if-settled.false) at c.in_ok-settled.ensures.passed in
-    let few = bounded _ _ rests.popped rests.at.walk rests.at.has in
+    let few = bounded _ _ _ rests.popped rests.at.walk rests.at.has in
     let seen : c.pass.new.self.seen ≡ length rests.popped = rests.at.seen in
     let more : c.pass.new.self.seen ≡ c.loop-next.self.seen + 1 = c.in_ok-settled.ensures.seen ∙ ap (λ n. n + 1) (c.admit.ensures.seen ∙ c.next.ensures.seen) in
     fewer _ _ _ _ _ (ap size c.loop-next.invariant.asked.same_history) (ap size (c.pass.ensures.asked.same_history ∙ hist)) more (omega (arith, few))
@@ -24,8 +24,8 @@ pub admit-requires-clause-taken : goal.admit-requires-clause-taken
 admit-requires-clause-taken g c =
     let h = followed c.args.search.first_parent (g.S.Find.history c.args.graph.now.source) in
     let rests = c.loop-next.invariant.rests in
-    rw c.loop-next.invariant.asked.same_history (takes_of h c.args.search.start (names_of c.args.names.now.entries) c.args.search.cap c.in-Some.next.0 c.in-Some.next.1 c.loop-next.self c.next.new.self c.loop-next.graph rests
-    (c.in-Some.ensures.next h c.args.search.start rests.popped) c.in-Some.ensures.taken (ap (λ v. v.items) c.next.ensures.candidates) (ap (λ v. v.items) c.next.ensures.counts) c.next.ensures.seen)
+    rw c.loop-next.invariant.asked.same_history (takes_of c.args.search.tie h c.args.search.start (names_of c.args.names.now.entries) c.args.search.cap c.in-Some.next.0 c.in-Some.next.1 c.loop-next.self c.next.new.self c.loop-next.graph rests
+    (c.in-Some.ensures.next (c.args.search.tie, None) h c.args.search.start rests.popped) c.in-Some.ensures.taken (ap (λ v. v.items) c.next.ensures.candidates) (ap (λ v. v.items) c.next.ensures.counts) (ap (λ v. v.items) c.next.ensures.lacking) c.next.ensures.seen)
 
 pub admit-requires-clause-sieve : goal.admit-requires-clause-sieve
 admit-requires-clause-sieve g c = c.requires.sieve
@@ -48,7 +48,7 @@ returns-in_err-settled-clause-asked g c =
 
 pub returns-clause-ended : goal.returns-clause-ended
 returns-clause-ended g c =
-    rests_ended (followed c.args.search.first_parent (g.S.Find.history c.args.graph.now.source)) c.args.search.start (names_of c.args.names.now.entries) c.args.search.cap c.loop-next.self c.next.new.self c.loop-next.graph c.loop-next.invariant.rests
+    rests_ended c.args.search.tie (followed c.args.search.first_parent (g.S.Find.history c.args.graph.now.source)) c.args.search.start (names_of c.args.names.now.entries) c.args.search.cap c.loop-next.self c.next.new.self c.loop-next.graph c.loop-next.invariant.rests
     (c.in_default.ensures.none refl) (ap (λ v. v.items) c.next.ensures.candidates) (ap (λ v. v.items) c.next.ensures.counts) c.next.ensures.seen
 
 pub returns-in_err-settled-clause-fault : goal.returns-in_err-settled-clause-fault

@@ -7,7 +7,7 @@ use Rattle.gix_describe.proofs.describe.walk.Walk.run.Given as goal
 
 abbrev pub invariant-loop-next : goal.invariant-loop-next
 invariant-loop-next g l = record {
-  rests : Rests (followed l.search.first_parent (g.S.Find.history l.fn.graph.source)) l.search.start (names_of l.names.entries) l.search.cap l.self l.graph;
+  rests : Rests l.search.tie (followed l.search.first_parent (g.S.Find.history l.fn.graph.source)) l.search.start (names_of l.names.entries) l.search.cap l.self l.graph;
   asked : Asks g.S.Find.history g.S.Find.fault_count (IsWalkRefused (followed l.search.first_parent (g.S.Find.history l.fn.graph.source)) l.search.start) l.fn.graph.source l.graph.source None;
 }
 
