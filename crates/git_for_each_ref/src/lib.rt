@@ -1,18 +1,26 @@
 //! Answers `for-each-ref` (git-for-each-ref).
 #![tactic(auto)]
 
-mod dates;
+mod blocks;
 mod fields;
 mod filter;
 mod format;
 mod list;
+mod messages;
+mod names;
+mod objects;
 mod patterns;
+mod print;
+mod quoting;
+mod siblings;
 mod sorting;
 
-use crate::fields::Objects;
 use crate::filter::{Filter, apply};
-use crate::format::{Part, expect_names, has_subject, look_up, print_reference, read_format};
+use crate::format::{Part, read_format};
 use crate::list::{Candidate, list_wanted};
+use crate::objects::Objects;
+use crate::print::{expect_names, extent_of, look_up, print_reference};
+use crate::quoting::Language;
 use crate::sorting::{SortKey, sort, sort_key};
 use git_session::integer::integer;
 use git_session::names::commit_of;
@@ -38,6 +46,8 @@ enum Key {
     Count,
     Sort,
     PointsAt,
+    Color,
+    Quote(Language),
     /// An option of git that is not supported, with its name.
     Other(&'static str),
 }
@@ -45,28 +55,28 @@ enum Key {
 /// The options of `for-each-ref`.
 static CHOICES: [Choice<Key>; 14] = [
     Choice {
-        key: Key::Other("shell"),
+        key: Key::Quote(Language::Shell),
         short: b's',
         long: "shell",
         value: Value::Never,
         has_no: true,
     },
     Choice {
-        key: Key::Other("perl"),
+        key: Key::Quote(Language::Perl),
         short: b'p',
         long: "perl",
         value: Value::Never,
         has_no: true,
     },
     Choice {
-        key: Key::Other("python"),
+        key: Key::Quote(Language::Python),
         short: 0,
         long: "python",
         value: Value::Never,
         has_no: true,
     },
     Choice {
-        key: Key::Other("tcl"),
+        key: Key::Quote(Language::Tcl),
         short: 0,
         long: "tcl",
         value: Value::Never,
@@ -87,7 +97,7 @@ static CHOICES: [Choice<Key>; 14] = [
         has_no: true,
     },
     Choice {
-        key: Key::Other("color"),
+        key: Key::Color,
         short: 0,
         long: "color",
         value: Value::Joined,
@@ -148,7 +158,7 @@ static CHOICES: [Choice<Key>; 14] = [
 pub fn add_options(text: &mut Vec<u8>) -> Result<(), AllocError> {
     for choice in CHOICES.iter() {
         if !matches!(choice.key, Key::Other(_)) {
-            let has_no = matches!(choice.key, Key::Count | Key::Sort | Key::PointsAt);
+            let has_no = choice.has_no && !matches!(choice.key, Key::Format);
             add_choice(text, choice, has_no)?;
         }
     }
@@ -160,6 +170,8 @@ pub fn add_options(text: &mut Vec<u8>) -> Result<(), AllocError> {
 struct Asked<'w> {
     filter: Filter,
     format: &'w [u8],
+    /// The language as whose strings fields are printed, if one is given.
+    language: Option<Language>,
     /// How many references are printed at most; all if it is 0.
     count: i32,
     /// By what references are sorted. The last key counts most.
@@ -208,6 +220,19 @@ fn count(alloc: Global, text: &[u8]) -> Result<i32, Stop> {
     }
 }
 
+/// Reads the value of `--color`. No field has colors, so nothing else depends on it.
+fn color(alloc: Global, text: &[u8]) -> Result<(), Stop> {
+    for word in [b"never".as_slice(), b"auto", b"always"] {
+        if text == word {
+            return Ok(());
+        }
+    }
+    Err(not_supported(
+        alloc,
+        &[b"the value '", text, b"' of --color is not supported"],
+    ))
+}
+
 /// Returns the name of an option.
 fn name_of(key: Key) -> &'static str {
     match key {
@@ -219,6 +244,11 @@ fn name_of(key: Key) -> &'static str {
         Key::Count => "count",
         Key::Sort => "sort",
         Key::PointsAt => "points-at",
+        Key::Color => "color",
+        Key::Quote(Language::Shell) => "shell",
+        Key::Quote(Language::Perl) => "perl",
+        Key::Quote(Language::Python) => "python",
+        Key::Quote(Language::Tcl) => "tcl",
         Key::Other(name) => name,
     }
 }
@@ -258,8 +288,19 @@ impl<'w> Asked<'w> {
                 .filter
                 .points_at
                 .push(object(session, value.unwrap_or(b""))?)?,
+            Key::Color => color(session.alloc, value.unwrap_or(b"always"))?,
+            Key::Quote(language) => self.note_language(session.alloc, language)?,
             Key::Other(_) => return Err(unsupported(session.alloc, given)),
         }
+        Ok(())
+    }
+
+    /// Notes the language of strings, of which there is one at most.
+    fn note_language(&mut self, alloc: Global, language: Language) -> Result<(), Stop> {
+        if self.language.is_some_and(|other| other != language) {
+            return Err(not_supported(alloc, &[b"strings of two languages are not supported"]));
+        }
+        self.language = Some(language);
         Ok(())
     }
 
@@ -269,6 +310,12 @@ impl<'w> Asked<'w> {
             Key::Count => self.count = 0,
             Key::Sort => self.keys.clear(),
             Key::PointsAt => self.filter.points_at.clear(),
+            Key::Color => {}
+            Key::Quote(language) => {
+                if self.language == Some(language) {
+                    self.language = None;
+                }
+            }
             _ => return Err(unsupported(alloc, given)),
         }
         Ok(())
@@ -289,6 +336,7 @@ impl<'w> Asked<'w> {
         let mut asked = Asked {
             filter: Filter::new(alloc),
             format: FORMAT,
+            language: None,
             count: 0,
             keys: Vec::new(alloc),
             patterns: Vec::new(alloc),
@@ -319,12 +367,11 @@ fn print_all(
     session: &mut Session<'_>,
     objects: &mut Objects,
     format: &[Part],
+    language: Option<Language>,
     candidates: &[Candidate],
-    most: usize,
 ) -> Result<(), Stop> {
-    expect_names(session, format, candidates.len())?;
-    for candidate in candidates.iter().take(most) {
-        print_reference(session, objects, format, candidate)?;
+    for candidate in candidates {
+        print_reference(session, objects, format, language, candidate)?;
     }
     Ok(())
 }
@@ -337,8 +384,10 @@ pub fn for_each_ref(session: &mut Session<'_>, words: &[&[u8]]) -> Result<u8, St
     let mut candidates = list_wanted(session, &asked.patterns)?;
     apply(session, &asked.filter, &mut candidates)?;
     look_up(session, &format, &mut candidates)?;
-    let mut objects = Objects::new(session.alloc, has_subject(&format));
+    let mut objects = Objects::new(session.alloc, extent_of(&format));
     sort(session, &mut objects, &asked.keys, &mut candidates)?;
-    print_all(session, &mut objects, &format, &candidates, most)?;
+    expect_names(session, &format, candidates.len())?;
+    candidates.truncate(most);
+    print_all(session, &mut objects, &format, asked.language, &candidates)?;
     Ok(0)
 }

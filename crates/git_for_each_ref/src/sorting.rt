@@ -1,7 +1,8 @@
 //! Sorts references (git-for-each-ref, `--sort`).
 
-use crate::fields::{Objects, Who, date_of};
 use crate::list::Candidate;
+use crate::objects::Objects;
+use git_fields::persons::{Who, date_of};
 use git_session::session::Session;
 use git_session::stop::{Stop, not_supported};
 use std::alloc::Global;

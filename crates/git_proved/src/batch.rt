@@ -1,8 +1,9 @@
 //! Answers `batch`: a question on each line of the input.
 
-use crate::answer::{Finished, answer, ended};
-use crate::program::{Streams, reason_of, say_failed};
-use crate::quoted::split_words;
+use crate::answer::answer;
+use git_command_line::finished::{Finished, ended};
+use git_command_line::output::{Streams, reason_of, say_failed};
+use git_command_line::quoted::split_words;
 use git_session::session::Session;
 use git_session::stop::{Cause, Stop, no_question};
 use std::alloc::Global;

@@ -9,10 +9,9 @@
 //! command, and tested against git: what options mean, the order of lists, first parents, filters,
 //! what is printed, and the status.
 //!
-//! - `command_line` reads the command line, and `front` the options before the word, which say
-//!   where the repository is.
-//! - `program` opens the repository, answers, and returns the status.
-//! - `streams` opens `/dev/null` in the place of closed standard streams.
+//! - `git_command_line` reads the command line and the options before the word, which say where the
+//!   repository is, opens it, and writes the answer.
+//! - `command_line` and `program` call it, answer, and return the status.
 //!
 //! The status is git's: 0, 1 or 128. What is not supported here ends with the status 129, so that a
 //! script can ask git then. Damage, and a failure of the program, end with 125. Both print nothing on
@@ -22,11 +21,8 @@
 mod answer;
 mod batch;
 mod command_line;
-mod front;
 mod help;
 mod program;
-mod quoted;
-mod streams;
 mod usage;
 
 use crate::command_line::answered;

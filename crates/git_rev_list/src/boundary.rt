@@ -18,6 +18,7 @@ fn parents_behind(session: &mut Session<'_>, ids: &[ObjectId]) -> Result<Vec<Com
                 met.insert(*parent, ())?;
                 behind.push(Come {
                     id: *parent,
+                    time: 0,
                     parents: 0,
                 })?;
             }

@@ -9,7 +9,7 @@ use git_session::session::Session;
 use git_session::stop::{Stop, failed, not_supported};
 use gix_questions::ReachableNewestFirst;
 use gix_revision::hash::ObjectId;
-use std::alloc::Global;
+use std::alloc::{AllocError, Global};
 use std::marker::Brand;
 
 /// Takes commits of a list: it leaves some out at the beginning, and then takes some.
@@ -40,7 +40,7 @@ impl Taken {
 
     /// Takes a commit, if it is wanted.
     fn offer(&mut self, come: Come) -> Result<(), Stop> {
-        if !self.wishes.wants(come.parents) {
+        if !self.wishes.wants(come) {
             return Ok(());
         }
         if self.skip > 0 {
@@ -168,6 +168,95 @@ fn first_parent_list(session: &mut Session<'_>, ends: &Ends) -> Result<Vec<Come>
     Ok(list)
 }
 
+/// Ends if git may leave out commits that are not before the date of `--since`: a commit before it
+/// has one of them as a parent.
+fn refuse_skew(session: &mut Session<'_>, wishes: &Wishes, list: &[Come]) -> Result<(), Stop> {
+    let mut new = set_of(session, &[])?;
+    for come in list {
+        if !wishes.is_old(come.time) {
+            new.insert(come.id, ())?;
+        }
+    }
+    for come in list {
+        let entry = session.repository.entry(come.id)?;
+        if wishes.is_old(come.time) && entry.parents.iter().any(|id| new.contains_key(id)) {
+            return Err(not_supported(
+                session.alloc,
+                &[b"--since is not supported here if a clock was wrong"],
+            ));
+        }
+    }
+    Ok(())
+}
+
+/// Returns the commits of a list that are neither too old nor too new.
+fn between(alloc: Global, wishes: &Wishes, list: &[Come]) -> Result<Vec<Come>, AllocError> {
+    let mut kept = Vec::new(alloc);
+    for come in list {
+        if !wishes.is_old(come.time) && !wishes.is_new(come.time) {
+            kept.push(*come)?;
+        }
+    }
+    Ok(kept)
+}
+
+/// Sorts the commits of a list that are neither too old nor too new.
+///
+/// # Errors
+///
+/// `NotSupported` if the order depends on the others: with a commit-graph git may leave them out last,
+/// and otherwise first.
+fn sorted_between(
+    session: &mut Session<'_>,
+    wishes: &Wishes,
+    list: &[Come],
+    begins: usize,
+) -> Result<Vec<Come>, Stop> {
+    let sorted = sorted_list(session, wishes, list, begins)?;
+    if wishes.since.is_none() && wishes.until.is_none() {
+        return Ok(sorted);
+    }
+    let last = between(session.alloc, wishes, &sorted)?;
+    let kept = between(session.alloc, wishes, list)?;
+    let first = sorted_list(session, wishes, &kept, begins)?;
+    if first.as_slice() == last.as_slice() {
+        return Ok(last);
+    }
+    Err(not_supported(
+        session.alloc,
+        &[b"a limit by date is not supported in this order"],
+    ))
+}
+
+/// Keeps the commits of a list that reach one of others by commits of the list
+/// (git-rev-list, "--ancestry-path").
+fn on_paths(
+    session: &mut Session<'_>,
+    list: &[Come],
+    others: &[ObjectId],
+) -> Result<Vec<Come>, Stop> {
+    let mut reaching = set_of(session, others)?;
+    for _ in 0..usize::MAX {
+        let before = reaching.len();
+        for come in list.iter().rev() {
+            let entry = session.repository.entry(come.id)?;
+            if entry.parents.iter().any(|id| reaching.contains_key(id)) {
+                reaching.insert(come.id, ())?;
+            }
+        }
+        if reaching.len() == before {
+            break;
+        }
+    }
+    let mut kept = Vec::new(session.alloc);
+    for come in list {
+        if reaching.contains_key(&come.id) {
+            kept.push(*come)?;
+        }
+    }
+    Ok(kept)
+}
+
 /// Lists commits for which the whole list is made first.
 fn listed_whole(
     session: &mut Session<'_>,
@@ -179,10 +268,44 @@ fn listed_whole(
     } else {
         whole_list(session, ends)?
     };
-    if wishes.order == Order::Met {
+    if wishes.since.is_some() {
+        refuse_skew(session, wishes, &list)?;
+    }
+    let list = match wishes.order {
+        Order::Met => list,
+        _ => sorted_between(session, wishes, &list, ends.included.len())?,
+    };
+    if !wishes.is_on_path {
         return take_list(session.alloc, wishes, &list);
     }
-    let list = sorted_list(session, wishes, &list, ends.included.len())?;
+    let list = on_paths(session, &list, &ends.excluded)?;
+    take_list(session.alloc, wishes, &list)
+}
+
+/// Lists revisions without what they reach: the newest first, and those with one date in the order
+/// in which they were named, or all in this order.
+fn listed_alone(
+    session: &mut Session<'_>,
+    wishes: &Wishes,
+    ends: &Ends,
+) -> Result<Vec<ObjectId>, Stop> {
+    let mut met = set_of(session, &[])?;
+    let mut list = Vec::new(session.alloc);
+    for id in ends.included.iter() {
+        if met.contains_key(id) {
+            continue;
+        }
+        met.insert(*id, ())?;
+        let entry = session.repository.entry(*id)?;
+        list.push(Come {
+            id: *id,
+            time: entry.time,
+            parents: entry.parents.len(),
+        })?;
+    }
+    if wishes.is_sorted {
+        list.sort_by(|a, b| b.time.cmp(&a.time))?;
+    }
     take_list(session.alloc, wishes, &list)
 }
 
@@ -200,11 +323,15 @@ pub(crate) fn listed(
     wishes: &Wishes,
     ends: &Ends,
 ) -> Result<Vec<ObjectId>, Stop> {
-    let is_short = ends.excluded.is_empty() && wishes.order == Order::Met && wishes.most.is_some();
-    if !is_short {
+    if !wishes.is_walked {
+        return listed_alone(session, wishes, ends);
+    }
+    let is_short = wishes.most.is_some() || wishes.since.is_some();
+    if !is_short || !ends.excluded.is_empty() || wishes.order != Order::Met {
         return listed_whole(session, wishes, ends);
     }
-    let mut walk = Walk::new(session, None, wishes.is_first_parent, &ends.included)?;
+    let walk = Walk::new(session, None, wishes.is_first_parent, &ends.included)?;
+    let mut walk = walk.limited(wishes.since);
     take_walk(session, wishes, &mut walk)
 }
 

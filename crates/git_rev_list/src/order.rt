@@ -10,9 +10,11 @@ use std::alloc::{AllocError, Global};
 use std::collections::HashMap;
 
 /// A commit that came.
-#[derive(Clone, Copy)]
+#[derive(Clone, Copy, PartialEq, Eq)]
 pub(crate) struct Come {
     pub(crate) id: ObjectId,
+    /// Its date, in seconds since 1970.
+    pub(crate) time: i64,
     /// The number of its parents.
     pub(crate) parents: usize,
 }
@@ -34,6 +36,8 @@ pub(crate) fn set_of(session: &Session<'_>, ids: &[ObjectId]) -> Result<Ids, All
 pub(crate) struct Walk {
     /// The commits that may come; `None` if all may.
     within: Option<Ids>,
+    /// The date of the oldest commit whose parents are met, if it is limited.
+    since: Option<i64>,
     is_first_parent: bool,
     met: Ids,
     /// The commits that were met and did not come yet.
@@ -56,12 +60,19 @@ impl Walk {
     ) -> Result<Walk, Stop> {
         let mut walk = Walk {
             within,
+            since: None,
             is_first_parent,
             met: HashMap::with_hasher(session.alloc, session.repository.seed()),
             waiting: Queue::new(session.alloc),
         };
         walk.meet(session, starts)?;
         Ok(walk)
+    }
+
+    /// Lets no parents of commits before a date be met, as git does if nothing is excluded.
+    pub(crate) fn limited(mut self, since: Option<i64>) -> Walk {
+        self.since = since;
+        self
     }
 
     /// Returns whether a commit may come that was not met yet.
@@ -88,7 +99,10 @@ impl Walk {
     /// Meets the parents of a commit. Returns how many it has.
     fn meet_parents(&mut self, session: &mut Session<'_>, id: ObjectId) -> Result<usize, Stop> {
         let entry = session.repository.entry(id)?;
-        let count = if self.is_first_parent {
+        let is_old = self.since.is_some_and(|since| entry.time < since);
+        let count = if is_old {
+            0
+        } else if self.is_first_parent {
             1
         } else {
             entry.parents.len()
@@ -131,11 +145,11 @@ impl Walk {
     ///
     /// `Refused` if the commit or a parent of it is not read. git ends there, too.
     pub(crate) fn next(&mut self, session: &mut Session<'_>) -> Result<Option<Come>, Stop> {
-        let Some((_, id)) = self.waiting.pop() else {
+        let Some((time, id)) = self.waiting.pop() else {
             return Ok(None);
         };
         let parents = self.meet_parents(session, id)?;
-        Ok(Some(Come { id, parents }))
+        Ok(Some(Come { id, time, parents }))
     }
 }
 

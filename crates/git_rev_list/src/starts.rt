@@ -1,7 +1,7 @@
 //! The objects from which a list begins, and those that end it.
 
 use git_session::session::Session;
-use git_session::stop::{Stop, fatal, missing};
+use git_session::stop::{Stop, fatal, missing, not_supported};
 use gix_discover::wildmatch::{Rules, is_match};
 use gix_ref::{Listing, Skipped, Why};
 use gix_repository::Refusal;
@@ -26,6 +26,8 @@ pub(crate) struct Start {
 pub(crate) struct Starts {
     alloc: Global,
     starts: Vec<Start>,
+    /// The patterns of references that the next option leaves out.
+    hidden: Vec<Vec<u8>>,
     /// Tells whether they are those of one `A...B` alone.
     is_pair: bool,
 }
@@ -166,8 +168,25 @@ impl Starts {
         Starts {
             alloc,
             starts: Vec::new(alloc),
+            hidden: Vec::new(alloc),
             is_pair: false,
         }
+    }
+
+    /// Lets the next option that adds references leave out those that match a pattern.
+    pub(crate) fn hide(&mut self, pattern: &[u8]) -> Result<(), AllocError> {
+        self.hidden.push(pattern.to_vec(self.alloc)?)?;
+        Ok(())
+    }
+
+    /// Tells whether a reference is left out. Its name is the one that git prints.
+    fn is_hidden(&self, name: &[u8]) -> Result<bool, AllocError> {
+        for pattern in self.hidden.iter() {
+            if matches_pattern(self.alloc, Some(pattern), name)? {
+                return Ok(true);
+            }
+        }
+        Ok(false)
     }
 
     /// Adds an object.
@@ -215,6 +234,9 @@ impl Starts {
         id: ObjectId,
         is_excluded: bool,
     ) -> Result<(), Stop> {
+        if self.is_hidden(printed)? {
+            return Ok(());
+        }
         if !is_there(session, id)? {
             return Err(bad_object(self.alloc, printed));
         }
@@ -223,12 +245,25 @@ impl Starts {
     }
 
     /// Adds what the references stand for whose names begin with a text, and match a pattern behind
-    /// it if there is one.
+    /// it if there is one, unless they are hidden. No reference is hidden then.
     ///
     /// # Errors
     ///
     /// `Fatal`, as in git, for the first of them that is broken or whose object is not there.
     pub(crate) fn add_references(
+        &mut self,
+        session: &mut Session<'_>,
+        front: &str,
+        pattern: Option<&[u8]>,
+        is_excluded: bool,
+    ) -> Result<(), Stop> {
+        self.add_shown(session, front, pattern, is_excluded)?;
+        self.hidden.clear();
+        Ok(())
+    }
+
+    /// Adds what the references stand for, unless they are hidden.
+    fn add_shown(
         &mut self,
         session: &mut Session<'_>,
         front: &str,
@@ -267,6 +302,10 @@ impl Starts {
             }
         }
         match broken {
+            Some(_) if !self.hidden.is_empty() => Err(not_supported(
+                self.alloc,
+                &[b"--exclude is not supported if a reference is broken"],
+            )),
             Some(name) => Err(bad_object(self.alloc, printed_name(front, name))),
             None => Ok(()),
         }
@@ -278,6 +317,9 @@ impl Starts {
         session: &mut Session<'_>,
         is_excluded: bool,
     ) -> Result<(), Stop> {
+        if self.is_hidden(b"HEAD")? {
+            return Err(not_supported(self.alloc, &[b"--exclude of HEAD is not supported"]));
+        }
         self.add_references(session, "refs/", None, is_excluded)?;
         let heads = session.repository.heads()?;
         for id in heads.iter() {
@@ -287,6 +329,11 @@ impl Starts {
             self.add(*id, is_excluded)?;
         }
         Ok(())
+    }
+
+    /// Tells whether something is left out.
+    pub(crate) fn has_excluded(&self) -> bool {
+        self.starts.iter().any(|start| start.is_excluded)
     }
 
     /// Returns the commits to which the objects lead. Trees and files lead to none.

@@ -1,8 +1,11 @@
 //! Reads the words of `rev-list` as git does: from left to right, each option by its exact name.
 
+use crate::ages::{moment, seconds};
+use crate::pretty::{Pretty, read_pretty};
 use crate::revisions::{self, Flags};
 use crate::starts::{Start, Starts};
-use crate::wishes::{Order, Wishes};
+use crate::wishes::{End, Order, Wishes};
+use git_session::integer::{leading, whole};
 use git_session::options::{add_exact, unsupported};
 use git_session::session::Session;
 use git_session::stop::{FATAL, Stop, fatal, not_supported};
@@ -16,6 +19,8 @@ enum Key {
     All,
     /// The references whose names have this front.
     References(&'static str),
+    Glob,
+    Exclude,
     Not,
     Stdin,
     EndOfOptions,
@@ -28,16 +33,38 @@ enum Key {
     Order(Order),
     Merges,
     NoMerges,
+    LeastParents,
+    MostParents,
+    AnyLeastParents,
+    AnyMostParents,
+    Only(End),
+    Dates,
+    Short(bool),
+    Digits,
+    AllDigits,
+    Quiet,
+    NoWalk,
+    DoWalk,
+    AncestryPath,
+    Pretty,
+    Oneline,
+    Header(bool),
+    Since,
+    Until,
+    MaxAge,
+    MinAge,
     Most,
     Skip,
 }
 
 /// The options.
-static OPTIONS: [Exact<Key>; 20] = [
+static OPTIONS: [Exact<Key>; 48] = [
     Exact("--all", Takes::Nothing, Key::All),
     Exact("--branches", Takes::Joined, Key::References("refs/heads/")),
     Exact("--tags", Takes::Joined, Key::References("refs/tags/")),
     Exact("--remotes", Takes::Joined, Key::References("refs/remotes/")),
+    Exact("--glob", Takes::Word, Key::Glob),
+    Exact("--exclude", Takes::Word, Key::Exclude),
     Exact("--not", Takes::Nothing, Key::Not),
     Exact("--stdin", Takes::Nothing, Key::Stdin),
     Exact("--end-of-options", Takes::Nothing, Key::EndOfOptions),
@@ -55,6 +82,32 @@ static OPTIONS: [Exact<Key>; 20] = [
     Exact("--date-order", Takes::Nothing, Key::Order(Order::Dated)),
     Exact("--merges", Takes::Nothing, Key::Merges),
     Exact("--no-merges", Takes::Nothing, Key::NoMerges),
+    Exact("--min-parents", Takes::Text, Key::LeastParents),
+    Exact("--max-parents", Takes::Text, Key::MostParents),
+    Exact("--no-min-parents", Takes::Nothing, Key::AnyLeastParents),
+    Exact("--no-max-parents", Takes::Nothing, Key::AnyMostParents),
+    Exact("--left-only", Takes::Nothing, Key::Only(End::Left)),
+    Exact("--right-only", Takes::Nothing, Key::Only(End::Right)),
+    Exact("--timestamp", Takes::Nothing, Key::Dates),
+    Exact("--abbrev-commit", Takes::Nothing, Key::Short(true)),
+    Exact("--no-abbrev-commit", Takes::Nothing, Key::Short(false)),
+    Exact("--abbrev", Takes::Joined, Key::Digits),
+    Exact("--no-abbrev", Takes::Nothing, Key::AllDigits),
+    Exact("--quiet", Takes::Nothing, Key::Quiet),
+    Exact("--no-walk", Takes::Joined, Key::NoWalk),
+    Exact("--do-walk", Takes::Nothing, Key::DoWalk),
+    Exact("--ancestry-path", Takes::Nothing, Key::AncestryPath),
+    Exact("--pretty", Takes::Text, Key::Pretty),
+    Exact("--format", Takes::Text, Key::Pretty),
+    Exact("--oneline", Takes::Nothing, Key::Oneline),
+    Exact("--commit-header", Takes::Nothing, Key::Header(true)),
+    Exact("--no-commit-header", Takes::Nothing, Key::Header(false)),
+    Exact("--since", Takes::Word, Key::Since),
+    Exact("--after", Takes::Word, Key::Since),
+    Exact("--max-age", Takes::Word, Key::MaxAge),
+    Exact("--until", Takes::Word, Key::Until),
+    Exact("--before", Takes::Word, Key::Until),
+    Exact("--min-age", Takes::Word, Key::MinAge),
     Exact("--max-count", Takes::Word, Key::Most),
     Exact("-n", Takes::Glued, Key::Most),
     Exact("--skip", Takes::Word, Key::Skip),
@@ -69,36 +122,14 @@ pub(crate) fn add_options(text: &mut Vec<u8>) -> Result<(), AllocError> {
     Ok(())
 }
 
-/// Returns the digits with which a text begins, and whether a minus is before them.
-fn sign_and_digits(text: &[u8]) -> (bool, &[u8]) {
-    let is_space = |b: &u8| b.is_ascii_whitespace() || *b == 11;
-    let begin = text.iter().position(|b| !is_space(b)).unwrap_or(text.len());
-    let text = text.get(begin..).unwrap_or(&[]);
-    let (is_negative, text) = match text.split_first() {
-        Some((b'-', rest)) => (true, rest),
-        Some((b'+', rest)) => (false, rest),
-        _ => (false, text),
-    };
-    let end = text
-        .iter()
-        .position(|b| !b.is_ascii_digit())
-        .unwrap_or(text.len());
-    (is_negative, text.get(..end).unwrap_or(&[]))
-}
-
-/// Returns the number with which a text begins, as C's `atoi` does: 0 if there is none, and a
-/// negative one as `None` of the inner option.
+/// Returns the number with which a text begins; a negative one as `None` of the inner option.
 ///
 /// # Errors
 ///
 /// `NotSupported` for a number that does not fit 32 bits: git wraps it.
 fn leading_number(alloc: Global, text: &[u8]) -> Result<Option<usize>, Stop> {
-    let (is_negative, digits) = sign_and_digits(text);
-    match whole_number(digits) {
-        _ if digits.is_empty() => Ok(Some(0)),
-        Some(0) => Ok(Some(0)),
-        Some(_) if is_negative => Ok(None),
-        Some(number) => Ok(Some(number)),
+    match leading(text) {
+        Some(number) => Ok(usize::try_from(number).ok()),
         None => Err(not_supported(alloc, &[b"the number '", text, b"' is not supported"])),
     }
 }
@@ -106,14 +137,26 @@ fn leading_number(alloc: Global, text: &[u8]) -> Result<Option<usize>, Stop> {
 /// Returns the number of a text of digits alone; `None` if there is another byte, or if 31 bits do
 /// not hold it.
 fn whole_number(digits: &[u8]) -> Option<usize> {
-    if !digits.iter().all(|b| b.is_ascii_digit()) {
-        return None;
-    }
-    let Ok(digits) = str::from_utf8(digits) else {
-        return None;
-    };
-    let number = digits.parse::<i32>().ok()?;
+    let number = i32::try_from(whole(digits)?).ok()?;
     usize::try_from(number).ok()
+}
+
+/// The number of digits of a whole id.
+const ID_DIGITS: usize = 40;
+
+/// Returns the least number of digits that `--abbrev` asks for; `None` for that of the setting.
+///
+/// # Errors
+///
+/// `NotSupported` for another text than digits, which git reads in part.
+fn digits(alloc: Global, value: Option<&[u8]>) -> Result<Option<usize>, Stop> {
+    let Some(text) = value else {
+        return Ok(None);
+    };
+    match whole_number(text) {
+        Some(number) => Ok(Some(number.clamp(4, ID_DIGITS))),
+        None => Err(not_supported(alloc, &[b"the number '", text, b"' is not supported"])),
+    }
 }
 
 /// What was read of the words.
@@ -122,6 +165,7 @@ pub(crate) struct Scan<'w> {
     /// The words that are left.
     words: Words<'w>,
     pub(crate) wishes: Wishes,
+    pub(crate) pretty: Pretty,
     pub(crate) starts: Starts,
     /// Says how the next revision is read.
     flags: Flags,
@@ -133,6 +177,11 @@ pub(crate) struct Scan<'w> {
 }
 
 impl<'w> Scan<'w> {
+    /// Tells whether the id of each commit is printed. Only a format can leave it out.
+    pub(crate) fn has_header(&self) -> bool {
+        self.wishes.has_header || !matches!(self.pretty, Pretty::Format(_))
+    }
+
     /// Takes the next word.
     fn take(&mut self) -> Option<&'w [u8]> {
         self.words.take()
@@ -150,6 +199,19 @@ impl<'w> Scan<'w> {
             Key::Order(order) => self.wishes.order = order,
             Key::Merges => self.wishes.least_parents = 2,
             Key::NoMerges => self.wishes.most_parents = 1,
+            Key::AnyLeastParents => self.wishes.least_parents = 0,
+            Key::AnyMostParents => self.wishes.most_parents = usize::MAX,
+            Key::Dates => self.wishes.has_dates = true,
+            Key::Short(is_short) => self.wishes.is_short = is_short,
+            Key::AllDigits => self.wishes.digits = Some(ID_DIGITS),
+            Key::Quiet => self.wishes.is_quiet = true,
+            Key::DoWalk => self.wishes.is_walked = true,
+            Key::AncestryPath => self.wishes.is_on_path = true,
+            Key::Header(has_header) => self.wishes.has_header = has_header,
+            Key::Oneline => {
+                self.pretty = Pretty::Oneline;
+                self.wishes.is_short = true;
+            }
             Key::Not => self.flags.is_turned = !self.flags.is_turned,
             Key::EndOfOptions => self.is_after_options = true,
             _ => {}
@@ -176,12 +238,75 @@ impl<'w> Scan<'w> {
                     .starts
                     .add_references(session, front, value, is_excluded);
             }
+            Key::Glob => {
+                self.has_revisions = true;
+                let pattern = number.strip_prefix(b"refs/").unwrap_or(number);
+                return self
+                    .starts
+                    .add_references(session, "refs/", Some(pattern), is_excluded);
+            }
+            Key::Exclude => self.starts.hide(number)?,
+            Key::NoWalk => return self.note_no_walk(session.alloc, value),
+            Key::Pretty => self.pretty = read_pretty(session.alloc, number)?,
+            Key::Since => self.wishes.since = Some(moment(session, number)?),
+            Key::Until => self.wishes.until = Some(moment(session, number)?),
+            Key::MaxAge => self.wishes.since = Some(seconds(session.alloc, number)?),
+            Key::MinAge => self.wishes.until = Some(seconds(session.alloc, number)?),
             Key::Stdin => return self.note_input(session),
-            Key::Most => self.wishes.most = leading_number(session.alloc, number)?,
+            Key::Most => {
+                let most = leading_number(session.alloc, number)?;
+                self.note_most(most);
+            }
             Key::Skip => self.wishes.skip = leading_number(session.alloc, number)?.unwrap_or(0),
+            Key::LeastParents => {
+                self.wishes.least_parents = leading_number(session.alloc, number)?.unwrap_or(0);
+            }
+            Key::MostParents => {
+                let most = leading_number(session.alloc, number)?;
+                self.wishes.most_parents = most.unwrap_or(usize::MAX);
+            }
+            Key::Digits => self.wishes.digits = digits(session.alloc, value)?,
+            Key::Only(end) => return self.note_end(session.alloc, end),
             key => self.note_wish(key),
         }
         Ok(())
+    }
+
+    /// Notes that only the revisions themselves are wanted, perhaps with a word for their order.
+    fn note_no_walk(&mut self, alloc: Global, order: Option<&[u8]>) -> Result<(), Stop> {
+        if let Some(word) = order {
+            self.wishes.is_sorted = word == b"sorted".as_slice();
+            if !self.wishes.is_sorted && word != b"unsorted".as_slice() {
+                return Err(not_supported(
+                    alloc,
+                    &[b"the order '", word, b"' of --no-walk is not supported"],
+                ));
+            }
+        }
+        self.wishes.is_walked = false;
+        Ok(())
+    }
+
+    /// Notes that only one side of `A...B` is wanted.
+    fn note_end(&mut self, alloc: Global, end: End) -> Result<(), Stop> {
+        let texts = match (self.wishes.only, end) {
+            (Some(End::Right), End::Left) => ["--left-only", "--right-only"],
+            (Some(End::Left), End::Right) => ["--right-only", "--left-only"],
+            _ => {
+                self.wishes.only = Some(end);
+                return Ok(());
+            }
+        };
+        Err(fatal(
+            alloc,
+            &[
+                b"options '",
+                texts[0].as_bytes(),
+                b"' and '",
+                texts[1].as_bytes(),
+                b"' cannot be used together",
+            ],
+        ))
     }
 
     /// Reads the revisions of standard input.
@@ -220,11 +345,17 @@ impl<'w> Scan<'w> {
         }
     }
 
+    /// Notes how many commits are wanted. As in git, this takes `--no-walk` back.
+    fn note_most(&mut self, most: Option<usize>) {
+        self.wishes.most = most;
+        self.wishes.is_walked = true;
+    }
+
     /// Notes the number of an option such as `-3`.
     fn note_digits(&mut self, alloc: Global, digits: &[u8]) -> Result<(), Stop> {
         match whole_number(digits) {
             Some(number) => {
-                self.wishes.most = Some(number);
+                self.note_most(Some(number));
                 Ok(())
             }
             None => Err(fatal(alloc, &[b"'", digits, b"': not a non-negative integer"])),
@@ -281,6 +412,7 @@ pub(crate) fn read<'w>(session: &mut Session<'_>, words: &'w [&'w [u8]]) -> Resu
     let mut scan = Scan {
         words: Words::new(words),
         wishes: Wishes::new(),
+        pretty: Pretty::Nothing,
         starts: Starts::new(session.alloc),
         flags: Flags {
             is_turned: false,

@@ -1,5 +1,6 @@
 //! Reads the options of `rev-parse`, which git reads word by word.
 
+use git_session::integer::leading;
 use git_session::options::{add_exact, unsupported};
 use git_session::ranges::Tip;
 use git_session::stop::{Stop, fatal, not_supported};
@@ -179,22 +180,15 @@ pub fn add_options(text: &mut Vec<u8>) -> Result<(), AllocError> {
     Ok(())
 }
 
-/// Returns the number with which a text begins, as C reads it; 0 if it begins otherwise, or with a
-/// minus sign.
+/// Returns the number with which a text begins, as C reads it; 0 if it is negative.
 ///
 /// # Errors
 ///
-/// `NotSupported` for a number of more than nine digits.
+/// `NotSupported` for a number that does not fit 32 bits.
 fn leading_number(alloc: Global, text: &[u8]) -> Result<usize, Stop> {
-    let text = text.trim_ascii_start();
-    let digits = text.strip_prefix(b"+").unwrap_or(text);
-    let count = digits.iter().take_while(|b| b.is_ascii_digit()).count();
-    if count > 9 || text.starts_with(b"-") && text.len() > 9 {
-        return Err(not_supported(alloc, &[b"the number '", text, b"' is not supported"]));
-    }
-    match str::from_utf8(digits.get(..count).unwrap_or(&[])) {
-        Ok(digits) => Ok(digits.parse::<usize>().unwrap_or(0)),
-        Err(_) => Ok(0),
+    match leading(text) {
+        Some(number) => Ok(usize::try_from(number).unwrap_or(0)),
+        None => Err(not_supported(alloc, &[b"the number '", text, b"' is not supported"])),
     }
 }
 

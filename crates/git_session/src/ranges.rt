@@ -2,6 +2,7 @@
 
 use crate::bases::bases_in_order;
 use crate::forms::{Form, before_path, form_of, may_be_date};
+use crate::integer::whole;
 use crate::session::Session;
 use crate::stop::{Stop, fatal, not_supported};
 use crate::unpeeled::{say_lost, say_no_commit, say_unpeeled};
@@ -114,13 +115,9 @@ fn parent_number(alloc: Global, text: &[u8]) -> Result<Option<usize>, Stop> {
     if is_odd || text.len() > 9 {
         return Err(not_supported(alloc, &[b"the number '", text, b"' is not supported"]));
     }
-    let number = match str::from_utf8(text) {
-        Ok(text) => text.parse::<usize>().ok(),
-        Err(_) => None,
-    };
-    Ok(match number {
+    Ok(match whole(text) {
         Some(0) | None => None,
-        Some(number) => Some(number),
+        Some(number) => usize::try_from(number).ok(),
     })
 }
 

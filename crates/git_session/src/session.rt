@@ -8,6 +8,15 @@ use gix_revision::hash::ObjectId;
 use std::alloc::{AllocError, Global};
 use std::io::Write;
 
+/// Says who asks, and when.
+#[derive(Clone, Copy)]
+pub struct Asker {
+    /// The current time, in seconds since 1970.
+    pub now: i64,
+    /// Tells whether git would write English.
+    pub is_english: bool,
+}
+
 /// The repository that is asked about, and what the answer prints so far.
 #[derive(Drop)]
 pub struct Session<'s> {
@@ -16,6 +25,7 @@ pub struct Session<'s> {
     pub files: System<'s>,
     pub environment: Environment,
     pub repository: Repository<System<'s>>,
+    pub asker: Asker,
     /// What goes to standard output once the answer is whole.
     pub output: Vec<u8>,
     /// What goes to standard error.
@@ -33,12 +43,14 @@ impl<'s> Session<'s> {
         files: System<'s>,
         environment: Environment,
         repository: Repository<System<'s>>,
+        asker: Asker,
     ) -> Session<'s> {
         Session {
             alloc,
             files,
             environment,
             repository,
+            asker,
             output: Vec::new(alloc),
             messages: Vec::new(alloc),
             taken: 0,

@@ -34,3 +34,4 @@ pub use error::{Refusal, Unsupported};
 pub use messages::kind_name;
 pub use open::{Mode, OpenError, Opening};
 pub use repository::Repository;
+pub use siblings::Sibling;

@@ -134,6 +134,20 @@ impl<F: Folders + Drop, A: Allocator + Copy> Repository<F, A> {
         Ok(self.references.shortest(name, strict)?.to_vec(self.alloc)?)
     }
 
+    /// Returns the full name of the reference to which this one leads: its own if it is not
+    /// symbolic, or leads nowhere.
+    ///
+    /// # Errors
+    ///
+    /// - `Reference` if a file was not read.
+    /// - `OutOfMemory` if an allocation failed.
+    pub fn last_name(&mut self, name: &[u8]) -> Result<Vec<u8, A>, Refusal> {
+        match self.references.follow(name)? {
+            Some(reference) => Ok(reference.name),
+            None => Ok(name.to_vec(self.alloc)?),
+        }
+    }
+
     /// Lists all references once, so that files are not read for each name that is shortened.
     ///
     /// # Errors

@@ -4,12 +4,13 @@
 use crate::error::{Refusal, Unsupported};
 use crate::names::{Named, read, unabbreviated};
 use crate::repository::Repository;
+use gix_base::hash::ObjectId;
 use gix_discover::{is_fetch, is_push};
 use gix_files::Folders;
 use gix_ref::Reference;
 use gix_spec::spec::parse::delegate::SiblingBranch;
 use memchr::{memchr, memrchr};
-use std::alloc::{AllocError, Allocator};
+use std::alloc::{AllocError, Allocator, Global};
 
 /// Returns the name to which a refspec such as `+refs/heads/*:refs/remotes/origin/*` maps another;
 /// `None` if it is about other names (git-fetch, "<refspec>").
@@ -47,13 +48,14 @@ fn refspec_of<'a>(value: Option<&'a [u8]>, key: &[u8]) -> Result<&'a [u8], Refus
     }
 }
 
-/// Returns whether a look-up found a reference. One that is broken, or leads too far, counts as none.
-fn is_there<A: Allocator>(
+/// Returns the object of a reference that was looked up. One that is broken, or leads too far, counts
+/// as none.
+fn found_id<A: Allocator>(
     found: Result<Option<Reference<A>>, gix_ref::Error>,
-) -> Result<bool, Refusal> {
+) -> Result<Option<ObjectId>, Refusal> {
     match found {
-        Ok(found) => Ok(found.is_some()),
-        Err(gix_ref::Error::Broken(_) | gix_ref::Error::TooDeep(_)) => Ok(false),
+        Ok(Some(reference)) => Ok(Some(reference.id)),
+        Ok(None) | Err(gix_ref::Error::Broken(_) | gix_ref::Error::TooDeep(_)) => Ok(None),
         Err(error) => Err(Refusal::from(error)),
     }
 }
@@ -107,6 +109,15 @@ fn are_same<A: Allocator>(first: &Option<Vec<u8, A>>, second: &Option<Vec<u8, A>
         (Some(first), Some(second)) => first.as_slice() == second.as_slice(),
         _ => false,
     }
+}
+
+/// The branch that belongs to a branch.
+#[derive(Drop)]
+pub struct Sibling<A: Allocator = Global> {
+    /// Its full name.
+    pub name: Vec<u8, A>,
+    /// The object that it names; `None` if there is no such branch now.
+    pub id: Option<ObjectId>,
 }
 
 impl<F: Folders + Drop, A: Allocator + Copy> Repository<F, A> {
@@ -271,19 +282,70 @@ impl<F: Folders + Drop, A: Allocator + Copy> Repository<F, A> {
         Err(Refusal::Sibling)
     }
 
-    /// Returns the full name of the sibling of a branch, whose short name is `short`.
-    fn sibling_name(&mut self, short: &[u8], kind: SiblingBranch) -> Result<Vec<u8, A>, Refusal> {
-        let found = match kind {
-            SiblingBranch::Upstream => self.upstream(short)?,
+    /// Returns the full name of the sibling of a branch, whose short name is `short`; `None` if none
+    /// is configured.
+    fn sibling_name(
+        &self,
+        short: &[u8],
+        kind: SiblingBranch,
+    ) -> Result<Option<Vec<u8, A>>, Refusal> {
+        match kind {
+            SiblingBranch::Upstream => self.upstream(short),
             SiblingBranch::Push => {
                 let mut branch = b"refs/heads/".to_vec(self.alloc)?;
                 branch.extend_from_slice(short)?;
-                self.pushed(&branch, short)?
+                self.pushed(&branch, short)
             }
+        }
+    }
+
+    /// Returns the sibling of the reference with this full name; `None` if it is no branch, or if no
+    /// sibling is configured.
+    ///
+    /// # Errors
+    ///
+    /// - `Sibling` if a setting is malformed.
+    /// - `NotSupported` if a setting does not name the sibling as it is.
+    /// - Those of reading references, and of allocations.
+    pub fn sibling_branch(
+        &mut self,
+        name: &[u8],
+        kind: SiblingBranch,
+    ) -> Result<Option<Sibling<A>>, Refusal> {
+        let Some(short) = name.strip_prefix(b"refs/heads/".as_slice()) else {
+            return Ok(None);
         };
-        match found {
-            Some(name) => Ok(name),
-            None => Err(self.no_sibling(short, kind)?),
+        let Some(name) = self.sibling_name(short, kind)? else {
+            return Ok(None);
+        };
+        let name = self.resolved_name(short, name)?;
+        let id = found_id(self.references.follow(&name))?;
+        Ok(Some(Sibling { name, id }))
+    }
+
+    /// Returns the name of a branch's sibling, which git reads by the rules of short names if it is
+    /// not that of a remote.
+    fn resolved_name(&mut self, short: &[u8], name: Vec<u8, A>) -> Result<Vec<u8, A>, Refusal> {
+        let is_local = match self.merged_from(short)? {
+            Some((remote, _)) => remote == b".".as_slice(),
+            None => false,
+        };
+        if !is_local {
+            return Ok(name);
+        }
+        let warns = self.warns_of_ambiguous_names();
+        match self.references.short(&name)? {
+            Some(named) if !(warns && named.is_ambiguous) => Ok(named.reference.name),
+            _ => Ok(name),
+        }
+    }
+
+    /// Returns the remote and the branch there from which the reference with this full name is
+    /// merged. The errors are those of [`Repository::sibling_branch`].
+    pub fn merged_branch(&self, name: &[u8]) -> Result<Option<(&[u8], &[u8])>, Refusal> {
+        match name.strip_prefix(b"refs/heads/".as_slice()) {
+            Some(short) => self.merged_from(short),
+            None => Ok(None),
         }
     }
 
@@ -312,7 +374,7 @@ impl<F: Folders + Drop, A: Allocator + Copy> Repository<F, A> {
     fn has_branch(&mut self, short: &[u8]) -> Result<bool, Refusal> {
         let mut branch = b"refs/heads/".to_vec(self.alloc)?;
         branch.extend_from_slice(short)?;
-        is_there(self.references.follow(&branch))
+        Ok(found_id(self.references.follow(&branch))?.is_some())
     }
 
     /// Returns what the sibling of a branch stands for, whose short name is `short`.
@@ -320,7 +382,9 @@ impl<F: Folders + Drop, A: Allocator + Copy> Repository<F, A> {
     /// Its settings count even if there is no such branch. As git does, it shortens the full name
     /// of the sibling, and reads it again by the rules.
     fn sibling(&mut self, short: &[u8], kind: SiblingBranch) -> Result<Named<A>, Refusal> {
-        let name = self.sibling_name(short, kind)?;
+        let Some(name) = self.sibling_name(short, kind)? else {
+            return Err(self.no_sibling(short, kind)?);
+        };
         let text = self.references.shortest(&name, false)?;
         match self.references.short(text)? {
             Some(named) => Ok(read(named)),

@@ -15,7 +15,7 @@ const LAST_STREAM: i32 = 2;
 /// # Errors
 ///
 /// Fails if `/dev/null` is not opened.
-pub(crate) fn fill_streams(rt: &HostRuntime) -> io::Result<()> {
+pub fn fill_streams(rt: &HostRuntime) -> io::Result<()> {
     for _ in 0..=LAST_STREAM {
         let file = File::open(rt, "/dev/null")?;
         if file.as_raw_fd() > LAST_STREAM {

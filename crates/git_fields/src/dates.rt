@@ -1,5 +1,7 @@
 //! Reads dates of commits and tags, and writes them as git does (git-log, `--date`).
 
+use git_session::integer::whole;
+use git_session::session::{Asker, Session};
 use git_session::stop::{Stop, not_supported};
 use jiff_core::civil::DateTime;
 use jiff_core::{Offset, Timestamp};
@@ -8,7 +10,7 @@ use std::io::Write;
 
 /// Says how a date is written.
 #[derive(Clone, Copy, PartialEq, Eq)]
-pub(crate) enum Style {
+pub enum Style {
     /// `Thu Apr 7 22:13:13 2005 +0200`
     Usual,
     /// `2005-04-07 22:13:13 +0200`
@@ -23,6 +25,8 @@ pub(crate) enum Style {
     Raw,
     /// `1112904793`
     Unix,
+    /// `2 days ago`
+    Relative,
 }
 
 /// The names of the days of the week.
@@ -34,8 +38,8 @@ static MONTHS: [&str; 12] = [
 ];
 
 /// Returns the style with this name behind the colon of a field; `None` if it is not supported. All
-/// but these depend on the local time, or on the present.
-pub(crate) fn style_of(name: &[u8]) -> Option<Style> {
+/// but these depend on the local time.
+pub fn style_of(name: &[u8]) -> Option<Style> {
     for (word, style) in [
         (b"default".as_slice(), Style::Usual),
         (b"iso", Style::Iso),
@@ -47,6 +51,7 @@ pub(crate) fn style_of(name: &[u8]) -> Option<Style> {
         (b"short", Style::Short),
         (b"raw", Style::Raw),
         (b"unix", Style::Unix),
+        (b"relative", Style::Relative),
     ] {
         if name == word {
             return Some(style);
@@ -57,22 +62,19 @@ pub(crate) fn style_of(name: &[u8]) -> Option<Style> {
 
 /// A date.
 #[derive(Clone, Copy)]
-pub(crate) struct Date {
+pub struct Date {
     /// Seconds since 1970.
-    pub(crate) seconds: i64,
+    pub seconds: i64,
     /// The digits of the time zone: -700 for `-0700`.
     zone: i32,
 }
 
 /// Returns the number of decimal digits alone, of which there are at most 12.
 fn number(digits: &[u8]) -> Option<i64> {
-    if digits.len() > 12 || !digits.iter().all(|byte| byte.is_ascii_digit()) {
+    if digits.len() > 12 {
         return None;
     }
-    match str::from_utf8(digits) {
-        Ok(digits) => digits.parse::<i64>().ok(),
-        Err(_) => None,
-    }
+    whole(digits)
 }
 
 /// Returns the number of a time zone: a sign and four digits.
@@ -90,7 +92,7 @@ fn zone_of(text: &[u8]) -> Option<i32> {
 }
 
 /// Returns the date at the end of a line of a person: seconds and time zone behind `> `.
-pub(crate) fn date_in(line: &[u8]) -> Option<Date> {
+pub fn date_in(line: &[u8]) -> Option<Date> {
     let end = line.windows(2).position(|two| two == b"> ".as_slice())?;
     let text = line.get(end.checked_add(2)?..)?;
     let blank = text.iter().position(|byte| *byte == b' ')?;
@@ -173,14 +175,89 @@ fn raw_text(alloc: Global, style: Style, date: Date) -> Result<Vec<u8>, Stop> {
     }
 }
 
+/// Returns how long ago something was: a number and a unit.
+fn ago(alloc: Global, count: i64, unit: &str) -> Result<Vec<u8>, Stop> {
+    let end = if count == 1 { "" } else { "s" };
+    let mut text = Vec::new(alloc);
+    match write!(text, "{count} {unit}{end} ago") {
+        Ok(()) => Ok(text),
+        Err(_) => Err(Stop::OutOfMemory),
+    }
+}
+
+/// Returns how many years and months ago something was, which was less than five years ago.
+fn years_ago(alloc: Global, days: i64) -> Result<Vec<u8>, Stop> {
+    let total = days.saturating_mul(24).saturating_add(365) / 730;
+    let (years, months) = (total / 12, total % 12);
+    if months == 0 {
+        return ago(alloc, years, "year");
+    }
+    let end = if years == 1 { "" } else { "s" };
+    let mut text = Vec::new(alloc);
+    match write!(text, "{years} year{end}, ") {
+        Ok(()) => {}
+        Err(_) => return Err(Stop::OutOfMemory),
+    }
+    text.extend_from_slice(&ago(alloc, months, "month")?)?;
+    Ok(text)
+}
+
+/// Returns how many days, weeks, months or years ago something was.
+fn days_ago(alloc: Global, days: i64) -> Result<Vec<u8>, Stop> {
+    if days < 14 {
+        ago(alloc, days, "day")
+    } else if days < 70 {
+        ago(alloc, days.saturating_add(3) / 7, "week")
+    } else if days < 365 {
+        ago(alloc, days.saturating_add(15) / 30, "month")
+    } else if days < 1825 {
+        years_ago(alloc, days)
+    } else {
+        ago(alloc, days.saturating_add(183) / 365, "year")
+    }
+}
+
+/// Returns how long before the present a moment is, as git rounds it.
+///
+/// # Errors
+///
+/// `NotSupported` if git would not write English.
+fn relative_text(alloc: Global, asker: Asker, seconds: i64) -> Result<Vec<u8>, Stop> {
+    if !asker.is_english {
+        return Err(not_supported(
+            alloc,
+            &[b"a relative date in another language is not supported"],
+        ));
+    }
+    if asker.now < seconds {
+        return Ok(b"in the future".to_vec(alloc)?);
+    }
+    let past = asker.now.saturating_sub(seconds);
+    let minutes = past.saturating_add(30) / 60;
+    let hours = minutes.saturating_add(30) / 60;
+    if past < 90 {
+        ago(alloc, past, "second")
+    } else if minutes < 90 {
+        ago(alloc, minutes, "minute")
+    } else if hours < 36 {
+        ago(alloc, hours, "hour")
+    } else {
+        days_ago(alloc, hours.saturating_add(12) / 24)
+    }
+}
+
 /// Returns the text of a date.
 ///
 /// # Errors
 ///
-/// `NotSupported` if a clock is to be shown whose year is before 1970 or after 9999.
-pub(crate) fn date_text(alloc: Global, style: Style, date: Date) -> Result<Vec<u8>, Stop> {
-    if matches!(style, Style::Raw | Style::Unix) {
-        return raw_text(alloc, style, date);
+/// - `NotSupported` if a clock is to be shown whose year is before 1970 or after 9999.
+/// - `NotSupported` for a relative date, if git would not write English.
+pub fn date_text(session: &Session<'_>, style: Style, date: Date) -> Result<Vec<u8>, Stop> {
+    let alloc = session.alloc;
+    match style {
+        Style::Raw | Style::Unix => return raw_text(alloc, style, date),
+        Style::Relative => return relative_text(alloc, session.asker, date.seconds),
+        _ => {}
     }
     match clock(date) {
         Some(at) => clock_text(alloc, style, at, date.zone),

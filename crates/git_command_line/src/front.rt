@@ -5,22 +5,22 @@ use std::alloc::{AllocError, Global};
 
 /// Says what the options before the word ask for.
 #[derive(Drop)]
-pub(crate) struct Front<'w> {
+pub struct Front<'w> {
     /// The folders of `-C`, one after another.
-    pub(crate) folders: Vec<&'w [u8]>,
+    pub folders: Vec<&'w [u8]>,
     /// The folder of `--git-dir`.
-    pub(crate) git_dir: Option<&'w [u8]>,
+    pub git_dir: Option<&'w [u8]>,
     /// The folder of `--work-tree`.
-    pub(crate) work_tree: Option<&'w [u8]>,
+    pub work_tree: Option<&'w [u8]>,
     /// Which files are believed.
-    pub(crate) mode: Mode,
+    pub mode: Mode,
     /// What follows.
-    pub(crate) asked: Asked<'w>,
+    pub asked: Asked<'w>,
 }
 
 /// Says what is asked for behind the options before the word.
 #[derive(Clone, Copy)]
-pub(crate) enum Asked<'w> {
+pub enum Asked<'w> {
     /// A word, and the words behind it.
     Word(&'w [u8], &'w [&'w [u8]]),
     /// The help: `-h`, `--help`.
@@ -100,7 +100,7 @@ impl<'w> Front<'w> {
     /// # Errors
     ///
     /// Fails if an allocation failed.
-    pub(crate) fn read(alloc: Global, words: &'w [&'w [u8]]) -> Result<Front<'w>, AllocError> {
+    pub fn read(alloc: Global, words: &'w [&'w [u8]]) -> Result<Front<'w>, AllocError> {
         let mut front = Front {
             folders: Vec::new(alloc),
             git_dir: None,

@@ -103,7 +103,7 @@ impl Splitter {
 ///
 /// - `NoQuestion` if quotes are not closed, or nothing follows a backslash.
 /// - `OutOfMemory` if an allocation failed.
-pub(crate) fn split_words(alloc: Global, line: &[u8]) -> Result<Vec<Vec<u8>>, Stop> {
+pub fn split_words(alloc: Global, line: &[u8]) -> Result<Vec<Vec<u8>>, Stop> {
     let mut splitter = Splitter {
         alloc,
         words: Vec::new(alloc),
