@@ -45,12 +45,21 @@ _git_proved() {
             __gitcomp "--not --all --branches --branches= --tags --tags= \
                 --remotes --remotes= --stdin --count --max-count= --skip= \
                 --left-right --first-parent --parents --boundary --reverse \
-                --topo-order --date-order --merges --no-merges"
+                --topo-order --date-order --merges --no-merges \
+                --since= --after= --until= --before= --max-age= --min-age= \
+                --min-parents= --max-parents= --no-min-parents \
+                --no-max-parents --left-only --right-only --timestamp \
+                --abbrev-commit --no-abbrev-commit --abbrev --abbrev= \
+                --no-abbrev --quiet --no-walk --no-walk= --do-walk --glob= \
+                --exclude= --ancestry-path \
+                --pretty= --format= --oneline --commit-header \
+                --no-commit-header"
             ;;
         for-each-ref,-*)
             __gitcomp "--contains --contains= --no-contains --no-contains= \
                 --merged --merged= --no-merged --no-merged= --count= --sort= \
-                --points-at= --format="
+                --points-at= --format= --shell --perl --python --tcl \
+                --color --color="
             ;;
         batch,*) ;;
         *) __git_complete_refs ;;

@@ -69,11 +69,6 @@ def ask(program: list[bytes], command: Command) -> Said:
     return Said(process.returncode, out, err)
 
 
-def without_names(out: bytes) -> list[bytes]:
-    """Returns what is left of descriptions without the names."""
-    return [re.sub(rb"^.*(-\d+-g)", rb"\1", it) for it in out.split(b"\n")]
-
-
 def is_of_damage(said: Said) -> bool:
     """Returns whether git ended because an object that it reads is damaged."""
     return re.search(rb"(corrupt loose object|object file \S+ is empty)", said.err) is not None
@@ -175,8 +170,6 @@ class Comparison:
     def doubt(self, command: Command) -> str | None:
         """Returns why a command may be refused where commits have one date, or wrong ones."""
         word, rest = command.words[0], command.words[1:]
-        if word == b"describe":
-            return "a depth"
         if word == b"rev-list" and b"--first-parent" in rest:
             return "lines that dates end"
         has_bases = word == b"merge-base" or any(b"..." in it for it in rest)
@@ -190,12 +183,8 @@ class Comparison:
 
     def is_other_choice(self, command: Command, wanted: bytes, found: bytes) -> bool:
         """Returns whether an answer is another choice of those that docs/DIFFERENCES.md names."""
-        word = command.words[0]
-        if word == b"describe":
-            return command.place.is_untidy and without_names(wanted) == without_names(found)
-        if word in (b"rev-list", b"for-each-ref") and command.place.is_untidy:
-            return truth(self.histories, command) == found
-        return False
+        lists = command.words[0] in (b"rev-list", b"for-each-ref")
+        return lists and command.place.is_untidy and truth(self.histories, command) == found
 
     def expect(self, holds: bool, what: str) -> None:
         """Counts something that no command of git says."""

@@ -8,6 +8,7 @@ from __future__ import annotations
 import os
 import shutil
 import subprocess
+import time
 
 from questions import Command, each, row, rows
 from repositories import (
@@ -404,9 +405,20 @@ def unreadable(room: Room) -> list[Command]:
     return commands
 
 
+# What for-each-ref prints of the branches that belong to a branch, and of symbolic references.
+SIBLINGS = (
+    "%(refname) %(upstream) %(upstream:short) %(upstream:lstrip=2) %(upstream:rstrip=1)",
+    "%(upstream:track) %(upstream:track,nobracket) %(upstream:nobracket,track) %(upstream:trackshort)",
+    "%(upstream:nobracket) %(upstream:remotename) %(upstream:remoteref) %(upstream:track,remotename)",
+    "%(push) %(push:short) %(push:strip=2) %(push:track) %(push:track,nobracket) %(push:trackshort)",
+    "%(refname:short) %(symref) %(symref:short) %(symref:lstrip=-1) %(symref:rstrip=1)",
+)
+
+
 def branches(room: Room) -> list[Command]:
     """Upstreams, where branches are pushed to, and reflogs."""
     made = siblings(room)
+    formats = [f"--format={fields}" for fields in SIBLINGS]
     some = ("@{u}", "@{push}", "main@{u}", "main@{upstream}", "main@{UPSTREAM}", "dev@{u}",
             "tracked@{u}", "local@{u}", "local@{push}", "tracked@{push}",
             "HEAD@{u}", "nosuch@{u}", "HEAD@{0}", "HEAD@{1}", "HEAD@{2}", "HEAD@{99}", "@{0}",
@@ -432,10 +444,25 @@ def branches(room: Room) -> list[Command]:
     for default in ("nothing", "current", "upstream", "simple", "matching", "bad"):
         commands += rows(made, "rev-parse --abbrev-ref @{push}", "rev-parse tracked@{push}",
                          environment=settings("push.default", default))
+        if default != "bad":
+            commands += each(made, "for-each-ref", formats[3],
+                             environment=settings("push.default", default))
+    gone = room.copy(made, "gone upstream")
+    gone.git("update-ref", "-d", "refs/remotes/origin/other")
+    gone.git("symbolic-ref", "refs/heads/symbolic", "refs/heads/dev")
+    near = room.copy(gone, "upstreams that are local")
+    near.git("tag", "dev", "main")
+    merges = ("main", "refs/heads/symbolic", "symbolic", "nosuch", "dev", "heads/main")
+    for number, merge in enumerate(merges):
+        near.git("update-ref", f"refs/heads/near{number}", "dev~1")
+        near.git("config", f"branch.near{number}.remote", ".")
+        near.git("config", f"branch.near{number}.merge", merge)
     twice = room.copy(made, "siblings of two references")
     twice.git("update-ref", "refs/remotes/main", "dev")
     quiet = room.copy(twice, "quiet siblings")
     quiet.git("config", "core.warnAmbiguousRefs", "false")
+    for place in (made, twice, quiet, gone, near):
+        commands += each(place, "for-each-ref", *formats, is_strict=True)
     for place in (twice, quiet):
         commands += each(place, "rev-parse", "local@{u}", "local@{UPSTREAM}~1", "^local@{u}",
                          "local@{u}..HEAD", "HEAD...local@{u}^0", "local@{u}^{tree}", "@{u}",
@@ -1074,7 +1101,7 @@ def nowhere(room: Room) -> list[Command]:
 
 
 def ties(room: Room) -> list[Command]:
-    """Commits with the same date, and dates before 1970, by which a depth may be one too great."""
+    """Commits with the same date, and dates before 1970, by which git counts one commit too many."""
     commands = []
     for start, step in ((1_000_000_000, 0), (-800, 1), (-800, 0)):
         for text in range(4):
@@ -1093,7 +1120,22 @@ def ties(room: Room) -> list[Command]:
             commands += rows(made, "describe --tags", "describe --tags three",
                              "rev-list --count r..HEAD", "rev-list main three",
                              "merge-base main three")
-    return commands
+    return commands + no_room(room)
+
+
+def no_room(room: Room) -> list[Command]:
+    """A commit for whose name there is no room goes back behind those of the same date."""
+    made = room.init("no room")
+    start = 1_000_000_000
+    root = made.commit(date=start, text="root")
+    second = made.commit(root, date=start, text="second")
+    left = made.commit(root, date=start + 1, text="left")
+    right = made.commit(second, date=start + 1, text="right")
+    made.git("update-ref", "refs/heads/main", made.commit(left, right, date=start + 1, text="tip"))
+    made.git("update-ref", "refs/tags/right", right)
+    made.git("update-ref", "refs/tags/root", root)
+    return rows(made, "describe --tags --candidates=1", "describe --tags --candidates=2",
+                "describe --tags --candidates=1 HEAD^2~1")
 
 
 def crossed(room: Room) -> list[Command]:
@@ -1298,13 +1340,34 @@ def hostile(room: Room) -> list[Command]:
 
 # The fields of objects that for-each-ref prints.
 FIELDS = (
-    "objectname", "objecttype", "subject", "contents:subject", "tag",
+    "objectname", "objecttype", "objectsize", "tree", "tag", "type", "object",
+    "subject", "contents:subject", "body", "contents", "contents:size",
     *(f"{who}{what}" for who in ("author", "committer", "tagger")
       for what in ("", "name", "email", "email:trim", "email:localpart")),
     "creator",
     *(f"{who}date{style}" for who in ("author", "committer", "tagger", "creator")
       for style in ("", ":iso", ":iso8601-strict", ":rfc2822", ":short", ":raw", ":unix",
-                    ":default")),
+                    ":default", ":relative")),
+)
+
+# Formats with blocks.
+BLOCKS = (
+    "%(if)%(HEAD)%(then)* %(else)  %(end)%(refname:short)", "%(if)%(tag)%(then)T:%(tag)%(end)|%(refname)",
+    "%(if:equals=commit)%(objecttype)%(then)C%(else)%(if)%(*objecttype)%(then)tag of %(*objecttype)"
+    "%(else)other%(end)%(end) %(refname)", "%(if:notequals=tag)%(objecttype)%(then)%(end)%(refname)",
+    "%(if:equals=)%(tag)%(then)no tag%(else)%(tag)%(end)", "%(if)%(align:4)%(end)%(then)a%(else)b%(end)",
+    "%(if)%09%0a%(then)a%(else)b%(end)", "%(if)%0c%(then)a%(else)b%(end)", "%(if)x%(then)a%(end)%(end",
+    "%(align:30)%(refname:short)%(end)|%(objecttype)", "%(align:30,right)%(refname)%(end)|",
+    "%(align:middle,25)%(refname:short)%(end)|", "%(align:width=40,position=middle)%(refname)%(end)|",
+    "%(align:3)%(refname)%(end)|", "%(align:20)%(if)%(tag)%(then)%(tag)%(else)none%(end)%(end)|%(refname)",
+    "%(align:5,left,10,right)%(objecttype)%(end)|", "%(refname)", "%(contents)%(authorname)",
+)
+
+# Formats whose blocks do not close, or say what git does not know.
+UNCLOSED = (
+    "%(then)", "%(else)", "%(end)", "%(if)", "%(if)%(end)", "%(if)%(else)%(end)", "%(if)%(then)",
+    "%(if)%(then)%(then)%(end)", "%(if)%(then)%(else)%(else)%(end)", "%(if)%(then)%(end)%(end)", "%(align)",
+    "%(align:x)%(end)", "%(align:-3)%(end)", "%(align:left)%(end)", "%(if:x)%(then)%(end)", "%(align:8)%(then)%(end)",
 )
 
 # Names that are sorted as versions.
@@ -1361,6 +1424,12 @@ def fields(room: Room) -> list[Command]:
     commands += each(made, "for-each-ref", "--format=%(refname:lstrip=x)", "--format=%(objectname:short=0)",
                      "--format=%(HEAD:x)", "--format=%(subjectx)", "--format=%(creatorname)",
                      "--format=%(authordate:relative)", "--format=%(*HEAD)", "--format=%(*refname)")
+    commands += each(made, "for-each-ref --format=%(contents:body)|%(*contents:body)|",
+                     *(f"refs/{it}{n}" for it in ("heads/c", "tags/t") for n in range(len(messages) - 1)), **more)
+    commands += [row(made, "for-each-ref", *options, f"--format={it}") for it in BLOCKS + UNCLOSED
+                 for options in ((), ("--shell",), ("--perl",), ("--python",), ("--tcl",))]
+    commands += rows(made, "for-each-ref --color=always --no-shell -s", "for-each-ref -p --no-color --no-perl",
+                     "for-each-ref --tcl --python", "for-each-ref --color=x", "for-each-ref --color --count=1")
     keys = ("refname", "v:refname", "version:refname", "authordate", "committerdate", "taggerdate",
             "creatordate")
     commands += [row(made, *f"{front} --sort={sign}{key}".split(" "), **more)
@@ -1386,6 +1455,96 @@ def fields(room: Room) -> list[Command]:
     return commands + malformed_fields(room, ids[0], made)
 
 
+# Formats of rev-list.
+PRETTIES = (
+    "oneline", "%s", "%b", "%B", "[%s]%n[%b]", "%an|%ae|%al|%ad", "%at %ct", "%ai %cI %aD %as %cn",
+    "%H %h %T %t %P %p", "%%n%n%x41%x0a%x00", "format:%s", "tformat:%s", "tformat:", "format:", "", "%x0", "%q", "x%",
+    "medium", "raw", "%+s",
+)
+
+
+def pretties(room: Room) -> list[Command]:
+    """What rev-list prints of commits by a format."""
+    made = room.init("pretties")
+    messages = ("one\n", "two\nlines\n\nbody\n", "\n\nlate\n", "", "no end", "cr\r\nlf\r\n\r\nbody\r\n",
+                "tail  \n\n\n\n", "x\n \ny\n", "  \n\t\n front\n  \n\n rest \n\n", "caf\xe9\n\nd\xe9j\xe0\n",
+                "\xc3\xa9t\xc3\xa9\n", "a\x0bb\n\x0c\nc\n")
+    people = ("A U Thor <author@example.org>", "J\xc3\xa9 <j@x>", "x <@>", "A  B.C <a.b+c@d.e@f>")
+    zones = ("+0000", "-0930", "+1400", "+0001")
+    ids = []
+    for n, message in enumerate(messages * 2):
+        parents = "".join(f"parent {it}\n" for it in ids[-1 - n % 3:])
+        author = f"{people[n % 4]} {1112904793 + 86400 * n} {zones[n % 4]}"
+        committer = f"{people[(n + 1) % 4]} {1500000000 + n // 2} {zones[(n + 2) % 4]}"
+        text = f"tree {EMPTY_TREE}\n{parents}author {author}\ncommitter {committer}\n\n{message}"
+        words = ("hash-object", "-t", "commit", "-w", "--literally", "--stdin")
+        ids.append(made.git(*words, data=text.encode("latin-1")))
+    made.git("hash-object", "-t", "tree", "-w", "--stdin")
+    made.git("update-ref", "refs/heads/main", ids[-1])
+    for n in (3, 8, 15):
+        made.git("update-ref", f"refs/heads/c{n}", ids[n])
+    made.git("tag", "-a", "-m", "of a commit", "annotated", ids[5])
+    made.git("tag", "tree", EMPTY_TREE)
+    made.ids = ids
+    options = ("main", "main -n 3 --parents", "--left-right --timestamp c15...main~3",
+               "--abbrev-commit --boundary c8..c15", "--no-commit-header main", "--reverse --abbrev=10 c3",
+               "--no-walk --all", "--quiet main", "--count main")
+    commands = [row(made, "rev-list", f"--format={it}", *words.split(" ")) for it in PRETTIES for words in options]
+    more = ("--oneline main", "--oneline --no-abbrev-commit main", "--oneline --no-abbrev c3",
+            "--oneline --parents -n 2 main", "--oneline --left-right c15...main~3", "--pretty main",
+            "--pretty=oneline --abbrev-commit c3", "--no-commit-header c3", "--oneline --no-commit-header c3",
+            "--no-commit-header --format=%H --commit-header c3")
+    walks = ("--no-walk", "--no-walk=sorted", "--no-walk=unsorted", "--no-walk=x", "--no-walk --do-walk",
+             "--no-walk=unsorted --do-walk", "--no-walk=unsorted --no-walk", "--no-walk --reverse",
+             "--no-walk -n 2 --skip=1", "--no-walk --count", "--no-walk --merges", "--no-walk --parents --first-parent",
+             "--no-walk --topo-order")
+    starts = ("c3 main c8 c3", "--all", "--tags", "main ^c3", "main ^tree", "c3..main", "main^@ c8", "--not main",
+              "tree c3", "--branches=c*")
+    globs = ("--glob=heads/c*", "--glob=refs/heads", "--glob=refs/heads/", "--glob=tags", "--glob heads", "--glob=*",
+             "--glob=c3", "--glob=refs/tags/annotated", "--not --glob=heads/c* --not main", "--glob",
+             "--no-walk --glob=heads")
+    commands += rows(made, *(f"rev-list {it}" for it in more + globs),
+                     *(f"rev-list {it} {start}" for it in walks for start in starts))
+    hidden = ("--exclude=refs/heads/c* --all", "--exclude=c* --branches", "--exclude=refs/heads/c3 --branches",
+              "--exclude=c3 --exclude c8 --branches --tags", "--exclude=refs/heads/* --glob=heads",
+              "--exclude=HEAD --all", "--exclude=* --branches", "--exclude=annotated --tags",
+              "--exclude=c3 --branches --branches=c*", "--branches --not --exclude=main --branches", "--exclude",
+              "--exclude=main c3", "--exclude=[cm]* --branches")
+    paths = ("c3..main", "c8..c15", "c3...c15", "main ^c8 ^c3", "main", "--first-parent c3..main",
+             "--topo-order c3..main", "--parents c8..main", "--count c8..main", "--reverse -n 3 c3..main",
+             "--left-right c8...main", "--boundary c8..main", "--since=1500000005 c3..main", "main c3 --not c8",
+             "--all --not c8", "main^!", "--right-only c8...main", "--left-only c15...main~3")
+    commands += rows(made, *(f"rev-list --no-walk {it}" for it in hidden), *(f"rev-list {it}" for it in hidden),
+                     *(f"rev-list --ancestry-path {it}" for it in paths))
+    ages = ("--since=1500000005", "--after 1500000005", "--until=1500000004", "--before 1500000004",
+            "--max-age=1500000003", "--min-age=1500000007", "--since=1500000002 --until=1500000006",
+            "--before=2017-07-14T02:40:05Z", "--since=2.weeks.ago", "--until=3.hours.ago", "--max-age=0",
+            "--since=1500000005 --no-walk", "--max-age=x")
+    more = ("main", "main --count", "main -n 2", "main --reverse --parents", "main --first-parent",
+            "main --topo-order", "c8..main", "c8...main --left-right", "--all --merges --skip=1",
+            "c3 c15 ^c8 --date-order", "main --boundary")
+    commands += rows(made, *(f"rev-list {age} {words}" for age in ages for words in more))
+    commands += [row(made, "rev-list", f"{option}={date}", "main") for option in ("--since", "--until", "--min-age")
+                 for date in ("2017-07-14 02:40:05 +0000", "2017-07-14 04:40:05 +0200", "2017-07-14T02:40:05-0100",
+                              "1 day ago", "5 minutes ago", "yesterday", "2017-07-14", "now", "", "1500000005 +0000",
+                              "3.months.ago")]
+    commands += rows(made, "rev-list main --since", "rev-list --until", "rev-list --since=1500000005")
+    encoded = room.copy(made, "pretties with a setting")
+    encoded.git("config", "i18n.logOutputEncoding", "ISO-8859-1")
+    encoded.may_be_refused = True
+    commands += rows(encoded, "rev-list --format=%s main", "rev-list --oneline main", "rev-list main")
+    recent = room.init("recent")
+    hour, day = 3600, 86400
+    for n, past in enumerate((-hour, 89 * 60, 91 * 60, 5 * hour, 35 * hour, 37 * hour, 13 * day, 14 * day, 69 * day,
+                              70 * day, 71 * day, 364 * day, 366 * day, 395 * day, 700 * day, 731 * day, 1824 * day,
+                              1826 * day, 7999 * day)):
+        id = recent.commit(date=int(time.time()) - past - 15, text=f"{n}")
+        recent.git("update-ref", f"refs/heads/past{n}", id)
+    return commands + rows(recent, "for-each-ref --format=%(refname)|%(committerdate:relative)|%(creatordate:relative)",
+                           "rev-list --no-walk --all --format=%ar|%cr", "rev-list --all --since=10.weeks.ago",
+                           "rev-list --all --since=36.hours.ago --until=2.hours.ago", is_strict=True)
+
+
 def malformed_fields(room: Room, id: str, base: Repository) -> list[Command]:
     """Objects whose lines of persons or dates are malformed, and objects that are missing."""
     made = room.copy(base, "malformed fields")
@@ -1406,6 +1565,8 @@ def malformed_fields(room: Room, id: str, base: Repository) -> list[Command]:
                            "taggeremail", "taggeremail:trim", "taggeremail:localpart", "subject")
                 for name in (*(f"m{n}" for n in range(17)), "signed")]
     commands += rows(made, "for-each-ref --format=%(refname) --sort=taggerdate refs/odd")
+    commands += [row(made, "rev-list", "-n", "1", f"--format={it}", f"c{n}")
+                 for it in ("%an|%ae|%al|%at|%ai", "%cn%cd", "%s") for n in range(len(base.ids))]
     lacking = room.copy(base, "fields of a lost object")
     lacking.twin = base.path
     lacking.remove(base.git("rev-parse", "c5"))
@@ -1440,7 +1601,7 @@ def many(room: Room) -> list[Command]:
 
 
 MAKERS = (names, signs, digits, branches, reflogs, working_trees, indexes, unusual, graphs, lost, nowhere, ties,
-          crossed, searched, strayed, deceived, packed, hostile, fields, many)
+          crossed, searched, strayed, deceived, packed, hostile, fields, pretties, many)
 
 
 def remove_made(room: Room) -> None:

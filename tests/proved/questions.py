@@ -186,11 +186,28 @@ class Asker:
             (6, ("--parents",)),
             (6, ("--reverse",)),
             (5, ("--topo-order", "--date-order", "--topo-order")),
-            (6, ("--merges", "--no-merges")),
+            (6, ("--merges", "--no-merges", "--min-parents=1", "--max-parents=0",
+                 "--max-parents=-1 --min-parents=2", "--merges --no-min-parents")),
             (9, ("--boundary",)),
+            (8, ("--left-only", "--right-only")),
+            (9, ("--timestamp",)),
+            (9, ("--abbrev-commit", "--abbrev-commit --abbrev=4", "--abbrev-commit --no-abbrev")),
+            (20, ("--quiet",)),
+            (6, ("--oneline", "--pretty=oneline", "--format=%H|%h|%T|%t|%P|%p", "--pretty=%an<%ae>%ad|%at|%s",
+                 "--pretty=format:%cn%n%cI%x09%cs%%%ci|%b|%B|", "--format=%s --no-commit-header", "--format=")),
+            (12, ("--no-walk", "--no-walk=sorted", "--no-walk=unsorted", "--no-walk --do-walk")),
+            (10, ("--ancestry-path",)),
+            (10, ("--exclude=refs/heads/line-* --all", "--exclude=v* --tags", "--exclude=line-1 --branches")),
+            (8, ("--since=1000002000", "--after 1000001200 --until=1000003300", "--before=1000002500",
+                 "--min-age=1000003000", "--max-age=1000000900", "--since=2001-09-09T02:20:00Z",
+                 "--since=3.days.ago", "--until=2.weeks.ago")),
         ):
             if self.is_once_in(odds):
                 words += self.rng.choice(ones).split(" ")
+        limits = ("--since", "--after", "--max-age", "--ancestry-path")
+        if self.place.is_untidy and any(it.startswith(limits) for it in words):
+            # If something is excluded, git may list too much, or leave out too much.
+            return ["rev-list", *words, *(self.commit() for _ in range(self.chosen(1, 2)))], b""
         texts = [self.text() for _ in range(self.chosen(1, 1, 1, 2, 3))]
         if self.is_once_in(6):
             texts = [self.range()]
@@ -201,6 +218,8 @@ class Asker:
             texts += ["--not"] + [self.revision()]
         if self.is_once_in(12):
             texts = [self.rng.choice(every), "--not", self.rng.choice(every)]
+        if {"--left-only", "--right-only"} & {*words}:
+            texts = [f"{self.revision()}...{self.revision()}"]
         if self.is_once_in(12):
             return ["rev-list", *words, "--stdin"], "".join(f"{it}\n" for it in texts).encode()
         words += texts
@@ -217,8 +236,14 @@ class Asker:
                 "%(refname:short)%09%(objectname)", "<%(refname)>%%", "%(refname:short)",
                 "%(HEAD) %(refname:lstrip=2) %(committerdate:unix)", "%(creatordate) %(subject)",
                 "%(refname) %(*objectname) %(taggerdate:raw)", "%(refname:rstrip=-2) %(refname)",
+                "%(refname:short) %(upstream:short) %(upstream:track) %(push:trackshort) %(symref)",
+                "%(if)%(HEAD)%(then)*%(else)-%(end) %(contents)%(tree)%(*tree) %(type) %(object)",
+                "%(align:30,middle)%(objecttype) %(objectsize)%(end)%(body)|%(refname:short)",
+                "%(committerdate:relative)|%(creatordate:relative)",
             )
         ]
+        if self.is_once_in(8):
+            words.append(self.chosen("--shell", "--perl", "--python", "--tcl", "--color=never"))
         if self.is_once_in(3):
             keys = ("refname", "-refname", "committerdate", "-creatordate", "taggerdate",
                     "version:refname", "-v:refname", "authordate")

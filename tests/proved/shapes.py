@@ -29,10 +29,17 @@ OPTIONS = {
         b"--not", b"--all", b"--branches", b"--tags", b"--remotes", b"--stdin", b"--count", b"-n",
         b"--max-count", b"--skip", b"--left-right", b"--first-parent", b"--parents", b"--reverse",
         b"--boundary", b"--topo-order", b"--date-order", b"--merges", b"--no-merges",
+        b"--min-parents", b"--max-parents", b"--no-min-parents", b"--no-max-parents",
+        b"--left-only", b"--right-only", b"--timestamp", b"--abbrev-commit",
+        b"--no-abbrev-commit", b"--abbrev", b"--no-abbrev", b"--quiet", b"--no-walk", b"--do-walk",
+        b"--glob", b"--pretty", b"--format", b"--oneline", b"--commit-header",
+        b"--no-commit-header", b"--since", b"--after", b"--until", b"--before", b"--max-age",
+        b"--min-age", b"--exclude", b"--ancestry-path",
     },
     b"for-each-ref": {
         b"--contains", b"--no-contains", b"--merged", b"--no-merged", b"--format", b"--count",
-        b"--sort", b"--points-at",
+        b"--sort", b"--points-at", b"--color", b"--shell", b"-s", b"--perl", b"-p", b"--python",
+        b"--tcl",
     },
 }
 
@@ -43,20 +50,43 @@ PARSED = (b"merge-base", b"describe", b"for-each-ref")
 BEFORE = {b"-C", b"--git-dir", b"--work-tree", b"--authentic", b"--authentic=whole", b"--version", b"-h", b"--help"}
 
 # The options of rev-list from which a list begins, without patterns.
-BEGINS = (b"--all", b"--branches", b"--tags", b"--remotes", b"--stdin")
+BEGINS = (b"--all", b"--branches", b"--tags", b"--remotes", b"--stdin", b"--glob")
 
 # The options of rev-list whose value is the next word.
-NUMBERS = (b"-n", b"--max-count", b"--skip")
+NUMBERS = (b"-n", b"--max-count", b"--skip", b"--since", b"--after", b"--until", b"--before", b"--max-age",
+           b"--min-age", b"--exclude")
 
 # The atoms of a format that are read.
 ATOMS = re.compile(
-    rb"refname(:short|:(l|r)?strip=-?\d{1,9})?|objectname(:short(=[1-9]\d{0,8})?)?|objecttype|HEAD|ahead-behind:.*"
-    rb"|\*?(objectname|objecttype|(contents:)?subject|tag"
+    rb"(refname|symref|upstream|push)(:short|:(l|r)?strip=-?\d{1,9})?|(upstream|push):(track|trackshort|nobracket)"
+    rb"|objectname(:short(=[1-9]\d{0,8})?)?|objecttype|HEAD|ahead-behind:.*"
+    rb"|if(:(not)?equals=.*)?|then|else|end"
+    rb"|align:(?=.*\d)(((width=)?\d{1,4}|(position=)?(left|middle|right))(,|$))+"
+    rb"|\*?(objectname|objecttype|objectsize|(contents:)?(subject|body)|contents(:size)?|tag|type|object|tree"
     rb"|(author|committer|tagger)(name|email(:trim)?)?"
-    rb"|(author|committer|tagger|creator)(date(:(default|iso(8601)?(-strict)?|rfc(2822)?|short|raw|unix))?)?|creator)")
+    rb"|(author|committer|tagger|creator)"
+    rb"(date(:(default|relative|iso(8601)?(-strict)?|rfc(2822)?|short|raw|unix))?)?|creator)")
+
+# The formats of rev-list that are read.
+PRETTY = re.compile(rb"oneline|(t?format:)?([^%]|%([HhTtPpsbBn%]|x[0-9a-fA-F]{2}|[ac][neldDiIrst]))*")
+
+# The dates that limit a list.
+AGES = {it: re.compile(rb"[1-9]\d{8,9}|\d{1,4}[ .](second|minute|hour|day|week)s?[ .]ago"
+                       rb"|\d{4}-\d\d-\d\d.*([-+]\d\d:?\d\d|Z)")
+        for it in (b"--since", b"--after", b"--until", b"--before")}
+AGES |= {it: re.compile(rb"\d{1,9}|1\d{9}") for it in (b"--max-age", b"--min-age")}
 
 # The keys of an order that are read.
 KEYS = re.compile(rb"-?((v:|version:)?refname|(author|committer|tagger|creator)date)")
+
+
+def has_closed_blocks(atoms: list[bytes]) -> bool:
+    """Returns whether each block of a format ends, and has its parts in order."""
+    words = b" ".join(it.partition(b":")[0] for it in atoms)
+    marks = b"".join(re.findall(rb"\b(?:if|then|else|end|align)\b", words))
+    for _ in atoms:
+        marks = re.sub(rb"ifthen(else)?end|alignend", b"", marks)
+    return not marks
 
 
 def is_read(word: bytes, option: bytes) -> bool:
@@ -110,9 +140,15 @@ def refused_option(word: bytes, option: bytes) -> str | None:
         return "an order"
     if word == b"for-each-ref" and name == b"--format":
         atoms = re.findall(rb"%\(([^)]*)\)", value)
-        if any(not ATOMS.fullmatch(it) for it in atoms):
+        if any(not ATOMS.fullmatch(it) for it in atoms) or not has_closed_blocks(atoms):
             return "a format"
-    numbers = (b"--abbrev", b"--candidates", b"--max-count", b"--skip", b"--short")
+    if word == b"rev-list" and name in (b"--pretty", b"--format") and not (
+            mark and PRETTY.fullmatch(value) and (b"%" in value or b"format:" in value or value in (b"", b"oneline"))):
+        return "a format"
+    if mark and name in AGES and not AGES[name].fullmatch(value):
+        return "a date"
+    numbers = (b"--abbrev", b"--candidates", b"--max-count", b"--skip", b"--short",
+               b"--min-parents", b"--max-parents")
     if mark and name in numbers and not re.fullmatch(rb"[-+]?\d{1,9}", value):
         return "a number that is none"
     return None
@@ -136,6 +172,32 @@ def refused_list(rest: tuple[bytes, ...]) -> str | None:
     if b"--boundary" in rest and (b"--first-parent" in rest
                                   or {b"--left-right", b"--count"} <= {*rest}):
         return "a boundary"
+    if b"--quiet" in rest and b"--count" in rest:
+        return "a count of nothing"
+    alone = {b"--no-walk", b"--no-walk=sorted", b"--no-walk=unsorted"} & {*rest}
+    if alone and (any(re.search(rb"\.\.|^\^|\^[!-]", it) for it in starts) or {
+            b"--not", b"--topo-order", b"--date-order", b"--boundary", b"--left-right", b"--stdin"} & {*rest}):
+        return "a list without a walk"
+    if b"--ancestry-path" in rest and (
+            b"--boundary" in rest or not any(re.search(rb"\.\.|^\^|\^[!-]", it) for it in starts + [*rest]) or
+            {it.partition(b"=")[0] for it in rest} & {*AGES, b"--no-walk"}):
+        return "a path"
+    if b"--all" in rest and any(it.startswith(b"--exclude") for it in rest):
+        return "hidden references"
+    limits = {it.partition(b"=")[0] for it in rest} & {*AGES}
+    if limits and {b"--topo-order", b"--date-order"} & {*rest}:
+        return "an order of dates"
+    if {b"--since", b"--after", b"--max-age"} & limits and (
+            {b"--boundary", b"--not"} & {*rest} or any(re.search(rb"\.\.|^\^|\^[!-]", it) for it in starts)):
+        return "a list with a date"
+    is_walked = any(re.match(rb"--do-walk|--max-count|-n|-\d", it) for it in rest)
+    if b"--no-walk=unsorted" in rest and is_walked:
+        return "an order of revisions"
+    if b"--no-commit-header" in rest and {b"--parents", b"--timestamp", b"--boundary"} & {*rest}:
+        return "a list without ids"
+    # Without a merge base git prints both sides.
+    if {b"--left-only", b"--right-only"} & {*rest}:
+        return "one side"
     if b"--left-right" in rest and len(starts) > 1 and any(b"..." in it for it in starts):
         return "both sides"
     is_one = len(starts) == 1 and not means_several(starts[0])
