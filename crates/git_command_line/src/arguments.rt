@@ -2,10 +2,10 @@
 
 use crate::front::Front;
 use git_session::stop::{Stop, failed, fatal, not_supported, refused, unread};
+use gix_date::date::Time;
 use gix_discover::{Environment, Variable};
 use gix_files::FileError;
-use gix_revision::Seed;
-use gix_revision::date::Time;
+use gix_revwalk::Seed;
 use std::alloc::AllocError;
 use std::env::{Env, FillError};
 use std::io::{self, ErrorKind};

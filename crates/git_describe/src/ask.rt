@@ -3,9 +3,9 @@
 use crate::table::Table;
 use git_session::session::Session;
 use git_session::stop::{Stop, not_supported};
+use gix_base::hash::ObjectId;
+use gix_describe::describe::{Manner, Tie};
 use gix_questions::Describe;
-use gix_revision::describe::{Manner, Tie};
-use gix_revision::hash::ObjectId;
 use std::borrow::CowSlice;
 use std::collections::HashMap;
 use std::marker::Brand;

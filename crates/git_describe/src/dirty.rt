@@ -7,11 +7,11 @@ use crate::head::{files_of, head_tree};
 use crate::work_tree::{open_tree, read_index, top_of};
 use git_session::session::Session;
 use git_session::stop::{Stop, failed, not_supported, unread};
+use gix_base::hash::ObjectId;
 use gix_files::{FileError, System};
 use gix_index::{
     Difference, Entry, FileKind, Index, Look, Looked, WorkTree, are_sorted, first_difference,
 };
-use gix_revision::hash::ObjectId;
 
 /// Returns the end for what only git decides about a path.
 fn undecided(session: &Session<'_>, path: &[u8]) -> Stop {

@@ -1,12 +1,12 @@
 //! Lists the files of the commit of `HEAD`.
 
-use git_session::names::commit_of;
-use git_session::ranges::revision;
+use git_revisions::ranges::revision;
+use git_session::commits::commit_of;
 use git_session::session::Session;
 use git_session::stop::{Stop, failed, fatal, not_supported};
+use gix_base::hash::ObjectId;
+use gix_base::object::Kind;
 use gix_index::tree::{Listed, TREE, TreeEntry, first};
-use gix_revision::hash::ObjectId;
-use gix_revision::object::Kind;
 
 /// Fails if a tree is replaced: git then takes the other tree in some places only.
 fn expect_own(session: &Session<'_>, tree: ObjectId) -> Result<(), Stop> {

@@ -18,14 +18,14 @@ use crate::asked::{Abbrev, Asked};
 use crate::dirty::is_dirty;
 use crate::patterns::refuse_odd;
 use crate::table::{Name, Priority, Table, tag_of};
-use git_session::names::commit_of;
-use git_session::ranges::revision;
+use git_revisions::ranges::revision;
+use git_session::commits::commit_of;
 use git_session::session::Session;
 use git_session::stop::{Stop, fatal, missing, not_supported};
+use gix_base::hash::ObjectId;
+use gix_base::object::Kind;
 use gix_questions::Describe;
 use gix_repository::Refusal;
-use gix_revision::hash::ObjectId;
-use gix_revision::object::Kind;
 use std::alloc::Global;
 
 /// Describes commits, one after another.

@@ -4,7 +4,7 @@ use crate::dates::{Date, Style, date_in, date_text, style_of};
 use crate::read::{Read, line_of};
 use git_session::session::Session;
 use git_session::stop::{Stop, not_supported};
-use gix_revision::object::Kind;
+use gix_base::object::Kind;
 use std::alloc::Global;
 
 /// Names a person of a commit or of a tag.

@@ -2,10 +2,10 @@
 
 use git_session::session::Session;
 use git_session::stop::{Stop, not_supported};
+use gix_base::hash::ObjectId;
+use gix_base::object::Kind;
 use gix_odb::Object;
 use gix_repository::Refusal;
-use gix_revision::hash::ObjectId;
-use gix_revision::object::Kind;
 use std::alloc::{AllocError, Global};
 
 /// Says how much of an object is wanted.

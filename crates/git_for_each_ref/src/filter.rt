@@ -1,13 +1,13 @@
 //! Selects references by their objects, by what their commits reach, and by what reaches them
 //! (git-for-each-ref, `--points-at`, `--contains`, `--merged`).
 
-use crate::list::Candidate;
+use git_references::Candidate;
 use git_session::session::Session;
 use git_session::stop::{Stop, fatal};
+use gix_base::hash::ObjectId;
+use gix_base::object::Kind;
 use gix_questions::{Contains, ReachableNewestFirst};
 use gix_repository::Refusal;
-use gix_revision::hash::ObjectId;
-use gix_revision::object::Kind;
 use std::alloc::{AllocError, Global};
 use std::marker::Brand;
 

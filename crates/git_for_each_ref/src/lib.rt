@@ -1,34 +1,21 @@
 //! Answers `for-each-ref` (git-for-each-ref).
+//!
+//! It reads the words, and selects references (`filter.rt`). `git_references` lists and prints them.
 #![tactic(auto)]
 
-mod blocks;
-mod fields;
 mod filter;
-mod format;
-mod list;
-mod messages;
-mod names;
-mod objects;
-mod patterns;
-mod print;
-mod quoting;
-mod siblings;
-mod sorting;
 
 use crate::filter::{Filter, apply};
-use crate::format::{Part, read_format};
-use crate::list::{Candidate, list_wanted};
-use crate::objects::Objects;
-use crate::print::{expect_names, extent_of, look_up, print_reference};
-use crate::quoting::Language;
-use crate::sorting::{SortKey, sort, sort_key};
+use git_references::{
+    Language, Printing, SortKey, list_wanted, print_references, read_format, sort_key,
+};
+use git_revisions::ranges::revision;
+use git_session::commits::commit_of;
 use git_session::integer::integer;
-use git_session::names::commit_of;
 use git_session::options::{add_choice, next_item};
-use git_session::ranges::revision;
 use git_session::session::Session;
 use git_session::stop::{Stop, fatal, not_supported};
-use gix_revision::hash::ObjectId;
+use gix_base::hash::ObjectId;
 use parse_options::{Choice, Given, Item, Reader, Value};
 use std::alloc::{AllocError, Global};
 
@@ -362,20 +349,6 @@ fn most(alloc: Global, count: i32) -> Result<usize, Stop> {
     }
 }
 
-/// Prints references, each on a line.
-fn print_all(
-    session: &mut Session<'_>,
-    objects: &mut Objects,
-    format: &[Part],
-    language: Option<Language>,
-    candidates: &[Candidate],
-) -> Result<(), Stop> {
-    for candidate in candidates {
-        print_reference(session, objects, format, language, candidate)?;
-    }
-    Ok(())
-}
-
 /// Answers `for-each-ref`, and returns the status.
 pub fn for_each_ref(session: &mut Session<'_>, words: &[&[u8]]) -> Result<u8, Stop> {
     let asked = Asked::read(session, words)?;
@@ -383,11 +356,12 @@ pub fn for_each_ref(session: &mut Session<'_>, words: &[&[u8]]) -> Result<u8, St
     let format = read_format(session, asked.format)?;
     let mut candidates = list_wanted(session, &asked.patterns)?;
     apply(session, &asked.filter, &mut candidates)?;
-    look_up(session, &format, &mut candidates)?;
-    let mut objects = Objects::new(session.alloc, extent_of(&format));
-    sort(session, &mut objects, &asked.keys, &mut candidates)?;
-    expect_names(session, &format, candidates.len())?;
-    candidates.truncate(most);
-    print_all(session, &mut objects, &format, asked.language, &candidates)?;
+    let printing = Printing {
+        format: &format,
+        keys: &asked.keys,
+        language: asked.language,
+        most,
+    };
+    print_references(session, printing, &mut candidates)?;
     Ok(0)
 }

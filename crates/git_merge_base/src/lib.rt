@@ -1,16 +1,17 @@
 //! Answers `merge-base` (git-merge-base).
 #![tactic(auto)]
 
-use git_session::bases::{bases_in_order, independent_commits, merge_bases, octopus_in_order};
-use git_session::forms::asks_entry;
-use git_session::names::{commit, commit_of, commits, commits_last_first};
+use git_revisions::bases::{bases_in_order, independent_commits, merge_bases, octopus_in_order};
+use git_revisions::forms::asks_entry;
+use git_revisions::names::{commit, commits, commits_last_first};
+use git_revisions::ranges::revision;
+use git_session::commits::commit_of;
 use git_session::options::{add_choice, next_item};
-use git_session::ranges::revision;
 use git_session::session::Session;
 use git_session::stop::{Stop, fatal, not_supported};
+use gix_base::hash::ObjectId;
 use gix_questions::IsAncestor;
 use gix_repository::Refusal;
-use gix_revision::hash::ObjectId;
 use parse_options::{Choice, Given, Item, Reader, Value};
 use std::alloc::{AllocError, Global};
 use std::marker::Brand;

@@ -5,7 +5,7 @@
 use git_session::integer::whole;
 use git_session::session::Session;
 use git_session::stop::{Stop, not_supported};
-use gix_revision::date::{Time, parse};
+use gix_date::date::{Time, parse};
 use std::alloc::Global;
 
 /// The units whose length is fixed.

@@ -1,6 +1,6 @@
 //! Looks whether a word is the name of a file, which git does not take for a revision then.
 
-use git_session::paths::{Turn, both, is_file, verify_file};
+use git_revisions::paths::{Turn, both, is_file, verify_file};
 use git_session::session::Session;
 use git_session::stop::{Stop, not_supported};
 

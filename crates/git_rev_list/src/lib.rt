@@ -1,51 +1,25 @@
 //! Answers `rev-list` (git-rev-list).
 //!
-//! Which commits some reach and others do not is the answer of a proved question, and so is how
-//! many these are. The order of a list is made here, as git makes it: the commits of the set come
-//! one after another, by what is read of each. What `--first-parent` follows, and what other
-//! options leave out or add, is also found here. If only some commits are wanted of all that
-//! revisions reach, as by `-n 10` or `--since`, the list is read as git reads it, and is not that of
-//! a question.
+//! It reads the words (`words.rt`) and the revisions (`revisions.rt`, `starts.rt`). `git_lists` makes
+//! the list or counts it, and `git_pretty` prints commits by a format.
 #![tactic(auto)]
 
 mod ages;
-mod boundary;
-mod counts;
-mod doubt;
 mod files;
-mod lists;
-mod order;
-mod pretty;
 mod revisions;
+mod shape;
 mod starts;
-mod topological;
-mod wishes;
 mod words;
 
-use crate::boundary::boundary_of;
-use crate::counts::print_count;
-use crate::lists::{left_side, listed};
-use crate::order::{Ids, set_of};
-use crate::pretty::{Pretty, print_few, print_subject, refuse_encodings};
-use crate::starts::Ends;
-use crate::wishes::{End, Order, Wishes};
+use crate::shape::{End, Shape};
 use crate::words::Scan;
+use git_lists::{Ends, Line, Order, Wishes, lines, print_count};
+use git_pretty::{Pretty, print_few, print_subject, refuse_encodings};
 use git_session::session::Session;
 use git_session::stop::{Stop, not_supported};
-use gix_revision::hash::ObjectId;
+use gix_base::hash::ObjectId;
 use std::alloc::{AllocError, Global};
 use std::io::Write;
-
-/// Returns the mark of a commit: its side.
-fn mark(wishes: &Wishes, left: &Ids, id: ObjectId) -> &'static [u8] {
-    if !wishes.has_sides {
-        b""
-    } else if left.contains_key(&id) {
-        b"<"
-    } else {
-        b">"
-    }
-}
 
 /// Prints the committer's date of a commit, in seconds since 1970, and a blank.
 fn print_date(session: &mut Session<'_>, id: ObjectId) -> Result<(), Stop> {
@@ -57,9 +31,9 @@ fn print_date(session: &mut Session<'_>, id: ObjectId) -> Result<(), Stop> {
 }
 
 /// Prints the id of a commit, with as many digits as are asked for.
-fn print_id(session: &mut Session<'_>, wishes: &Wishes, id: ObjectId) -> Result<(), Stop> {
-    if wishes.is_short {
-        print_few(session, wishes, id)
+fn print_id(session: &mut Session<'_>, shape: &Shape, id: ObjectId) -> Result<(), Stop> {
+    if shape.is_short {
+        print_few(session, shape.digits, id)
     } else {
         Ok(session.print_id(id)?)
     }
@@ -75,42 +49,11 @@ fn print_parents(session: &mut Session<'_>, id: ObjectId) -> Result<(), Stop> {
     Ok(())
 }
 
-/// A line of a list.
-#[derive(Clone, Copy)]
-struct Line {
-    mark: &'static [u8],
-    id: ObjectId,
-}
-
-/// Returns the lines of a list.
-fn lines(session: &mut Session<'_>, wishes: &Wishes, ends: &Ends) -> Result<Vec<Line>, Stop> {
-    let ids = listed(session, wishes, ends)?;
-    let left = if wishes.has_sides {
-        left_side(session, wishes, ends)?
-    } else {
-        set_of(session, &[])?
-    };
-    let mut lines = Vec::new(session.alloc);
-    for id in ids.iter() {
-        lines.push(Line {
-            mark: mark(wishes, &left, *id),
-            id: *id,
-        })?;
-    }
-    for come in boundary_of(session, wishes, &ids)?.iter() {
-        lines.push(Line {
-            mark: b"-",
-            id: come.id,
-        })?;
-    }
-    Ok(lines)
-}
-
 /// Prints the id of a commit, with its side and perhaps with its parents.
-fn print_header(session: &mut Session<'_>, wishes: &Wishes, line: Line) -> Result<(), Stop> {
+fn print_header(session: &mut Session<'_>, shape: &Shape, line: Line) -> Result<(), Stop> {
     session.print(line.mark)?;
-    print_id(session, wishes, line.id)?;
-    if wishes.has_parents {
+    print_id(session, shape, line.id)?;
+    if shape.has_parents {
         print_parents(session, line.id)?;
     }
     Ok(())
@@ -119,52 +62,47 @@ fn print_header(session: &mut Session<'_>, wishes: &Wishes, line: Line) -> Resul
 /// Prints a commit: its id, and what is asked for besides.
 fn print_line(
     session: &mut Session<'_>,
-    wishes: &Wishes,
+    shape: &Shape,
     pretty: &Pretty,
     line: Line,
 ) -> Result<(), Stop> {
-    if wishes.has_dates {
+    if shape.has_dates {
         print_date(session, line.id)?;
     }
     match pretty {
         Pretty::Nothing => {
-            print_header(session, wishes, line)?;
+            print_header(session, shape, line)?;
             session.print(b"\n")?;
         }
         Pretty::Oneline => {
-            print_header(session, wishes, line)?;
+            print_header(session, shape, line)?;
             session.print(b" ")?;
             print_subject(session, line.id)?;
             session.print(b"\n")?;
         }
         Pretty::Format(format) => {
-            if wishes.has_header {
+            if shape.has_header {
                 session.print(b"commit ")?;
-                print_header(session, wishes, line)?;
+                print_header(session, shape, line)?;
                 session.print(b"\n")?;
             }
-            format.print(session, wishes, line.id)?;
+            format.print(session, shape.digits, line.id)?;
         }
     }
     Ok(())
 }
 
 /// Prints a list of commits.
-fn print_list(
-    session: &mut Session<'_>,
-    wishes: &Wishes,
-    pretty: &Pretty,
-    ends: &Ends,
-) -> Result<(), Stop> {
-    let mut lines = lines(session, wishes, ends)?;
-    if wishes.is_reversed {
+fn print_list(session: &mut Session<'_>, scan: &Scan<'_>, ends: &Ends) -> Result<(), Stop> {
+    let mut lines = lines(session, &scan.wishes, ends)?;
+    if scan.shape.is_reversed {
         lines.reverse();
     }
-    if wishes.is_quiet {
+    if scan.shape.is_quiet {
         return Ok(());
     }
     for line in lines.iter() {
-        print_line(session, wishes, pretty, *line)?;
+        print_line(session, &scan.shape, &scan.pretty, *line)?;
     }
     Ok(())
 }
@@ -200,28 +138,28 @@ fn one_side(alloc: Global, wishes: &Wishes, ends: Ends, end: End) -> Result<Ends
 
 /// Ends for options that are not supported together.
 fn refuse_together(alloc: Global, scan: &Scan<'_>) -> Result<(), Stop> {
-    let wishes = &scan.wishes;
-    if wishes.is_quiet && wishes.counts {
+    let (wishes, shape) = (&scan.wishes, &scan.shape);
+    if shape.is_quiet && wishes.counts {
         return Err(not_supported(alloc, &[b"--quiet is not supported with --count"]));
     }
     let is_plain = wishes.order == Order::Met
         && !wishes.has_boundary
         && !wishes.has_sides
-        && wishes.only.is_none()
+        && shape.only.is_none()
         && !wishes.is_on_path
         && !scan.starts.has_excluded();
     if !wishes.is_walked && !is_plain || wishes.is_walked && !wishes.is_sorted {
         return Err(not_supported(alloc, &[b"--no-walk is not supported here"]));
     }
     let has_limits = wishes.since.is_some() || wishes.until.is_some() || wishes.has_boundary;
-    let is_whole = !has_limits && wishes.only.is_none();
+    let is_whole = !has_limits && shape.only.is_none();
     if wishes.is_on_path && (!is_whole || !scan.starts.has_excluded()) {
         return Err(not_supported(alloc, &[b"--ancestry-path is not supported here"]));
     }
     if wishes.since.is_some() && wishes.has_boundary {
         return Err(not_supported(alloc, &[b"--since is not supported with --boundary"]));
     }
-    let is_bare = !wishes.has_parents && !wishes.has_dates && !wishes.has_boundary;
+    let is_bare = !shape.has_parents && !shape.has_dates && !wishes.has_boundary;
     if !scan.has_header() && !is_bare {
         return Err(not_supported(alloc, &[b"--no-commit-header is not supported here"]));
     }
@@ -241,13 +179,13 @@ pub fn rev_list(session: &mut Session<'_>, words: &[&[u8]]) -> Result<u8, Stop> 
         refuse_encodings(session)?;
     }
     let mut ends = scan.starts.ends(session)?;
-    if let Some(end) = scan.wishes.only {
+    if let Some(end) = scan.shape.only {
         ends = one_side(session.alloc, &scan.wishes, ends, end)?;
     }
     if scan.wishes.counts {
         print_count(session, &scan.wishes, &ends)?;
     } else {
-        print_list(session, &scan.wishes, &scan.pretty, &ends)?;
+        print_list(session, &scan, &ends)?;
     }
     Ok(0)
 }

@@ -2,14 +2,14 @@
 
 use crate::files::{no_revision, refuse_file};
 use crate::starts::{Starts, bad_object, is_there};
-use git_session::bases::{bases_in_order, merge_bases};
-use git_session::ranges::{
+use git_revisions::bases::{bases_in_order, merge_bases};
+use git_revisions::ranges::{
     Ends, Marked, Shorthand, commit_reference, committish, ends_of, revision, shorthand_of,
     shorthand_tips,
 };
 use git_session::session::Session;
 use git_session::stop::{Stop, fatal, not_supported};
-use gix_revision::hash::ObjectId;
+use gix_base::hash::ObjectId;
 
 /// Says how a revision is read.
 #[derive(Clone, Copy)]

@@ -1,12 +1,13 @@
 //! The objects from which a list begins, and those that end it.
 
+use git_lists::Ends;
 use git_session::session::Session;
 use git_session::stop::{Stop, fatal, missing, not_supported};
+use gix_base::hash::ObjectId;
+use gix_base::object::Kind;
 use gix_discover::wildmatch::{Rules, is_match};
 use gix_ref::{Listing, Skipped, Why};
 use gix_repository::Refusal;
-use gix_revision::hash::ObjectId;
-use gix_revision::object::Kind;
 use std::alloc::{AllocError, Global};
 use std::cmp::Ordering;
 
@@ -30,21 +31,6 @@ pub(crate) struct Starts {
     hidden: Vec<Vec<u8>>,
     /// Tells whether they are those of one `A...B` alone.
     is_pair: bool,
-}
-
-/// The commits to which the objects lead.
-#[derive(Drop)]
-pub(crate) struct Ends {
-    /// Those from which the list begins.
-    pub(crate) included: Vec<ObjectId>,
-    /// Those that reach nothing of it.
-    pub(crate) excluded: Vec<ObjectId>,
-    /// Those of `included` that are left ends.
-    pub(crate) lefts: Vec<ObjectId>,
-    /// The others of `included`.
-    pub(crate) rights: Vec<ObjectId>,
-    /// Tells whether the list is that of one `A...B` alone, with its merge bases as `excluded`.
-    pub(crate) is_pair: bool,
 }
 
 /// Returns whether there is an object.
@@ -145,21 +131,19 @@ fn peeled(session: &mut Session<'_>, start: Start) -> Result<Option<ObjectId>, S
     }
 }
 
-impl Ends {
-    /// Adds a commit.
-    fn add(&mut self, start: Start, commit: ObjectId) -> Result<(), AllocError> {
-        if start.is_excluded {
-            self.excluded.push(commit)?;
-            return Ok(());
-        }
-        self.included.push(commit)?;
-        if start.is_left {
-            self.lefts.push(commit)?;
-        } else {
-            self.rights.push(commit)?;
-        }
-        Ok(())
+/// Adds the commit to which an object leads.
+fn add_commit(ends: &mut Ends, start: Start, commit: ObjectId) -> Result<(), AllocError> {
+    if start.is_excluded {
+        ends.excluded.push(commit)?;
+        return Ok(());
     }
+    ends.included.push(commit)?;
+    if start.is_left {
+        ends.lefts.push(commit)?;
+    } else {
+        ends.rights.push(commit)?;
+    }
+    Ok(())
 }
 
 impl Starts {
@@ -351,7 +335,7 @@ impl Starts {
         };
         for start in self.starts.iter() {
             if let Some(commit) = peeled(session, *start)? {
-                ends.add(*start, commit)?;
+                add_commit(&mut ends, *start, commit)?;
             }
         }
         Ok(ends)

@@ -1,10 +1,11 @@
 //! Reads the words of `rev-list` as git does: from left to right, each option by its exact name.
 
 use crate::ages::{moment, seconds};
-use crate::pretty::{Pretty, read_pretty};
 use crate::revisions::{self, Flags};
+use crate::shape::{End, Shape};
 use crate::starts::{Start, Starts};
-use crate::wishes::{End, Order, Wishes};
+use git_lists::{Order, Wishes};
+use git_pretty::{Pretty, read_pretty};
 use git_session::integer::{leading, whole};
 use git_session::options::{add_exact, unsupported};
 use git_session::session::Session;
@@ -165,6 +166,7 @@ pub(crate) struct Scan<'w> {
     /// The words that are left.
     words: Words<'w>,
     pub(crate) wishes: Wishes,
+    pub(crate) shape: Shape,
     pub(crate) pretty: Pretty,
     pub(crate) starts: Starts,
     /// Says how the next revision is read.
@@ -179,7 +181,7 @@ pub(crate) struct Scan<'w> {
 impl<'w> Scan<'w> {
     /// Tells whether the id of each commit is printed. Only a format can leave it out.
     pub(crate) fn has_header(&self) -> bool {
-        self.wishes.has_header || !matches!(self.pretty, Pretty::Format(_))
+        self.shape.has_header || !matches!(self.pretty, Pretty::Format(_))
     }
 
     /// Takes the next word.
@@ -193,24 +195,24 @@ impl<'w> Scan<'w> {
             Key::Count => self.wishes.counts = true,
             Key::Sides => self.wishes.has_sides = true,
             Key::FirstParent => self.wishes.is_first_parent = true,
-            Key::Parents => self.wishes.has_parents = true,
-            Key::Reverse => self.wishes.is_reversed = !self.wishes.is_reversed,
+            Key::Parents => self.shape.has_parents = true,
+            Key::Reverse => self.shape.is_reversed = !self.shape.is_reversed,
             Key::Boundary => self.wishes.has_boundary = true,
             Key::Order(order) => self.wishes.order = order,
             Key::Merges => self.wishes.least_parents = 2,
             Key::NoMerges => self.wishes.most_parents = 1,
             Key::AnyLeastParents => self.wishes.least_parents = 0,
             Key::AnyMostParents => self.wishes.most_parents = usize::MAX,
-            Key::Dates => self.wishes.has_dates = true,
-            Key::Short(is_short) => self.wishes.is_short = is_short,
-            Key::AllDigits => self.wishes.digits = Some(ID_DIGITS),
-            Key::Quiet => self.wishes.is_quiet = true,
+            Key::Dates => self.shape.has_dates = true,
+            Key::Short(is_short) => self.shape.is_short = is_short,
+            Key::AllDigits => self.shape.digits = Some(ID_DIGITS),
+            Key::Quiet => self.shape.is_quiet = true,
             Key::DoWalk => self.wishes.is_walked = true,
             Key::AncestryPath => self.wishes.is_on_path = true,
-            Key::Header(has_header) => self.wishes.has_header = has_header,
+            Key::Header(has_header) => self.shape.has_header = has_header,
             Key::Oneline => {
                 self.pretty = Pretty::Oneline;
-                self.wishes.is_short = true;
+                self.shape.is_short = true;
             }
             Key::Not => self.flags.is_turned = !self.flags.is_turned,
             Key::EndOfOptions => self.is_after_options = true,
@@ -265,7 +267,7 @@ impl<'w> Scan<'w> {
                 let most = leading_number(session.alloc, number)?;
                 self.wishes.most_parents = most.unwrap_or(usize::MAX);
             }
-            Key::Digits => self.wishes.digits = digits(session.alloc, value)?,
+            Key::Digits => self.shape.digits = digits(session.alloc, value)?,
             Key::Only(end) => return self.note_end(session.alloc, end),
             key => self.note_wish(key),
         }
@@ -289,11 +291,11 @@ impl<'w> Scan<'w> {
 
     /// Notes that only one side of `A...B` is wanted.
     fn note_end(&mut self, alloc: Global, end: End) -> Result<(), Stop> {
-        let texts = match (self.wishes.only, end) {
+        let texts = match (self.shape.only, end) {
             (Some(End::Right), End::Left) => ["--left-only", "--right-only"],
             (Some(End::Left), End::Right) => ["--right-only", "--left-only"],
             _ => {
-                self.wishes.only = Some(end);
+                self.shape.only = Some(end);
                 return Ok(());
             }
         };
@@ -412,6 +414,7 @@ pub(crate) fn read<'w>(session: &mut Session<'_>, words: &'w [&'w [u8]]) -> Resu
     let mut scan = Scan {
         words: Words::new(words),
         wishes: Wishes::new(),
+        shape: Shape::new(),
         pretty: Pretty::Nothing,
         starts: Starts::new(session.alloc),
         flags: Flags {

@@ -1,8 +1,8 @@
 //! Reads the options of `rev-parse`, which git reads word by word.
 
+use git_revisions::ranges::Tip;
 use git_session::integer::leading;
 use git_session::options::{add_exact, unsupported};
-use git_session::ranges::Tip;
 use git_session::stop::{Stop, fatal, not_supported};
 use git_session::words::Words;
 use parse_options::{Exact, Holds, Takes, exact_option};

@@ -9,9 +9,9 @@ pub use crate::asked::add_options;
 use crate::asked::{Asked, Place};
 use crate::folders::show_fact;
 use crate::show::{show_default, show_text, show_tip};
-use git_session::forms::{asks_sibling, is_counted};
-use git_session::paths::{Turn, verify_file};
-use git_session::ranges::{Tip, several_tips, single_tip};
+use git_revisions::forms::{asks_sibling, is_counted};
+use git_revisions::paths::{Turn, verify_file};
+use git_revisions::ranges::{Tip, several_tips, single_tip};
 use git_session::session::Session;
 use git_session::stop::{Stop, fatal};
 

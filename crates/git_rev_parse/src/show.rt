@@ -1,11 +1,11 @@
 //! Prints revisions and other words.
 
 use crate::asked::{Asked, Digits, Symbolic};
-use git_session::ranges::{Name, Tip, revision};
+use git_revisions::ranges::{Name, Tip, revision};
 use git_session::session::Session;
 use git_session::stop::Stop;
+use gix_base::hash::ObjectId;
 use gix_repository::Refusal;
-use gix_revision::hash::ObjectId;
 use std::alloc::{AllocError, Global};
 use std::io::Write;
 

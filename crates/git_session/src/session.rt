@@ -1,10 +1,10 @@
 //! The repository, and what is printed.
 
 use crate::stop::Stop;
+use gix_base::hash::ObjectId;
 use gix_discover::Environment;
 use gix_files::System;
 use gix_repository::Repository;
-use gix_revision::hash::ObjectId;
 use std::alloc::{AllocError, Global};
 use std::io::Write;
 

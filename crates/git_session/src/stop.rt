@@ -1,9 +1,9 @@
 //! Says why a word ends without its answer.
 
+use gix_base::hash::ObjectId;
 use gix_discover::{DiscoverError, Reason};
 use gix_files::FileError;
 use gix_repository::Refusal;
-use gix_revision::hash::ObjectId;
 use std::alloc::{AllocError, AllocFailed, Global};
 use std::io::Write;
 

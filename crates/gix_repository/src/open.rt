@@ -7,8 +7,8 @@ use crate::repository::Repository;
 use gix_base::hash::ObjectId;
 use gix_date::date::Time;
 use gix_discover::{
-    DiscoverError, Environment, Layout, Places, Settings, SmallFileError, Variable, discover,
-    grafts, shallow,
+    Abbrev, DiscoverError, Environment, Layout, Places, Settings, SmallFileError, Variable,
+    discover, grafts, shallow,
 };
 use gix_files::{FileError, Folders, Limit, read_file};
 use gix_graph_rows::GraphRows;
@@ -304,6 +304,43 @@ pub struct Opening {
     pub mode: Mode,
 }
 
+impl<F: Folders + Drop, A: Allocator + Copy> Repository<F, A> {
+    /// Makes a repository of which nothing was asked so far.
+    fn made(
+        alloc: A,
+        opening: Opening,
+        layout: Layout<A>,
+        settings: Settings<A>,
+        references: References<F, A>,
+        commits: Commits<F, A>,
+    ) -> Repository<F, A>
+        ensures mode { result.mode ≡ opening.mode }
+    {
+        Repository {
+            alloc,
+            refusals: opening.refusals,
+            seed: opening.seed,
+            now: opening.now,
+            abbrev: Abbrev::Auto,
+            warns: true,
+            is_quiet: false,
+            is_silent: false,
+            layout,
+            settings,
+            references,
+            history: History::new(alloc, opening.seed, commits),
+            mode: opening.mode,
+            loaded: match opening.mode {
+                Mode::Whole => Some(Loaded::new(alloc, opening.seed)),
+                _ => None,
+            },
+            tags: BTreeMap::new(alloc),
+            peeled: BTreeMap::new(alloc),
+            messages: Vec::new(alloc),
+        }
+    }
+}
+
 impl<F: Places + Copy + Drop, A: Allocator + Copy> Repository<F, A> {
     /// Opens the repository of the current folder, as `environment` says where it is.
     ///
@@ -336,29 +373,11 @@ impl<F: Places + Copy + Drop, A: Allocator + Copy> Repository<F, A> {
             &mut references,
         )?;
         let commits = commits_of(alloc, files, &layout, &settings, changes, opening.mode)?;
-        let abbrev = settings.abbrev(alloc)?;
-        let warns = settings.warns_ambiguous_refs(alloc)?;
-        Ok(Repository {
-            alloc,
-            refusals: opening.refusals,
-            seed: opening.seed,
-            now: opening.now,
-            abbrev,
-            warns,
-            is_quiet: false,
-            is_silent: false,
-            layout,
-            settings,
-            references,
-            history: History::new(alloc, opening.seed, commits),
-            mode: opening.mode,
-            loaded: match opening.mode {
-                Mode::Whole => Some(Loaded::new(alloc, opening.seed)),
-                _ => None,
-            },
-            tags: BTreeMap::new(alloc),
-            peeled: BTreeMap::new(alloc),
-            messages: Vec::new(alloc),
-        })
+        let mut repository = Repository::made(
+            alloc, opening, layout, settings, references, commits,
+        );
+        repository.abbrev = repository.settings.abbrev(alloc)?;
+        repository.warns = repository.settings.warns_ambiguous_refs(alloc)?;
+        Ok(repository)
     }
 }
