@@ -12,8 +12,8 @@ import time
 
 from questions import Command, each, row, rows
 from repositories import (
-    EMPTY_TREE, ENVIRONMENT, LOGS, Repository, Room, age, chained, digit_names, filed, kept, logged,
-    many_references, odd_names, one_line, siblings, trees,
+    EMPTY_TREE, ENVIRONMENT, LOGS, Repository, Room, age, chained, digit_names, encoded, filed, kept,
+    logged, many_references, odd_names, one_line, siblings, trees,
 )
 
 WORDS = ("merge-base", "describe", "rev-parse", "rev-list", "for-each-ref")
@@ -1182,6 +1182,58 @@ def searched(room: Room) -> list[Command]:
     return commands + each(made, "merge-base HEAD", "y" * 4050, "y" * 4100)
 
 
+def paths(room: Room) -> list[Command]:
+    """Paths in trees. A tree may be out of order, replaced or damaged, and a path like a name."""
+    made = room.init("paths")
+    blob = made.git("hash-object", "-w", "--stdin", data=b"content")
+
+    def tree(*entries: tuple[str, str | bytes, str]) -> str:
+        """Writes a tree, in the order given."""
+        content = b"".join(b"%s %s\0%s" % (mode.encode(), encoded(name), bytes.fromhex(id))
+                           for mode, name, id in entries)
+        return made.git("hash-object", "-t", "tree", "-w", "--literally", "--stdin", data=content)
+
+    deep = tree(("100644", "file", blob), ("40000", "more", tree(("100755", "run", blob))))
+    named = tree(("100644", "a-b", blob), ("100644", "a.c", blob), ("40000", "a", deep),
+                 ("120000", "link", blob), ("160000", "module", "1" * 40), ("100644", "p^", blob),
+                 ("100644", "v1-3-gabcd", blob), ("100644", "v1-game.c", blob),
+                 ("100644", "x y", blob), ("100644", "x:y", blob), ("100644", b"\xff", blob))
+    front = made.git("commit-tree", named, "-m", "first")
+    made.git("update-ref", "refs/heads/main", front)
+    made.tag("tagged", front, 2000)
+    made.tag("tree", named, 2000)
+    made.git("tag", "content", blob)
+    unsorted = tree(("100644", "z", blob), ("100644", "b", blob), ("40000", "a", deep))
+    broken = tree(("100644", "a", blob), ("9", "b", blob), ("100644", "c", blob))
+    lost = tree(("40000", "gone", "2" * 40), ("100644", "there", blob))
+    cut = made.git("hash-object", "-t", "tree", "-w", "--literally", "--stdin",
+                   data=b"100644 a\0" + bytes.fromhex(blob) + b"rest")
+    for name, top in (("unsorted", unsorted), ("broken", broken), ("lost", lost), ("cut", cut)):
+        made.git("update-ref", f"refs/heads/{name}", made.git("commit-tree", top, "-m", name))
+    there = ("HEAD:", "HEAD:a", "HEAD:a/", "HEAD:a/file", "HEAD:a/more/run", "HEAD:a-b",
+             "main:a.c", "HEAD:link", "HEAD:module", "HEAD:x y", b"HEAD:\xff", "tree:a/file",
+             "tagged:a/file", "tagged^{tree}:a-b", "HEAD^{tree}:a/more", "@:a-b", "HEAD:x:y",
+             f"{front}:a/file", f"{front[:9]}:a/file", f"{named[:9]}:a/file", "HEAD~0:a-b",
+             "HEAD:v1-game.c", "HEAD:p^", "unsorted:z", "lost:there")
+    odd = ("HEAD:nosuch", "HEAD:a/nosuch", "HEAD:a-b/", "HEAD:a-b/x", "HEAD:/a", "HEAD:a//file",
+           "HEAD:./a", "HEAD:../a", "HEAD:.", "HEAD:a/.", "HEAD:link/x", "HEAD:module/x",
+           "HEAD:v1-3-gabcd", "HEAD:v1-3-gabcd^", "content:a", "nosuch:a", "unsorted:a",
+           "unsorted:b", "broken:a", "broken:b", "broken:c", "lost:gone", "lost:gone/x", "cut:a",
+           "cut:", ":a", "HEAD:a@{0}", "HEAD@{0}:a", "HEAD:a^{tree}", "HEAD:a..main:a-b",
+           "^HEAD:a", "lost:nosuch")
+    commands = []
+    for words in ("rev-parse", "rev-parse --verify", "rev-parse -q --verify", "rev-parse --short"):
+        commands += each(made, words, *there, is_strict=True) + each(made, words, *odd)
+    for words in ("rev-parse --symbolic-full-name", "rev-parse --abbrev-ref", "rev-list --count",
+                  "rev-list --no-walk", "merge-base HEAD", "for-each-ref --points-at"):
+        commands += each(made, words, *there)
+    for words in ("rev-list HEAD", "merge-base HEAD", "describe"):
+        commands += each(made, words, *odd)
+    replaced = room.copy(made, "paths with a replacement")
+    replaced.git("replace", deep, named)
+    return commands + each(replaced, "rev-parse", "HEAD:a", "HEAD:a/a-b", "HEAD:a/file")
+
+
 def strayed(room: Room) -> list[Command]:
     """Siblings by unusual refspecs and names, and the detached HEAD of the main worktree."""
     commands = []
@@ -1529,10 +1581,10 @@ def pretties(room: Room) -> list[Command]:
                               "1 day ago", "5 minutes ago", "yesterday", "2017-07-14", "now", "", "1500000005 +0000",
                               "3.months.ago")]
     commands += rows(made, "rev-list main --since", "rev-list --until", "rev-list --since=1500000005")
-    encoded = room.copy(made, "pretties with a setting")
-    encoded.git("config", "i18n.logOutputEncoding", "ISO-8859-1")
-    encoded.may_be_refused = True
-    commands += rows(encoded, "rev-list --format=%s main", "rev-list --oneline main", "rev-list main")
+    set_up = room.copy(made, "pretties with a setting")
+    set_up.git("config", "i18n.logOutputEncoding", "ISO-8859-1")
+    set_up.may_be_refused = True
+    commands += rows(set_up, "rev-list --format=%s main", "rev-list --oneline main", "rev-list main")
     recent = room.init("recent")
     hour, day = 3600, 86400
     for n, past in enumerate((-hour, 89 * 60, 91 * 60, 5 * hour, 35 * hour, 37 * hour, 13 * day, 14 * day, 69 * day,
@@ -1601,7 +1653,7 @@ def many(room: Room) -> list[Command]:
 
 
 MAKERS = (names, signs, digits, branches, reflogs, working_trees, indexes, unusual, graphs, lost, nowhere, ties,
-          crossed, searched, strayed, deceived, packed, hostile, fields, pretties, many)
+          crossed, searched, paths, strayed, deceived, packed, hostile, fields, pretties, many)
 
 
 def remove_made(room: Room) -> None:

@@ -107,7 +107,7 @@ def refused_text(text: bytes, folder: bytes) -> str | None:
     """Returns why a revision may be refused."""
     if re.search(rb"\^\{/|^:/|\.\.:/", text):
         return "a search"
-    if re.search(rb"^:|\.\.:|[^^{]:(?!/)", re.sub(rb"\{[^}]*\}", b"", text)):
+    if b":" in re.sub(rb"\{[^}]*\}", b"", text):
         return "a path"
     braces = re.findall(rb"@\{([^}]*)\}", text)
     if any(not re.fullmatch(rb"-?\d{1,8}|u(pstream)?|push", it, re.I) for it in braces):

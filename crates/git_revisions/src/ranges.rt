@@ -243,14 +243,18 @@ pub fn commit_reference(session: &mut Session<'_>, id: ObjectId) -> Result<Optio
 ///
 /// # Errors
 ///
-/// `NotSupported` for paths of the index and odd forms, and `Fatal` if git ends there with a message.
+/// - `NotSupported` for paths in the index and odd forms.
+/// - `Fatal` if git ends there with a message.
 fn is_nothing(session: &Session<'_>, text: &[u8]) -> Result<bool, Stop> {
     let alloc = session.alloc;
     if text.starts_with(b":/") && text.len() > 2 {
         return Ok(false);
     }
     if text.starts_with(b":") {
-        return Err(not_supported(alloc, &[b"'", text, b"': paths are not supported"]));
+        return Err(not_supported(
+            alloc,
+            &[b"'", text, b"': paths in the index are not supported"],
+        ));
     }
     match form_of(text) {
         Form::Usual => Ok(false),

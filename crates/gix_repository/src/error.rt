@@ -41,7 +41,7 @@ impl Unsupported {
     /// Returns the text that says what is not supported.
     pub fn text(self) -> &'static str {
         match self {
-            Unsupported::Path => "paths are not supported",
+            Unsupported::Path => "this path is not supported",
             Unsupported::Regex => "regular expressions are not supported",
             Unsupported::Date => "this form of a date is not supported",
             Unsupported::Form => "this form of a revision is not supported",

@@ -23,6 +23,7 @@ mod marks;
 mod messages;
 mod names;
 mod open;
+mod paths;
 mod peel;
 mod reflogs;
 mod repository;

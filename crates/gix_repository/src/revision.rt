@@ -155,7 +155,7 @@ impl<'r, 't, F: Folders + Drop, A: Allocator + Copy> Lookup<'r, 't, F, A> {
                 self.repository.expect_sound(id, kind)?;
                 Ok(id)
             }
-            PeelTo::Path(_) => Err(Refusal::NotSupported(Unsupported::Path)),
+            PeelTo::Path(path) => self.repository.at_path(id, path),
         }
     }
 
