@@ -6,6 +6,7 @@ Each function makes its repositories in a room, and returns the commands.
 from __future__ import annotations
 
 import os
+import re
 import shutil
 import subprocess
 import time
@@ -546,6 +547,8 @@ def working_trees(room: Room) -> list[Command]:
                          "refs/worktree/own", "worktree/own", "worktrees/touched/refs/worktree/own")
         commands += rows(place, "describe --all HEAD~2", "rev-list --all -n 3", "describe --broken",
                          folder=place.path + b"/folder")
+        commands += rows(place, "rev-list --exclude=worktrees/* --all", "rev-list --exclude=*/HEAD --all",
+                         "rev-list --exclude=main-worktree/HEAD --all", "rev-list --exclude=x --branches")
     inside = commands[0].place
     commands += rows(inside, "describe --tags --dirty", "describe --dirty HEAD",
                      folder=inside.path + b"/.git", is_strict=True)
@@ -1585,6 +1588,15 @@ def pretties(room: Room) -> list[Command]:
     set_up.git("config", "i18n.logOutputEncoding", "ISO-8859-1")
     set_up.may_be_refused = True
     commands += rows(set_up, "rev-list --format=%s main", "rev-list --oneline main", "rev-list main")
+    doubled = room.copy(made, "pretties with two authors")
+    content = doubled.git("cat-file", "commit", "c3")
+    for word in ("author", "committer"):
+        odd = re.sub(f"(?m)^({word} .*)$", f"\\1\n{word} other <o@example.org> 5 +0000", content, count=1)
+        id = doubled.git("hash-object", "-t", "commit", "-w", "--literally", "--stdin", data=encoded(odd))
+        doubled.git("update-ref", f"refs/heads/{word}", id)
+    doubled.may_be_refused = True
+    commands += rows(doubled, *(f"rev-list --no-walk --format={it} {word}" for word in ("author", "committer")
+                                for it in ("%an%at", "%cn|%ct", "%s")), "rev-list --oneline author")
     recent = room.init("recent")
     hour, day = 3600, 86400
     for n, past in enumerate((-hour, 89 * 60, 91 * 60, 5 * hour, 35 * hour, 37 * hour, 13 * day, 14 * day, 69 * day,
@@ -1594,7 +1606,22 @@ def pretties(room: Room) -> list[Command]:
         recent.git("update-ref", f"refs/heads/past{n}", id)
     return commands + rows(recent, "for-each-ref --format=%(refname)|%(committerdate:relative)|%(creatordate:relative)",
                            "rev-list --no-walk --all --format=%ar|%cr", "rev-list --all --since=10.weeks.ago",
-                           "rev-list --all --since=36.hours.ago --until=2.hours.ago", is_strict=True)
+                           "rev-list --all --since=36.hours.ago --until=2.hours.ago", is_strict=True) + spoken(recent)
+
+
+def spoken(recent: Repository) -> list[Command]:
+    """Relative dates in other languages and at another time."""
+    commands = []
+    for locale, languages, is_strict in (
+            ("C", "de", True), ("POSIX", "en:de", True), ("", "de", True), ("C.UTF-8", "", True),
+            ("C.UTF-8", "en", True), ("C.UTF-8", "C:de", True), ("C.UTF-8", "en:de", False),
+            ("C.UTF-8", "de", False), ("C.UTF-8", "en_US.UTF-8:fr:C", False)):
+        environment = {b"LC_ALL": locale.encode(), b"LANG": b"C", b"LANGUAGE": languages.encode()}
+        commands += rows(recent, "rev-list --no-walk --all --format=%cr", environment=environment,
+                         is_strict=is_strict)
+    return commands + rows(recent, "rev-list --no-walk --all --format=%cr", "rev-list --all --since=10.weeks.ago",
+                           "for-each-ref --format=%(committerdate:relative)",
+                           environment={b"GIT_TEST_DATE_NOW": b"1700000000"}, is_strict=True)
 
 
 def malformed_fields(room: Room, id: str, base: Repository) -> list[Command]:

@@ -222,6 +222,8 @@ def refused_variable(environment: dict[bytes, bytes]) -> str | None:
     for name in (b"GIT_CONFIG_NOSYSTEM", b"GIT_DISCOVERY_ACROSS_FILESYSTEM"):
         if not re.fullmatch(rb"|on|off|true|false|yes|no|\d+", environment.get(name, b"")):
             return "a variable that is no boolean"
+    if re.match(rb"(en[^:]*:)*(?!en|C)[^:]", environment.get(b"LANGUAGE", b"")):
+        return "another language"
     return None
 
 

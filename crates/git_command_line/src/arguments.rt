@@ -1,6 +1,7 @@
 //! Reads the command line, the environment and the clock.
 
 use crate::front::Front;
+use git_session::integer::leading;
 use git_session::stop::{Stop, failed, fatal, not_supported, refused, unread};
 use gix_date::date::Time;
 use gix_discover::{Environment, Variable};
@@ -117,36 +118,59 @@ pub fn environment(rt: &HostRuntime, front: &Front<'_>) -> Result<Environment, S
     Ok(environment)
 }
 
-/// Returns a variable of the environment; zero bytes if it is too long to name a language.
-fn language(rt: &HostRuntime, name: &str) -> Result<Vec<u8>, AllocError> {
+/// Returns a short variable of the environment; zero bytes if it is too long.
+fn variable(rt: &HostRuntime, name: &str) -> Result<Option<Vec<u8>>, AllocError> {
     let mut bytes = Vec::new(rt.alloc());
     bytes.resize(64, 0u8)?;
     match rt.var(name, bytes.as_mut_slice()) {
         Ok(n) => bytes.truncate(n),
-        Err(FillError::NotPresent) => bytes.clear(),
+        Err(FillError::NotPresent) => return Ok(None),
         Err(FillError::TooLong) => {}
     }
-    Ok(bytes)
+    Ok(Some(bytes))
 }
 
-/// Tells whether git writes English in a language; in no language it does.
+/// Tells whether a locale is one in which nothing is translated.
+fn is_untranslated(locale: &[u8]) -> bool {
+    locale == b"C".as_slice() || locale == b"POSIX".as_slice()
+}
+
+/// Tells whether git has no translation for a language.
 fn is_english(language: &[u8]) -> bool {
-    language.is_empty()
-        || language == b"C".as_slice()
-        || language == b"POSIX".as_slice()
-        || language.starts_with(b"C.")
-        || language.starts_with(b"en")
+    language.is_empty() || language.starts_with(b"C.") || language.starts_with(b"en")
+}
+
+/// Tells whether git writes English if `LANGUAGE` has these languages. The first that has a
+/// translation counts.
+fn are_english(languages: &[u8]) -> bool {
+    for language in languages.split(|byte| *byte == b':') {
+        if is_untranslated(language) {
+            return true;
+        }
+        if !is_english(language) {
+            return false;
+        }
+    }
+    true
+}
+
+/// Tells whether git writes English in a locale.
+fn speaks_english_in(rt: &HostRuntime, locale: &[u8]) -> Result<bool, AllocError> {
+    if is_untranslated(locale) {
+        return Ok(true);
+    }
+    match variable(rt, "LANGUAGE")? {
+        Some(languages) if !languages.is_empty() => Ok(are_english(&languages)),
+        _ => Ok(is_english(locale)),
+    }
 }
 
 /// Tells whether git would write English (locale(7), gettext(3)).
 pub fn speaks_english(rt: &HostRuntime) -> Result<bool, AllocError> {
-    if !is_english(&language(rt, "LANGUAGE")?) {
-        return Ok(false);
-    }
     for name in ["LC_ALL", "LC_MESSAGES", "LANG"] {
-        let language = language(rt, name)?;
-        if !language.is_empty() {
-            return Ok(is_english(&language));
+        match variable(rt, name)? {
+            Some(locale) if !locale.is_empty() => return speaks_english_in(rt, &locale),
+            _ => {}
         }
     }
     Ok(true)
@@ -161,14 +185,31 @@ pub fn seed(rt: &HostRuntime) -> Seed {
     }
 }
 
-/// Returns the current time. Of a clock that is set to a time before 1970 it is 1970.
-pub fn now(rt: &HostRuntime) -> Result<Time, Stop> {
+/// Returns the time of the clock, in seconds since 1970. If it is set to a time before 1970 it is
+/// 1970.
+fn clock(rt: &HostRuntime) -> Result<i64, Stop> {
     let Ok(time) = SystemTime::now(rt) else {
         return Err(failed(rt.alloc(), &[b"cannot read the clock"]));
     };
-    let seconds = match time.duration_since(SystemTime::UNIX_EPOCH) {
-        Ok(since) => since.as_secs().cast_signed(),
-        Err(_) => 0,
+    match time.duration_since(SystemTime::UNIX_EPOCH) {
+        Ok(since) => Ok(since.as_secs().cast_signed()),
+        Err(_) => Ok(0),
+    }
+}
+
+/// Returns the current time, which git reads from `GIT_TEST_DATE_NOW` if this is set.
+pub fn now(rt: &HostRuntime) -> Result<Time, Stop> {
+    let seconds = match variable(rt, "GIT_TEST_DATE_NOW")? {
+        Some(text) => match leading(&text) {
+            Some(seconds) => i64::from(seconds),
+            None => {
+                return Err(not_supported(
+                    rt.alloc(),
+                    &[b"this value of GIT_TEST_DATE_NOW is not supported"],
+                ));
+            }
+        },
+        None => clock(rt)?,
     };
     Ok(Time { seconds, offset: 0 })
 }

@@ -136,11 +136,19 @@ fn print_part(
     Ok(())
 }
 
+/// Tells whether the header of a commit has more than one line that begins with a word.
+fn is_repeated(content: &[u8], word: &[u8]) -> bool {
+    let header = content
+        .split(|byte| *byte == b'\n')
+        .take_while(|line| !line.is_empty());
+    header.filter(|line| line.starts_with(word)).count() > 1
+}
+
 /// Reads a commit.
 ///
 /// # Errors
 ///
-/// - `NotSupported` if it names an encoding.
+/// - `NotSupported` if it names an encoding, or two authors or committers.
 /// - `Refused` if it is damaged or missing.
 fn read_commit(session: &mut Session<'_>, id: ObjectId) -> Result<Read, Stop> {
     let Some(read) = read_object(session, id, Extent::Whole)? else {
@@ -150,6 +158,12 @@ fn read_commit(session: &mut Session<'_>, id: ObjectId) -> Result<Read, Stop> {
         return Err(not_supported(
             session.alloc,
             &[b"a commit with an encoding is not supported with a format"],
+        ));
+    }
+    if is_repeated(&read.content, b"author ") || is_repeated(&read.content, b"committer ") {
+        return Err(not_supported(
+            session.alloc,
+            &[b"a commit with two authors or committers is not supported"],
         ));
     }
     Ok(read)

@@ -301,11 +301,19 @@ impl Starts {
         session: &mut Session<'_>,
         is_excluded: bool,
     ) -> Result<(), Stop> {
+        let has_hidden = !self.hidden.is_empty();
         if self.is_hidden(b"HEAD")? {
             return Err(not_supported(self.alloc, &[b"--exclude of HEAD is not supported"]));
         }
         self.add_references(session, "refs/", None, is_excluded)?;
         let heads = session.repository.heads()?;
+        if has_hidden && heads.len() > 1 {
+            // git names the HEAD of another work tree by the work tree.
+            return Err(not_supported(
+                self.alloc,
+                &[b"--exclude is not supported with --all if there are several work trees"],
+            ));
+        }
         for id in heads.iter() {
             if !is_there(session, *id)? {
                 return Err(missing(*id));
