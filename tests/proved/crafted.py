@@ -918,8 +918,11 @@ def graphs(room: Room) -> list[Command]:
         name = os.path.basename(of.path).decode()
         places = [filed(room, of, f"{name}, whole"), filed(room, of, f"{name}, part", 20),
                   chained(room, of, f"{name}, chain")]
+        pair = "...".join(of.ids[-2:])
+        sides = [f"rev-list {it} {pair}" for it in ("--right-only", "--left-only --count", "--left-only --date-order",
+                                                    "--right-only --topo-order", "--left-right --topo-order")]
         for place in places:
-            commands += common(place, *WHOLE)
+            commands += common(place, *WHOLE, *sides)
     broken = filed(room, base, "with a broken file")
     broken.write(".git/objects/info/commit-graph", b"CGPH nothing")
     cut = filed(room, base, "with a cut file")

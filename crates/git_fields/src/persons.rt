@@ -58,13 +58,13 @@ pub fn what_of(rest: &[u8]) -> Option<What> {
     }
 }
 
-/// Returns the line of a person; empty if the object has none.
-pub fn person_line(read: &Read, who: Who) -> &[u8] {
+/// Returns the line of a person; `None` if the object has none.
+pub fn person_line(read: &Read, who: Who) -> Option<&[u8]> {
     let word = match (read.kind, who) {
         (Kind::Commit, Who::Author) => b"author".as_slice(),
         (Kind::Commit, Who::Committer | Who::Creator) => b"committer",
         (Kind::Tag, Who::Tagger | Who::Creator) => b"tagger",
-        _ => return &[],
+        _ => return None,
     };
     line_of(&read.content, word)
 }
@@ -79,10 +79,9 @@ fn malformed(alloc: Global) -> Stop {
 
 /// Returns the date of a person; `None` if the object has no line of the person.
 pub fn date_of(alloc: Global, read: &Read, who: Who) -> Result<Option<Date>, Stop> {
-    let line = person_line(read, who);
-    if line.is_empty() {
+    let Some(line) = person_line(read, who) else {
         return Ok(None);
-    }
+    };
     match date_in(line) {
         Some(date) => Ok(Some(date)),
         None => Err(malformed(alloc)),
@@ -130,7 +129,11 @@ fn email(alloc: Global, line: &[u8], what: What) -> Result<Vec<u8>, Stop> {
     Ok(text)
 }
 
-/// Returns a part of the line of a person.
+/// Returns a part of the line of a person; an empty text if the object has none.
+///
+/// # Errors
+///
+/// `NotSupported` if the line is empty, or its part is malformed: git then reads the lines behind it.
 pub fn person_text(
     session: &Session<'_>,
     read: &Read,
@@ -138,9 +141,11 @@ pub fn person_text(
     what: What,
 ) -> Result<Vec<u8>, Stop> {
     let alloc = session.alloc;
-    let line = person_line(read, who);
-    if line.is_empty() {
+    let Some(line) = person_line(read, who) else {
         return Ok(Vec::new(alloc));
+    };
+    if line.is_empty() {
+        return Err(malformed(alloc));
     }
     match what {
         What::Line => Ok(line.to_vec(alloc)?),

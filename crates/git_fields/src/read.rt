@@ -40,18 +40,17 @@ impl Read {
     }
 }
 
-/// Returns the rest of the first line of the header that begins with a word and a blank; empty if
-/// there is none.
-pub fn line_of<'c>(content: &'c [u8], word: &[u8]) -> &'c [u8] {
+/// Returns the rest of the first line of the header that begins with a word and a blank.
+pub fn line_of<'c>(content: &'c [u8], word: &[u8]) -> Option<&'c [u8]> {
     for line in content.split(|byte| *byte == b'\n') {
         if line.is_empty() {
             break;
         }
         if let Some([b' ', rest @ ..]) = line.strip_prefix(word) {
-            return rest;
+            return Some(rest);
         }
     }
-    &[]
+    None
 }
 
 /// Returns what follows the header of an object, without the empty lines before it.

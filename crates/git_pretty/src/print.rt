@@ -97,7 +97,7 @@ fn print_parents(
 ///
 /// `NotSupported` if the line is not regular.
 fn print_person(session: &mut Session<'_>, read: &Read, who: Who, what: What) -> Result<(), Stop> {
-    if !is_regular(person_line(read, who)) {
+    if !person_line(read, who).is_some_and(is_regular) {
         return Err(not_supported(
             session.alloc,
             &[b"a malformed line of an author or committer is not supported"],
@@ -154,7 +154,7 @@ fn read_commit(session: &mut Session<'_>, id: ObjectId) -> Result<Read, Stop> {
     let Some(read) = read_object(session, id, Extent::Whole)? else {
         return Err(missing(id));
     };
-    if !line_of(&read.content, b"encoding").is_empty() {
+    if line_of(&read.content, b"encoding").is_some() {
         return Err(not_supported(
             session.alloc,
             &[b"a commit with an encoding is not supported with a format"],

@@ -127,6 +127,16 @@ fn id_text(alloc: Global, id: ObjectId) -> Result<Vec<u8>, AllocError> {
     digits[..written].to_vec(alloc)
 }
 
+/// Returns the text of a line of the header; that of an id has small letters.
+fn line_text(alloc: Global, read: &Read, word: &str) -> Result<Vec<u8>, Stop> {
+    let line = line_of(&read.content, word.as_bytes()).unwrap_or(&[]);
+    let is_id = word.as_bytes() == b"tree".as_slice() || word.as_bytes() == b"object".as_slice();
+    match ObjectId::from_hex(line) {
+        Ok(id) if is_id => Ok(id_text(alloc, id)?),
+        _ => Ok(line.to_vec(alloc)?),
+    }
+}
+
 /// Returns the text of a field.
 ///
 /// # Errors
@@ -146,7 +156,7 @@ pub(crate) fn field_text(
         Field::Kind => Ok(kind_name(read.kind).to_vec(alloc)?),
         Field::Size => number_text(alloc, read.size),
         Field::Line(kind, _) if read.kind != kind => Ok(Vec::new(alloc)),
-        Field::Line(_, word) => Ok(line_of(&read.content, word.as_bytes()).to_vec(alloc)?),
+        Field::Line(_, word) => line_text(alloc, read, word),
         Field::Person(who, what) => person_text(session, read, who, what),
         Field::MessageSize if has_message => number_text(alloc, message(&read.content).len()),
         field if has_message => message_text(alloc, message(&read.content), field),

@@ -57,10 +57,12 @@ pub(crate) fn sibling_of(field: &[u8]) -> Option<(SiblingBranch, Shown)> {
     if let Some(form) = form_of(end) {
         return Some((kind, Shown::Name(form)));
     }
-    match shown_by(end.strip_prefix(b":")?)? {
-        Shown::Remote | Shown::RemoteRef if kind == SiblingBranch::Push => None,
-        shown => Some((kind, shown)),
+    // With these words git prints other fields of a branch that has no push destination.
+    let names_remote = end.windows(6).any(|six| six == b"remote".as_slice());
+    if kind == SiblingBranch::Push && names_remote {
+        return None;
     }
+    Some((kind, shown_by(end.strip_prefix(b":")?)?))
 }
 
 /// Returns how many commits only one commit reaches, and how many only another.

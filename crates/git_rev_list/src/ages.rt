@@ -22,7 +22,10 @@ fn is_age(text: &[u8]) -> bool {
     };
     let unit = unit.strip_suffix(b"s").unwrap_or(unit);
     let is_last = words.next() == Some(b"ago".as_slice()) && words.next().is_none();
+    // git reads no count of more than two digits that begins with 0.
+    let is_padded = number.len() > 2 && number.starts_with(b"0");
     is_last
+        && !is_padded
         && number.len() <= 4
         && whole(number).is_some()
         && UNITS.iter().any(|one| one.as_bytes() == unit)
@@ -77,7 +80,12 @@ fn moment_of(now: i64, text: &[u8]) -> Option<i64> {
         seconds: now,
         offset: 0,
     };
-    Some(parse(text, now).ok()?.seconds)
+    let moment = parse(text, now).ok()?;
+    // To git the offset -0001 is none.
+    if moment.offset == -60 {
+        return None;
+    }
+    Some(moment.seconds)
 }
 
 /// Returns the moment of `--since` or `--until`, in seconds since 1970.

@@ -111,11 +111,12 @@ fn print_list(session: &mut Session<'_>, scan: &Scan<'_>, ends: &Ends) -> Result
 ///
 /// # Errors
 ///
-/// `NotSupported` if there is more than one `A...B`, if its ends have no merge base (then git prints
-/// both sides), and where git's answer depends on how it walks.
+/// `NotSupported` if there is more than one `A...B`, and where git's answer depends on how it walks.
+/// It prints both sides if the ends have no merge base, and in another order with a commit-graph.
 fn one_side(alloc: Global, wishes: &Wishes, ends: Ends, end: End) -> Result<Ends, Stop> {
     let counts_sides = wishes.counts && wishes.has_sides;
-    let is_plain = !wishes.is_first_parent && !wishes.has_boundary && !counts_sides;
+    let is_met = wishes.order == Order::Met;
+    let is_plain = is_met && !wishes.is_first_parent && !wishes.has_boundary && !counts_sides;
     if !ends.is_pair || ends.excluded.is_empty() || !is_plain {
         return Err(not_supported(
             alloc,
@@ -179,6 +180,12 @@ pub fn rev_list(session: &mut Session<'_>, words: &[&[u8]]) -> Result<u8, Stop> 
         refuse_encodings(session)?;
     }
     let mut ends = scan.starts.ends(session)?;
+    if scan.wishes.is_on_path && ends.excluded.is_empty() {
+        return Err(not_supported(
+            session.alloc,
+            &[b"--ancestry-path is not supported without an excluded commit"],
+        ));
+    }
     if let Some(end) = scan.shape.only {
         ends = one_side(session.alloc, &scan.wishes, ends, end)?;
     }

@@ -111,6 +111,20 @@ fn are_same<A: Allocator>(first: &Option<Vec<u8, A>>, second: &Option<Vec<u8, A>
     }
 }
 
+/// Returns the short name of a branch; `None` if another reference has the full name.
+///
+/// # Errors
+///
+/// `NotSupported` for a branch named `HEAD`, for which git takes the current one.
+fn short_of(name: &[u8]) -> Result<Option<&[u8]>, Refusal> {
+    match name.strip_prefix(b"refs/heads/".as_slice()) {
+        Some(short) if short == b"HEAD".as_slice() => {
+            Err(Refusal::NotSupported(Unsupported::Form))
+        }
+        short => Ok(short),
+    }
+}
+
 /// The branch that belongs to a branch.
 #[derive(Drop)]
 pub struct Sibling<A: Allocator = Global> {
@@ -169,15 +183,6 @@ impl<F: Folders + Drop, A: Allocator + Copy> Repository<F, A> {
         Ok(found)
     }
 
-    /// Returns the remote-tracking branch of a remote's branch, by its settings `fetch`. Without one,
-    /// a branch of the remote `.` is the local branch itself.
-    fn tracking(&self, remote: &[u8], name: &[u8]) -> Result<Option<Vec<u8, A>>, Refusal> {
-        match self.mapped_by(remote, b"fetch", name)? {
-            None if remote == b".".as_slice() => Ok(Some(name.to_vec(self.alloc)?)),
-            mapped => Ok(mapped),
-        }
-    }
-
     /// Returns the remote and the branch there from which a local branch is merged, whose short
     /// name is `short` (git-config, `branch.<name>.remote`, `branch.<name>.merge`).
     ///
@@ -204,11 +209,28 @@ impl<F: Folders + Drop, A: Allocator + Copy> Repository<F, A> {
         }
     }
 
-    /// Returns the upstream branch of a local branch, whose short name is `short`.
-    fn upstream(&self, short: &[u8]) -> Result<Option<Vec<u8, A>>, Refusal> {
-        match self.merged_from(short)? {
-            Some((remote, name)) => self.tracking(remote, name),
-            None => Ok(None),
+    /// Returns the upstream branch of a local branch, whose short name is `short`: the branch to which
+    /// the remote's settings `fetch` map the merged one. Without one, the branch of the remote `.` is
+    /// what its name means here.
+    fn upstream(&mut self, short: &[u8]) -> Result<Option<Vec<u8, A>>, Refusal> {
+        let Some((remote, name)) = self.merged_from(short)? else {
+            return Ok(None);
+        };
+        let mapped = self.mapped_by(remote, b"fetch", name)?;
+        if mapped.is_some() || remote != b".".as_slice() {
+            return Ok(mapped);
+        }
+        let name = name.to_vec(self.alloc)?;
+        Ok(Some(self.meant_by(name)?))
+    }
+
+    /// Returns the full name of the reference that a name means by the rules of short names; the name
+    /// itself if it means none or several.
+    fn meant_by(&mut self, name: Vec<u8, A>) -> Result<Vec<u8, A>, Refusal> {
+        let warns = self.warns_of_ambiguous_names();
+        match self.references.short(&name)? {
+            Some(named) if !(warns && named.is_ambiguous) => Ok(named.reference.name),
+            _ => Ok(name),
         }
     }
 
@@ -222,15 +244,37 @@ impl<F: Folders + Drop, A: Allocator + Copy> Repository<F, A> {
         }
         match self.setting(b"branch", Some(short), b"remote")? {
             Some(remote) => Ok(remote),
-            None => Ok(b"origin"),
+            None if self.has_origin() => Ok(b"origin"),
+            // git takes the only remote, and else this one.
+            None => Err(Refusal::NotSupported(Unsupported::Push)),
         }
+    }
+
+    /// Returns whether a remote `origin` is configured.
+    fn has_origin(&self) -> bool {
+        for key in [b"url".as_slice(), b"pushurl", b"fetch", b"push", b"mirror"] {
+            let value = self.settings.value(b"remote", Some(b"origin"), key);
+            if value.is_some() {
+                return true;
+            }
+        }
+        false
     }
 
     /// Returns whether a remote says itself what is pushed to it.
     fn says_push(&self, remote: &[u8]) -> Result<bool, Refusal> {
         let settings = &self.settings;
         let refspecs = settings.values(self.alloc, b"remote", Some(remote), b"push")?;
-        Ok(!refspecs.is_empty() || settings.value(b"remote", Some(remote), b"mirror").is_some())
+        Ok(!refspecs.is_empty())
+    }
+
+    /// Returns whether all references are pushed to a remote (git-config, `remote.<name>.mirror`).
+    fn is_mirror(&self, remote: &[u8]) -> Result<bool, Refusal> {
+        let settings = &self.settings;
+        match settings.boolean(self.alloc, b"remote", Some(remote), b"mirror", false) {
+            Ok(is_mirror) => Ok(is_mirror),
+            Err(_) => Err(Refusal::Sibling),
+        }
     }
 
     /// Returns the branch that a branch is pushed to, as its remote's settings `push` say.
@@ -246,25 +290,29 @@ impl<F: Folders + Drop, A: Allocator + Copy> Repository<F, A> {
     }
 
     /// Returns the branch that a branch is pushed to.
-    fn pushed(&self, branch: &[u8], short: &[u8]) -> Result<Option<Vec<u8, A>>, Refusal> {
-        let remote = self.push_remote(short)?;
-        if self.says_push(remote)? {
-            self.pushed_by_refspec(remote, branch)
+    fn pushed(&mut self, branch: &[u8], short: &[u8]) -> Result<Option<Vec<u8, A>>, Refusal> {
+        let remote = self.push_remote(short)?.to_vec(self.alloc)?;
+        if self.says_push(&remote)? {
+            self.pushed_by_refspec(&remote, branch)
+        } else if self.is_mirror(&remote)? {
+            self.mapped_by(&remote, b"fetch", branch)
         } else {
-            self.pushed_by_default(remote, branch, short)
+            self.pushed_by_default(&remote, branch, short)
         }
     }
 
     /// Returns the branch that a branch is pushed to (git-config, `push.default`).
     fn pushed_by_default(
-        &self,
+        &mut self,
         remote: &[u8],
         branch: &[u8],
         short: &[u8],
     ) -> Result<Option<Vec<u8, A>>, Refusal> {
-        let how = self
-            .setting(b"push", None, b"default")?
-            .unwrap_or(b"simple");
+        let how = match self.setting(b"push", None, b"default")? {
+            Some(how) => how.to_vec(self.alloc)?,
+            None => b"simple".to_vec(self.alloc)?,
+        };
+        let how = how.as_slice();
         if how == b"upstream".as_slice() || how == b"tracking".as_slice() {
             return self.upstream(short);
         }
@@ -285,7 +333,7 @@ impl<F: Folders + Drop, A: Allocator + Copy> Repository<F, A> {
     /// Returns the full name of the sibling of a branch, whose short name is `short`; `None` if none
     /// is configured.
     fn sibling_name(
-        &self,
+        &mut self,
         short: &[u8],
         kind: SiblingBranch,
     ) -> Result<Option<Vec<u8, A>>, Refusal> {
@@ -312,38 +360,20 @@ impl<F: Folders + Drop, A: Allocator + Copy> Repository<F, A> {
         name: &[u8],
         kind: SiblingBranch,
     ) -> Result<Option<Sibling<A>>, Refusal> {
-        let Some(short) = name.strip_prefix(b"refs/heads/".as_slice()) else {
+        let Some(short) = short_of(name)? else {
             return Ok(None);
         };
         let Some(name) = self.sibling_name(short, kind)? else {
             return Ok(None);
         };
-        let name = self.resolved_name(short, name)?;
         let id = found_id(self.references.follow(&name))?;
         Ok(Some(Sibling { name, id }))
-    }
-
-    /// Returns the name of a branch's sibling, which git reads by the rules of short names if it is
-    /// not that of a remote.
-    fn resolved_name(&mut self, short: &[u8], name: Vec<u8, A>) -> Result<Vec<u8, A>, Refusal> {
-        let is_local = match self.merged_from(short)? {
-            Some((remote, _)) => remote == b".".as_slice(),
-            None => false,
-        };
-        if !is_local {
-            return Ok(name);
-        }
-        let warns = self.warns_of_ambiguous_names();
-        match self.references.short(&name)? {
-            Some(named) if !(warns && named.is_ambiguous) => Ok(named.reference.name),
-            _ => Ok(name),
-        }
     }
 
     /// Returns the remote and the branch there from which the reference with this full name is
     /// merged. The errors are those of [`Repository::sibling_branch`].
     pub fn merged_branch(&self, name: &[u8]) -> Result<Option<(&[u8], &[u8])>, Refusal> {
-        match name.strip_prefix(b"refs/heads/".as_slice()) {
+        match short_of(name)? {
             Some(short) => self.merged_from(short),
             None => Ok(None),
         }
