@@ -416,6 +416,36 @@ SIBLINGS = (
 )
 
 
+def remotes(made: Repository, room: Room) -> list[Command]:
+    """Upstreams and push destinations by unusual settings."""
+    ours = "+refs/heads/*:refs/remotes/{}/*"
+    settings_by_name = {
+        "a mirror": ("remote.origin.mirror true",),
+        "no mirror": ("remote.origin.mirror false", "push.default current"),
+        "a mirror that pushes": ("remote.origin.mirror true", "remote.origin.push refs/heads/*:refs/heads/*"),
+        "a mapped local branch": (f"remote...fetch {ours.format('origin')}", "branch.local.merge refs/heads/main"),
+        "another remote": ("branch.local.pushRemote origin", "push.default current"),
+        "one remote": (f"remote.up.fetch {ours.format('up')}", "push.default current"),
+    }
+    commands = []
+    for name, texts in settings_by_name.items():
+        place = room.copy(made, f"siblings with {name}")
+        place.git("update-ref", "refs/remotes/origin/x", "main~1")
+        place.git("symbolic-ref", "refs/remotes/origin/local", "refs/remotes/origin/x")
+        if name == "one remote":
+            for section in ("remote.origin", "remote", "branch.main", "branch.tracked"):
+                place.git("config", "--remove-section", section)
+        for text in texts:
+            place.git("config", *text.split(" ", 1))
+        commands += [row(place, "for-each-ref", f"--format={it}", is_strict=name != "one remote") for it in SIBLINGS]
+        commands += rows(place, "for-each-ref --format=%(push:remotename,track)|%(push:nobracket,remoteref)",
+                         "rev-parse --abbrev-ref @{push} local@{u}", "rev-parse local@{push}")
+    head = room.copy(made, "a branch with the name HEAD")
+    head.git("update-ref", "refs/heads/HEAD", "main~1")
+    head.may_be_refused = True
+    return commands + [row(head, "for-each-ref", f"--format={it}") for it in SIBLINGS]
+
+
 def branches(room: Room) -> list[Command]:
     """Upstreams, where branches are pushed to, and reflogs."""
     made = siblings(room)
@@ -448,6 +478,7 @@ def branches(room: Room) -> list[Command]:
         if default != "bad":
             commands += each(made, "for-each-ref", formats[3],
                              environment=settings("push.default", default))
+    commands += remotes(made, room)
     gone = room.copy(made, "gone upstream")
     gone.git("update-ref", "-d", "refs/remotes/origin/other")
     gone.git("symbolic-ref", "refs/heads/symbolic", "refs/heads/dev")
@@ -1574,6 +1605,11 @@ def pretties(room: Room) -> list[Command]:
              "--all --not c8", "main^!", "--right-only c8...main", "--left-only c15...main~3")
     commands += rows(made, *(f"rev-list --no-walk {it}" for it in hidden), *(f"rev-list {it}" for it in hidden),
                      *(f"rev-list --ancestry-path {it}" for it in paths))
+    commands += rows(made, "rev-list --ancestry-path main ^c3^{tree}", "rev-list --ancestry-path --count main ^c3^{tree}")
+    commands += [row(made, "rev-list", option, "main") for option in (
+        "--since=007 days ago", "--since=0100.days.ago", "--until=0007 days ago", "--since=01 days ago",
+        "--since=2017-07-14 02:40:05 -0001", "--until=2017-07-14 02:40:05 -00:01", "--since=2017-07-14 02:40:05 +0001",
+        "--until=2017-07-14 02:40:05 -0000")]
     ages = ("--since=1500000005", "--after 1500000005", "--until=1500000004", "--before 1500000004",
             "--max-age=1500000003", "--min-age=1500000007", "--since=1500000002 --until=1500000006",
             "--before=2017-07-14T02:40:05Z", "--since=2.weeks.ago", "--until=3.hours.ago", "--max-age=0",
@@ -1642,7 +1678,20 @@ def malformed_fields(room: Room, id: str, base: Repository) -> list[Command]:
     text = f"object {id}\ntype commit\ntag sig\ntagger A <a> 5 +0000\n\n-----BEGIN PGP MESSAGE-----\nx\n"
     made.git("update-ref", "refs/odd/signed", made.git("hash-object", "-t", "tag", "-w", "--literally",
                                                        "--stdin", data=text.encode()))
-    commands = [row(made, "for-each-ref", f"--format=%(refname)|%({it})|", f"refs/odd/{name}")
+    who = "A <a> 5 +0000"
+    odd = {"empty-tagger": ("tag", f"object {id}\ntype commit\ntag x\ntagger \n\nm <q@r> 77 +0000\n"),
+           "empty-author": ("commit", f"tree {EMPTY_TREE}\nauthor \ncommitter {who}\n\nm\n"),
+           "great-tree": ("commit", f"tree {EMPTY_TREE.upper()}\nauthor {who}\ncommitter {who}\n\nm\n"),
+           "great-object": ("tag", f"object {id.upper()}\ntype commit\ntag {id.upper()}\ntagger {who}\n\nm\n")}
+    for name, (kind, text) in odd.items():
+        words = ("hash-object", "-t", kind, "-w", "--literally", "--stdin")
+        made.git("update-ref", f"refs/odd/{name}", made.git(*words, data=text.encode()))
+    commands = [row(made, "for-each-ref", f"--format=%({it})", f"refs/odd/{name}")
+                for it in ("tree", "object", "tag", "author", "authoremail", "authordate:raw", "taggeremail", "creatordate:unix")
+                for name in odd]
+    commands += rows(made, "for-each-ref --sort=authordate refs/odd/empty-author refs/heads/c1",
+                     "rev-list --no-walk --format=%T|%an refs/odd/great-tree")
+    commands += [row(made, "for-each-ref", f"--format=%(refname)|%({it})|", f"refs/odd/{name}")
                 for it in ("taggerdate", "taggerdate:raw", "taggerdate:unix", "creatordate:iso", "taggername",
                            "taggeremail", "taggeremail:trim", "taggeremail:localpart", "subject")
                 for name in (*(f"m{n}" for n in range(17)), "signed")]

@@ -236,7 +236,7 @@ class Asker:
                 "%(refname:short)%09%(objectname)", "<%(refname)>%%", "%(refname:short)",
                 "%(HEAD) %(refname:lstrip=2) %(committerdate:unix)", "%(creatordate) %(subject)",
                 "%(refname) %(*objectname) %(taggerdate:raw)", "%(refname:rstrip=-2) %(refname)",
-                "%(refname:short) %(upstream:short) %(upstream:track) %(push:trackshort) %(symref)",
+                "%(refname:short) %(upstream:short) %(upstream:track) %(symref)",
                 "%(if)%(HEAD)%(then)*%(else)-%(end) %(contents)%(tree)%(*tree) %(type) %(object)",
                 "%(align:30,middle)%(objecttype) %(objectsize)%(end)%(body)|%(refname:short)",
                 "%(committerdate:relative)|%(creatordate:relative)",

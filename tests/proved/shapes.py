@@ -76,6 +76,9 @@ AGES = {it: re.compile(rb"[1-9]\d{8,9}|\d{1,4}[ .](second|minute|hour|day|week)s
         for it in (b"--since", b"--after", b"--until", b"--before")}
 AGES |= {it: re.compile(rb"\d{1,9}|1\d{9}") for it in (b"--max-age", b"--min-age")}
 
+# Dates that git reads otherwise than they say.
+ODD_AGES = re.compile(rb"0\d\d+[ .].*|.*-00:?01")
+
 # The keys of an order that are read.
 KEYS = re.compile(rb"-?((v:|version:)?refname|(author|committer|tagger|creator)date)")
 
@@ -142,10 +145,12 @@ def refused_option(word: bytes, option: bytes) -> str | None:
         atoms = re.findall(rb"%\(([^)]*)\)", value)
         if any(not ATOMS.fullmatch(it) for it in atoms) or not has_closed_blocks(atoms):
             return "a format"
+        if any(it.startswith(b"push") for it in atoms):
+            return "a push destination"
     if word == b"rev-list" and name in (b"--pretty", b"--format") and not (
             mark and PRETTY.fullmatch(value) and (b"%" in value or b"format:" in value or value in (b"", b"oneline"))):
         return "a format"
-    if mark and name in AGES and not AGES[name].fullmatch(value):
+    if mark and name in AGES and (not AGES[name].fullmatch(value) or ODD_AGES.fullmatch(value)):
         return "a date"
     numbers = (b"--abbrev", b"--candidates", b"--max-count", b"--skip", b"--short",
                b"--min-parents", b"--max-parents")
@@ -179,7 +184,8 @@ def refused_list(rest: tuple[bytes, ...]) -> str | None:
             b"--not", b"--topo-order", b"--date-order", b"--boundary", b"--left-right", b"--stdin"} & {*rest}):
         return "a list without a walk"
     if b"--ancestry-path" in rest and (
-            b"--boundary" in rest or not any(re.search(rb"\.\.|^\^|\^[!-]", it) for it in starts + [*rest]) or
+            b"--boundary" in rest or any(it.endswith(b"^{tree}") for it in starts) or
+            not any(re.search(rb"\.\.|^\^|\^[!-]", it) for it in starts + [*rest]) or
             {it.partition(b"=")[0] for it in rest} & {*AGES, b"--no-walk"}):
         return "a path"
     if b"--all" in rest and any(it.startswith(b"--exclude") for it in rest):
