@@ -16,13 +16,13 @@ mod boundary;
 mod counts;
 mod doubt;
 mod ends;
-mod lines;
 mod lists;
+mod marks;
 mod order;
 mod topological;
 mod wishes;
 
 pub use counts::print_count;
 pub use ends::Ends;
-pub use lines::{Line, lines};
+pub use marks::{Line, lines};
 pub use wishes::{Order, Wishes};
