@@ -371,7 +371,7 @@ class Repositories(unittest.TestCase):
             asked.merge_bases("one", "nosuch")
         with self.assertRaises(NotThere):
             asked.merge_bases("nosuch")
-        with self.assertRaisesRegex(NotSupported, "'one:path': paths are not supported; ask git$"):
+        with self.assertRaisesRegex(NotSupported, "'one:path': this path is not supported; ask git$"):
             asked.rev_parse("one:path")
         for bad in ("", "-n1", "a\nb"):
             with self.assertRaises(ValueError):
