@@ -2,15 +2,19 @@
 //!
 //! - [`Folders`] and [`Opened`] are the traits by which the crates above read files, so that a test
 //!   can stand in for the file system.
-//! - [`System`] implements them over the file system.
+//! - [`System`] implements them over the file system, [`Memory`] and [`One`] over bytes in memory.
 //! - [`read_file`] is the one way by which crates read a file whole, up to a [`Limit`].
 #![tactic(auto)]
 
-ghost use Rattle.std.specs.Prelude.{◌≤◌, length, IfOk};
+ghost use Rattle.std.specs.Prelude.{◌≡◌, ◌<◌, ◌≤◌, ℕ, List, length, take, IfOk, Option};
+ghost use Rattle.gix_files.specs.Known.{IsPart};
+ghost use Rattle.std.specs.Option.{option_map};
 
+mod memory;
 mod system;
 mod whole;
 
+pub use memory::{Memory, One};
 use std::alloc::{AllocError, AllocFailed, Allocator};
 use std::io::ErrorKind;
 pub use system::System;
@@ -40,28 +44,55 @@ impl<T: Drop> From<AllocFailed<T>> for FileError {
 }
 
 /// An open file.
+///
+/// What a clause says of the bytes of a file has the premise `keeps`. In memory it holds. Of the file
+/// system no proof can say so: another program may change a file while it is read.
 pub trait Opened: Drop {
+    // The premise: files of this kind have the bytes of `content`, and nothing changes these.
+    ghost keeps: { Type 0 };
+
+    // The bytes of a file.
+    ghost content: { Self → List ℕ };
+
     /// Returns the length of the file in bytes.
-    fn size(&self) -> Result<u64, FileError>;
+    fn size(&self) -> Result<u64, FileError>
+        // If the file keeps its content, the answer is the length of the content.
+        ensures { keeps → IfOk result (λ n. n ≡ length (content self.now)) };
 
     /// Reads bytes from `at` on into `buf`, and returns how many. It may read fewer than there are.
     ///
-    /// It should read none only if `buf` is empty or the file ends there. No contract says so.
+    /// It should read none only if `buf` is empty or the file ends there.
     fn read_part(&self, at: u64, buf: &mut [u8]) -> Result<usize, FileError>
         // The answer is at most the length of `buf`.
-        ensures { IfOk result (λ n. n ≤ length buf.new) };
+        ensures bound { IfOk result (λ n. n ≤ length buf.new) }
+
+        // If the file keeps its content, the bytes that were read are those of the content from `at`
+        // on.
+        ensures bytes { keeps → IfOk result (λ n. IsPart (content self.now) at (take n buf.new)) }
+
+        // If the file keeps its content, nothing is read only if `buf` is empty or the content ends
+        // at `at` or before.
+        ensures none { keeps → IfOk result
+            (λ n. n ≡ 0 → 0 < length buf.new → length (content self.now) ≤ at) };
 }
 
-/// Opens files and lists folders. Nothing is promised of what is in them.
+/// Opens files and lists folders.
 pub trait Folders {
     /// An open file of one of these folders.
     type Opened: Opened;
+
+    // The bytes of the file to which a path leads; `None` if there is no such file.
+    ghost file: { Self → List ℕ → Option (List ℕ) };
 
     /// Opens a file for reading. Returns `None` if there is no such file.
     ///
     /// Fails with `NotSeekable` if the path leads to a pipe, a socket or a device. A program may wait on
     /// these, or read them without end. `/dev/null` is opened, and has no bytes.
-    fn open(&self, path: &[u8]) -> Result<Option<Self::Opened>, FileError>;
+    fn open(&self, path: &[u8]) -> Result<Option<Self::Opened>, FileError>
+        // If files keep their content, an open file has the content of the file at the path, and
+        // there is none exactly if there is no file.
+        ensures { Self.Opened.keeps → IfOk result
+            (λ found. option_map Self.Opened.content found ≡ file self.now path.now) };
 
     /// Adds the text of a symbolic link to `text`.
     ///

@@ -1,6 +1,7 @@
 //! Reaches folders and files of the system, by `std::fs`.
 
-ghost use Rattle.std.specs.Prelude.{◌≤◌, length, IfOk};
+ghost use Rattle.std.specs.Prelude.{◌≡◌, ◌<◌, ◌≤◌, ℕ, [], None, length, take, IfOk};
+ghost use Rattle.gix_files.specs.Known.{IsPart};
 
 use crate::{FileError, Folders, Opened};
 use std::alloc::Allocator;
@@ -48,6 +49,10 @@ fn file_error(error: io::Error) -> FileError {
 }
 
 impl Opened for File {
+    ghost keeps = { ⊥ };
+
+    ghost content = { λ _. [] };
+
     fn size(&self) -> Result<u64, FileError> {
         match self.metadata() {
             Ok(metadata) => Ok(metadata.len()),
@@ -56,7 +61,9 @@ impl Opened for File {
     }
 
     fn read_part(&self, at: u64, buf: &mut [u8]) -> Result<usize, FileError>
-        ensures { IfOk result (λ n. n ≤ length buf.new) }
+        ensures bound { IfOk result (λ n. n ≤ length buf.new) }
+        ensures bytes { ⊥ → IfOk result (λ n. IsPart [] at (take n buf.new)) }
+        ensures none { ⊥ → IfOk result (λ n. n ≡ 0 → 0 < length buf.new → length {A = ℕ} [] ≤ at) }
     {
         for _ in 0..u64::MAX {
             match self.read_at(buf, at) {
@@ -71,6 +78,8 @@ impl Opened for File {
 
 impl<'a> Folders for System<'a> {
     type Opened = File;
+
+    ghost file = { λ _ _. None };
 
     fn open(&self, path: &[u8]) -> Result<Option<File>, FileError> {
         let Ok(path) = str::from_utf8(path) else {

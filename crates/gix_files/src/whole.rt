@@ -1,5 +1,8 @@
 //! Reads files whole, up to a limit.
 
+ghost use Rattle.std.specs.Prelude.{◌≡◌, ◌<◌, ◌≤◌, ◌^◌, ◌⊎◌, [], length, cond, Some, None, IfOk, OnOk};
+ghost use Rattle.gix_files.specs.Known.{IsPart};
+
 use crate::{FileError, Folders, Opened};
 use std::alloc::Allocator;
 use std::io::ErrorKind;
@@ -15,7 +18,9 @@ pub enum Limit {
 
 impl Limit {
     /// Returns how many bytes a file has at most.
-    fn bytes(self) -> u64 {
+    fn bytes(self) -> u64
+        ensures { result < 2 ^ 32 }
+    {
         match self {
             Limit::Text => 1 << 26,
             Limit::Table => 1 << 30,
@@ -28,7 +33,11 @@ fn fill<O: Opened, A: Allocator>(
     file: &O,
     enough: u64,
     bytes: &mut Vec<u8, A>,
-) -> Result<(), FileError> {
+) -> Result<(), FileError>
+    requires { bytes.old.items ≡ [] }
+    ensures { O.keeps → OnOk result
+        ((enough ≤ length bytes.new.items) ⊎ (bytes.new.items ≡ O.content file.now)) }
+{
     let mut part = [0u8; 8192];
     for _ in 0..u64::MAX {
         let at = bytes.len() as u64;
@@ -49,9 +58,13 @@ fn read_all<O: Opened, A: Allocator>(
     file: &O,
     most: u64,
     bytes: &mut Vec<u8, A>,
-) -> Result<(), FileError> {
+) -> Result<(), FileError>
+    requires small { most < 2 ^ 32 }
+    requires empty { bytes.old.items ≡ [] }
+    ensures { O.keeps → OnOk result (bytes.new.items ≡ O.content file.now) }
+{
     if file.size()? <= most {
-        fill(file, most.saturating_add(1), bytes)?;
+        fill(file, most + 1, bytes)?;
         if bytes.len() as u64 <= most {
             return Ok(());
         }
@@ -68,7 +81,12 @@ pub fn read_file<F: Folders, A: Allocator>(
     path: &[u8],
     limit: Limit,
     bytes: &mut Vec<u8, A>,
-) -> Result<bool, FileError> {
+) -> Result<bool, FileError>
+    // If files keep their content, `bytes` has the content of the file at the path, and the answer
+    // is `false` exactly if there is no such file.
+    ensures { F.Opened.keeps → IfOk result
+        (λ found. F.file files.now path.now ≡ cond found (Some bytes.new.items) None) }
+{
     bytes.clear();
     match files.open(path)? {
         Some(file) => {

@@ -1,9 +1,9 @@
 //! Has files in memory, of which one call fails, and which may read a few bytes at a time.
 
-ghost use Rattle.std.specs.Prelude.{◌≤◌, length, IfOk};
+ghost use Rattle.std.specs.Prelude.{[], None};
 
 use crate::files::files::Written;
-use gix_files::{FileError, Folders, Opened};
+use gix_files::{FileError, Folders, Memory, Opened};
 use std::alloc::Allocator;
 use std::cell::Cell;
 use std::io::ErrorKind;
@@ -45,19 +45,23 @@ pub(crate) struct Held<'a> {
 }
 
 impl<'a> Opened for Held<'a> {
+    // Readings may fail or change, so nothing is promised of the bytes.
+    ghost keeps = { ⊥ };
+
+    ghost content = { λ _. [] };
+
     fn size(&self) -> Result<u64, FileError> {
         self.turn.call()?;
         Ok(self.bytes.len() as u64)
     }
 
-    fn read_part(&self, at: u64, buf: &mut [u8]) -> Result<usize, FileError>
-        ensures { IfOk result (λ n. n ≤ length buf.new) }
-    {
+    fn read_part(&self, at: u64, buf: &mut [u8]) -> Result<usize, FileError> {
         self.turn.call()?;
-        let rest = self.bytes.get(at as usize..).unwrap_or(&[]);
-        let n = rest.len().min(buf.len()).min(self.most);
-        buf[..n].copy_from_slice(&rest[..n]);
-        Ok(n)
+        Memory {
+            bytes: self.bytes,
+            most: self.most,
+        }
+        .read_part(at, buf)
     }
 }
 
@@ -120,6 +124,8 @@ impl<'a> Fake<'a> {
 
 impl<'a> Folders for Fake<'a> {
     type Opened = Held<'a>;
+
+    ghost file = { λ _ _. None };
 
     fn open(&self, path: &[u8]) -> Result<Option<Held<'a>>, FileError> {
         self.call(path)?;

@@ -1,5 +1,7 @@
 //! Has a pack that another program replaces by one of another name after each listing.
 
+ghost use Rattle.std.specs.Prelude.{None};
+
 use super::tables::{IDS, files};
 use crate::files::fake::{Fake, Held};
 use crate::files::files::Written;
@@ -33,6 +35,8 @@ impl<'a> Repacked<'a> {
 
 impl<'a> Folders for Repacked<'a> {
     type Opened = Held<'a>;
+
+    ghost file = { λ _ _. None };
 
     fn open(&self, path: &[u8]) -> Result<Option<Held<'a>>, FileError> {
         match path.strip_prefix(b"first/pack/") {

@@ -1,8 +1,8 @@
 //! Has a reference that another program changes between two readings of its file.
 
-ghost use Rattle.std.specs.Prelude.{◌≤◌, length, IfOk};
+ghost use Rattle.std.specs.Prelude.{[], None};
 
-use gix_files::{FileError, Folders, Opened};
+use gix_files::{FileError, Folders, Memory, Opened};
 use gix_ref::References;
 use std::alloc::{Allocator, Global};
 use std::cell::Cell;
@@ -18,17 +18,21 @@ struct Moving<'a>(&'a Cell<u64>);
 struct Held(&'static [u8]);
 
 impl Opened for Held {
+    // Readings may fail or change, so nothing is promised of the bytes.
+    ghost keeps = { ⊥ };
+
+    ghost content = { λ _. [] };
+
     fn size(&self) -> Result<u64, FileError> {
         Ok(self.0.len() as u64)
     }
 
-    fn read_part(&self, at: u64, buf: &mut [u8]) -> Result<usize, FileError>
-        ensures { IfOk result (λ n. n ≤ length buf.new) }
-    {
-        let rest = self.0.get(at as usize..).unwrap_or(&[]);
-        let n = rest.len().min(buf.len());
-        buf[..n].copy_from_slice(&rest[..n]);
-        Ok(n)
+    fn read_part(&self, at: u64, buf: &mut [u8]) -> Result<usize, FileError> {
+        Memory {
+            bytes: self.0,
+            most: usize::MAX,
+        }
+        .read_part(at, buf)
     }
 }
 
@@ -47,6 +51,8 @@ impl<'a> Moving<'a> {
 
 impl<'a> Folders for Moving<'a> {
     type Opened = Held;
+
+    ghost file = { λ _ _. None };
 
     fn open(&self, path: &[u8]) -> Result<Option<Held>, FileError> {
         if path.ends_with(b"refs/tags/main") {

@@ -1,59 +1,29 @@
 //! Reads files `packed-refs`: such as git writes, damaged ones, and ones with many names.
 
-ghost use Rattle.std.specs.Prelude.{◌≤◌, length, IfOk};
-
 use super::answers::asked;
 use super::packed_rows::{DAMAGED, DANGEROUS, PACKED, WHOLE};
 use super::questions::{Ask, row_of};
 use crate::files::failures::Outcome;
 use crate::files::files::written_out;
-use gix_files::{FileError, Folders, Opened};
+use gix_files::{Memory, One};
 use gix_ref::{Error, References};
-use std::alloc::{AllocError, Allocator, Global};
+use std::alloc::{AllocError, Global};
 use std::test::Fail;
 
-/// A folder with only a file `packed-refs`.
-#[derive(Clone, Copy, Drop)]
-struct OnlyPacked<'a>(&'a [u8]);
-
-impl<'a> Opened for OnlyPacked<'a> {
-    fn size(&self) -> Result<u64, FileError> {
-        Ok(self.0.len() as u64)
-    }
-
-    fn read_part(&self, at: u64, buf: &mut [u8]) -> Result<usize, FileError>
-        ensures { IfOk result (λ n. n ≤ length buf.new) }
-    {
-        let rest = self.0.get(at as usize..).unwrap_or(&[]);
-        let n = rest.len().min(buf.len());
-        buf[..n].copy_from_slice(&rest[..n]);
-        Ok(n)
-    }
-}
-
-impl<'a> Folders for OnlyPacked<'a> {
-    type Opened = OnlyPacked<'a>;
-
-    fn open(&self, path: &[u8]) -> Result<Option<OnlyPacked<'a>>, FileError> {
-        Ok(path.ends_with(b"/packed-refs").then_some(*self))
-    }
-
-    fn names<A: Allocator>(&self, _path: &[u8], _names: &mut Vec<u8, A>) -> Result<(), FileError> {
-        Ok(())
-    }
-
-    fn real_path<A: Allocator>(
-        &self,
-        _path: &[u8],
-        _real: &mut Vec<u8, A>,
-    ) -> Result<bool, FileError> {
-        Ok(false)
+/// Returns a folder with only a file `packed-refs`.
+fn only_packed(bytes: &[u8]) -> One<'_> {
+    One {
+        name: b"/packed-refs",
+        file: Memory {
+            bytes,
+            most: usize::MAX,
+        },
     }
 }
 
 /// Returns whether `refs/heads/a` is found in a file; `None` if the file counts as damaged.
 fn found_in(alloc: Global, bytes: &[u8]) -> Option<bool> {
-    let Ok(mut references) = References::open(alloc, OnlyPacked(bytes), b"r", b"r") else {
+    let Ok(mut references) = References::open(alloc, only_packed(bytes), b"r", b"r") else {
         return Some(false);
     };
     match references.find(b"refs/heads/a") {
@@ -66,7 +36,7 @@ fn found_in(alloc: Global, bytes: &[u8]) -> Option<bool> {
 /// Tests whether the references of a file with a prefix are not listed, since the file counts as
 /// damaged.
 fn is_unlisted(alloc: Global, bytes: &[u8], prefix: &[u8]) -> bool {
-    match References::open(alloc, OnlyPacked(bytes), b"r", b"r") {
+    match References::open(alloc, only_packed(bytes), b"r", b"r") {
         Ok(mut references) => matches!(references.all(prefix), Err(Error::Damaged(_) | Error::Unexpected(_))),
         Err(_) => false,
     }
@@ -119,7 +89,7 @@ fn first_other(
     Ok(None)
 }
 
-type OfPacked<'a> = References<OnlyPacked<'a>, Global>;
+type OfPacked<'a> = References<One<'a>, Global>;
 
 /// Tests whether a file says of a name what a row says.
 fn is_right(alloc: Global, references: &mut OfPacked<'_>, ask: Ask, row: &str) -> bool {
@@ -150,7 +120,7 @@ fn first_wrong_in(
     (file, ask, rows): (&'static str, Ask, &'static str),
 ) -> Result<Option<&'static str>, AllocError> {
     let bytes = written_out(alloc, file)?;
-    match &mut References::open(alloc, OnlyPacked(&bytes), b"r", b"r") {
+    match &mut References::open(alloc, only_packed(&bytes), b"r", b"r") {
         Ok(references) => Ok(first_wrong_of(alloc, references, ask, rows)),
         Err(_) => Ok(Some(file)),
     }
@@ -231,7 +201,7 @@ fn first_wrong_number(
 /// opened.
 fn first_wrong_before(alloc: Global, header: &str, end: u32) -> Result<Option<u32>, AllocError> {
     let bytes = file_of_numbers(alloc, header, end)?;
-    match &mut References::open(alloc, OnlyPacked(&bytes), b"r", b"r") {
+    match &mut References::open(alloc, only_packed(&bytes), b"r", b"r") {
         Ok(references) => Ok(Some(first_wrong_number(alloc, references, end)?)),
         Err(_) => Ok(None),
     }
