@@ -1,1 +1,5 @@
 pub mod RowAlone
+pub mod KnownBytes
+pub mod SameFiles
+pub mod NamedParents
+pub mod FrontChunks

@@ -14,7 +14,7 @@ byte : (s : List ℕ) (k j n : ℕ) → j < 36 → k + j ≡ n → slice_index (
 byte s k j n h e = get_or-take 36 (drop k s) j 0 h ∙ get_or-drop k s j 0 ∙ ap (slice_index s) e
 
 -- a number of a row is that of the file at the row's place
-word-alone : (s : List ℕ) (k at : ℕ) → at + 4 ≤ 36 → word (take 36 (drop k s)) at ≡ word s (k + at)
+pub word-alone : (s : List ℕ) (k at : ℕ) → at + 4 ≤ 36 → word (take 36 (drop k s)) at ≡ word s (k + at)
 unfolding word
 word-alone s k at h =
     let a = byte s k at (k + at) (omega arith) refl in

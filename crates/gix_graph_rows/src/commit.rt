@@ -1,6 +1,10 @@
 //! Reads the commit at a place.
 
-ghost use Rattle.std.specs.Prelude.{◌≡◌, suc, ◌+◌, ◌<◌, ◌≤◌, length, IfOk, OnOk};
+ghost use Rattle.std.specs.Prelude.{◌≡◌, suc, ◌+◌, ◌-◌, ◌*◌, ◌<◌, [], ◌∷◌, ◌++◌, length, map, IfOk, OnOk};
+ghost use Rattle.gix_ids.specs.TableBytes.{id_from, word};
+ghost use Rattle.gix_commitgraph.specs.FileCommits.{edge_list};
+ghost use Rattle.gix_graph_rows.specs.ChainRows.{file_at, id_there, named_by, entry_there, AreHints};
+ghost use Rattle.gix_graph_rows.specs.FilesRead.{files_of};
 ghost use Rattle.gix_revwalk.specs.Held.{entry_of};
 ghost use Rattle.gix_graph_rows.specs.RowForm.{IsSaid, HasCount};
 
@@ -21,7 +25,11 @@ fn parent_id<O: Opened, A: Allocator + Copy>(
     layer: &mut Layer<O, A>,
     row: u32,
     child: Child,
-) -> Result<ObjectId, Error> {
+) -> Result<ObjectId, Error>
+    ensures same { (layer.new.source ≡ layer.old.source) × (layer.new.layout ≡ layer.old.layout) }
+    ensures value { O.keeps → row < layer.old.layout.count → IfOk result
+        (λ id. id ≡ id_from (O.content layer.old.source.file) (layer.old.layout.ids + 20 * row)) }
+{
     let level = layer.level(alloc, row)?;
     if child.level.max(1) <= level {
         return Err(child.damaged(Damage::Level));
@@ -30,6 +38,7 @@ fn parent_id<O: Opened, A: Allocator + Copy>(
 }
 
 /// Adds the id of the parent at a position to `ids`.
+#[tactic(auto, using(crate::proofs::SameFiles::files_of_set))]
 fn add_parent<O: Opened, A: Allocator + Copy>(
     alloc: A,
     layers: &mut [Layer<O, A>],
@@ -40,6 +49,11 @@ fn add_parent<O: Opened, A: Allocator + Copy>(
 ) -> Result<(), Error>
     ensures added { OnOk result (length ids.new.items ≡ suc (length ids.old.items)) }
     ensures same { length layers.new ≡ length layers.old }
+    ensures files { files_of layers.new ≡ files_of layers.old }
+    ensures kept { O.keeps → AreHints (files_of layers.old) hints.old.hints.items
+        → AreHints (files_of layers.old) hints.new.hints.items }
+    ensures value { O.keeps → OnOk result
+        (ids.new.items ≡ ids.old.items ++ id_there (files_of layers.old) position ∷ []) }
 {
     match locate(layers, position) {
         Some(place) if place.layer <= child.layer => {
@@ -53,6 +67,7 @@ fn add_parent<O: Opened, A: Allocator + Copy>(
 }
 
 /// Adds the ids of the list of parents that begins at a place of the chunk `EDGE`.
+#[tactic(auto, using(crate::proofs::SameFiles::files_of_set))]
 fn add_list<O: Opened, A: Allocator + Copy>(
     alloc: A,
     layers: &mut [Layer<O, A>],
@@ -64,6 +79,12 @@ fn add_list<O: Opened, A: Allocator + Copy>(
     requires { child.layer < length layers.old }
     ensures added { OnOk result (length ids.old.items < length ids.new.items) }
     ensures same { length layers.new ≡ length layers.old }
+    ensures files { files_of layers.new ≡ files_of layers.old }
+    ensures kept { O.keeps → AreHints (files_of layers.old) hints.old.hints.items
+        → AreHints (files_of layers.old) hints.new.hints.items }
+    ensures value { O.keeps → let f = file_at (files_of layers.old) child.layer in
+        OnOk result (ids.new.items ≡ ids.old.items ++ map (id_there (files_of layers.old))
+        (edge_list f.bytes f.layout start (f.layout.edge_count - start))) }
 {
     for place in start..EDGE_BIT {
         let edge = layers[child.layer].edge(alloc, place)?;
@@ -86,7 +107,14 @@ fn add_parents<O: Opened, A: Allocator + Copy>(
 ) -> Result<(), Error>
     requires here { child.layer < length layers.old }
     requires empty { length ids.old.items ≡ 0 }
-    ensures { OnOk result (HasCount row.now.bytes (length ids.new.items)) }
+    ensures count { OnOk result (HasCount row.now.bytes (length ids.new.items)) }
+    ensures same { length layers.new ≡ length layers.old }
+    ensures files { files_of layers.new ≡ files_of layers.old }
+    ensures kept { O.keeps → AreHints (files_of layers.old) hints.old.hints.items
+        → AreHints (files_of layers.old) hints.new.hints.items }
+    ensures value { O.keeps → let f = file_at (files_of layers.old) child.layer in
+        OnOk result (ids.new.items ≡ map (id_there (files_of layers.old))
+        (named_by f (word row.now.bytes 20) (word row.now.bytes 24))) }
 {
     if row.first() == NO_PARENT {
         return Ok(());
@@ -110,6 +138,7 @@ fn add_parents<O: Opened, A: Allocator + Copy>(
 }
 
 /// Reads the commit at a place.
+#[tactic(auto, using(crate::proofs::SameFiles::files_of_set))]
 pub(crate) fn commit_at<O: Opened, A: Allocator + Copy>(
     alloc: A,
     layers: &mut [Layer<O, A>],
@@ -117,7 +146,14 @@ pub(crate) fn commit_at<O: Opened, A: Allocator + Copy>(
     place: Place,
 ) -> Result<SourceCommit<A>, Error>
     requires { place.layer < length layers.old }
-    ensures { IfOk result (λ c. IsSaid (entry_of c)) }
+    ensures said { IfOk result (λ c. IsSaid (entry_of c)) }
+    ensures same { length layers.new ≡ length layers.old }
+    ensures files { files_of layers.new ≡ files_of layers.old }
+    ensures kept { O.keeps → AreHints (files_of layers.old) hints.old.hints.items
+        → AreHints (files_of layers.old) hints.new.hints.items }
+    ensures value { O.keeps → let f = file_at (files_of layers.old) place.layer in
+        place.row < f.layout.table.count
+        → IfOk result (λ c. entry_of c ≡ entry_there (files_of layers.old) f place.row) }
 {
     let row = layers[place.layer].row(alloc, place.row)?;
     let child = layers[place.layer].child(place, &row);

@@ -1,11 +1,17 @@
 //! Reads the front of a file: header, table of contents and fanout table (gitformat-commit-graph,
 //! "File Layout").
 
+ghost use Rattle.std.specs.Prelude.{◌≡◌, ◌+◌, ◌*◌, ◌%◌, ◌<◌, ◌≤◌, ◌^◌, length, IfOk, IfSome, OnOk, IsTrue};
+ghost use Rattle.gix_commitgraph.specs.FileChunks.{row_count, row_from, oidl, cdat, edge};
+ghost use Rattle.gix_files.specs.Known.{IsPart};
+ghost use Rattle.gix_graph_rows.specs.FanoutForm.{IsFanout, fanout_in};
+ghost use Rattle.gix_graph_rows.specs.FrontForm.{chunk_in, chunk_there, start_in, len_in};
+
 use crate::error::{Damage, Error, Feature};
 use crate::source::Source;
 use gix_base::hash::ObjectId;
 use gix_files::Opened;
-use gix_ids::{Span, Table, check_fanout, word_at};
+use gix_ids::{Span, Table, below, check_fanout, long_at, word_at};
 use std::alloc::Allocator;
 
 /// The length of a header with the longest table of contents.
@@ -14,8 +20,16 @@ const MOST: usize = 8 + 12 * 257;
 /// The length of the hash at the end of a file, which is not compared.
 const HASH: u64 = 20;
 
-/// The id in the last entry of the table of contents, which has no chunk.
-const NO_CHUNK: [u8; 4] = [0; 4];
+/// The chunk ids, as the numbers of their letters.
+pub(crate) const OIDF: usize = 0x4f49_4446;
+
+const OIDL: usize = 0x4f49_444c;
+
+const CDAT: usize = 0x4344_4154;
+
+const EDGE: usize = 0x4544_4745;
+
+const BASE: usize = 0x4241_5345;
 
 /// Says where a chunk begins, and how many bytes it has.
 #[derive(Clone, Copy)]
@@ -24,19 +38,29 @@ pub(crate) struct Chunk {
     pub(crate) len: u64,
 }
 
-/// Says where the ids, the rows and the further parents of a file are, and how many there are.
+/// Says where the fanout table, the ids, the rows and the further parents of a file are, and how many
+/// commits it has.
 #[derive(Clone, Copy)]
 pub(crate) struct Layout {
     pub(crate) count: u32,
+    pub(crate) fanout: u64,
     pub(crate) ids: u64,
     pub(crate) rows: u64,
     pub(crate) edges: Chunk,
+    // The chunks end before the greatest offset.
+    ghost ids_end: { ids + 20 * count < 2 ^ 64 },
+    ghost rows_end: { rows + 36 * count < 2 ^ 64 },
+    ghost edges_end: { edges.start + edges.len < 2 ^ 64 },
+    // The chunk `EDGE` has numbers of 4 bytes.
+    ghost words: { edges.len % 4 ≡ 0 },
 }
 
 /// Keeps the fanout table of a file.
 #[derive(Drop)]
 pub(crate) struct Fanout<A: Allocator> {
     bytes: Vec<u8, A>,
+    // The table never falls.
+    ghost rises: { IsFanout bytes.items },
 }
 
 /// Keeps a header and a table of contents.
@@ -44,30 +68,91 @@ pub(crate) struct Fanout<A: Allocator> {
 pub(crate) struct Contents<A: Allocator> {
     bytes: Vec<u8, A>,
     size: u64,
+    // No entry is cut off.
+    ghost whole: { 20 + 12 * row_count bytes.items ≤ length bytes.items },
 }
 
-/// Reads the first 4 bytes as a number.
-fn first_word(bytes: &[u8]) -> Option<u32> {
-    match bytes {
-        [a, b, c, d, ..] => Some(u32::from_be_bytes([*a, *b, *c, *d])),
-        _ => None,
+/// Finds the first of some entries of the table of contents that has this chunk id.
+fn find_entry(bytes: &[u8], tag: usize, entries: usize) -> Option<usize>
+    requires { 12 * entries ≤ length bytes.now }
+    ensures value { result ≡ row_from bytes.now tag 0 entries }
+    ensures below { IfSome result (λ i. i < entries) }
+{
+    for i in 0..entries {
+        if word_at(bytes, 8 + 12 * i) == tag {
+            return Some(i);
+        }
+    }
+    None
+}
+
+/// Returns the chunk of an entry of the table of contents; `None` if it does not end before the hash
+/// of a file of this size.
+fn chunk_at(bytes: &[u8], entry: usize, size: u64) -> Option<Chunk>
+    requires { 32 + 12 * entry ≤ length bytes.now }
+    ensures value { IfSome result (λ c. c ≡ chunk_in bytes.now entry) }
+    ensures end { IfSome result (λ c. c.start + c.len < 2 ^ 64) }
+{
+    let start = long_at(bytes, 12 + 12 * entry) as u64;
+    let end = long_at(bytes, 24 + 12 * entry) as u64;
+    if start <= end && end <= size.saturating_sub(HASH) {
+        Some(Chunk {
+            start,
+            len: end - start,
+        })
+    } else {
+        None
     }
 }
 
-/// Reads the 8 bytes from `at` on as a number.
-fn offset_at(bytes: &[u8], at: usize) -> Option<u64> {
-    let high = first_word(bytes.get(at..)?)?;
-    let low = first_word(bytes.get(at.saturating_add(4)..)?)?;
-    Some((u64::from(high) << 32) | u64::from(low))
+/// Tells whether an entry has a chunk id that no entry before it has.
+fn is_new(bytes: &[u8], entry: usize) -> bool
+    requires { 12 + 12 * entry ≤ length bytes.now }
+{
+    let tag = word_at(bytes, 8 + 12 * entry);
+    tag != 0 && find_entry(bytes, tag, entry + 1) == Some(entry)
 }
 
-/// Returns the offset of an entry of the table of contents.
-fn offset_of_entry(number: usize) -> usize {
-    number.saturating_mul(12).saturating_add(8)
+/// Checks an entry of the table of contents, as git does: its chunk id is new, and its chunk ends
+/// before the hash of the file.
+fn check_entry<O: Opened>(
+    source: &Source<O>,
+    bytes: &[u8],
+    entry: usize,
+    size: u64,
+) -> Result<(), Error>
+    requires { entry < 256 }
+{
+    let at = 8 + 12 * entry;
+    if bytes.len() < at + 4 || !is_new(bytes, entry) {
+        return Err(source.damaged(at as u64, Damage::Contents));
+    }
+    if bytes.len() < at + 24 || chunk_at(bytes, entry, size).is_none() {
+        return Err(source.damaged(at as u64, Damage::ChunkPlace));
+    }
+    Ok(())
+}
+
+/// Checks all entries of the table of contents. The last one has no chunk.
+fn check_table<O: Opened>(source: &Source<O>, bytes: &[u8], size: u64) -> Result<(), Error>
+    requires { 8 ≤ length bytes.now }
+    ensures { OnOk result (20 + 12 * row_count bytes.now ≤ length bytes.now) }
+{
+    let entries = bytes[6] as usize;
+    for entry in 0..entries {
+        check_entry(source, bytes, entry, size)?;
+    }
+    let end = 8 + 12 * entries;
+    if bytes.len() < end + 12 || word_at(bytes, end) != 0 {
+        return Err(source.damaged(end as u64, Damage::Contents));
+    }
+    Ok(())
 }
 
 /// Checks the header of the file with this number in a chain.
-fn check_header<O: Opened>(source: &Source<O>, bytes: &[u8], number: usize) -> Result<(), Error> {
+fn check_header<O: Opened>(source: &Source<O>, bytes: &[u8], number: usize) -> Result<(), Error>
+    ensures { OnOk result (8 ≤ length bytes.now) }
+{
     match bytes {
         [b'C', b'G', b'P', b'H', version, hash, _, bases, ..] => {
             if *version != 1 {
@@ -91,16 +176,16 @@ impl<A: Allocator> Contents<A> {
         alloc: A,
         source: &Source<O>,
         number: usize,
-    ) -> Result<Contents<A>, Error> {
+    ) -> Result<Contents<A>, Error>
+        ensures { O.keeps → IfOk result
+            (λ c. IsPart (O.content source.now.file) 0 c.bytes.items) }
+    {
         let mut bytes = Vec::new(alloc);
         source.read_into(0, MOST, &mut bytes)?;
         check_header(source, &bytes, number)?;
-        let contents = Contents {
-            size: source.size()?,
-            bytes,
-        };
-        contents.check(source)?;
-        Ok(contents)
+        let size = source.size()?;
+        check_table(source, &bytes, size)?;
+        Ok(Contents { size, bytes })
     }
 
     /// Returns the length of the file.
@@ -108,79 +193,17 @@ impl<A: Allocator> Contents<A> {
         self.size
     }
 
-    /// Returns the number of chunks that the header says.
-    fn count(&self) -> usize {
-        self.bytes.get(6).copied().unwrap_or(0) as usize
-    }
-
-    /// Returns the id in the entry at an offset of the table of contents.
-    fn tag_at(&self, at: usize) -> Option<&[u8]> {
-        self.bytes.get(at..at.saturating_add(4))
-    }
-
-    /// Returns the offset of the first entry with this id in the table of contents.
-    fn entry(&self, tag: &[u8]) -> Option<usize> {
-        for i in 0..self.count() {
-            let at = offset_of_entry(i);
-            if self.tag_at(at) == Some(tag) {
-                return Some(at);
-            }
-        }
-        None
-    }
-
-    /// Returns the chunk whose entry is at an offset; `None` if it does not end before the hash.
-    fn chunk_at(&self, at: usize) -> Option<Chunk> {
-        let start = offset_at(&self.bytes, at.saturating_add(4))?;
-        let end = offset_at(&self.bytes, at.saturating_add(16))?;
-        if start <= end && end <= self.size.saturating_sub(HASH) {
-            Some(Chunk {
-                start,
-                len: end - start,
-            })
-        } else {
-            None
-        }
-    }
-
-    /// Tests whether the entry at an offset has an id, and no entry before it has the same.
-    fn is_new(&self, at: usize) -> bool {
-        match self.tag_at(at) {
-            Some(tag) => tag != NO_CHUNK.as_slice() && self.entry(tag) == Some(at),
-            None => false,
-        }
-    }
-
-    /// Checks all entries of the table of contents, as git does. The last one has no chunk.
-    fn check<O: Opened>(&self, source: &Source<O>) -> Result<(), Error> {
-        for i in 0..self.count() {
-            let at = offset_of_entry(i);
-            if !self.is_new(at) {
-                return Err(source.damaged(at as u64, Damage::Contents));
-            }
-            if self.chunk_at(at).is_none() {
-                return Err(source.damaged(at as u64, Damage::ChunkPlace));
-            }
-        }
-        let end = offset_of_entry(self.count());
-        if self.tag_at(end) != Some(NO_CHUNK.as_slice()) {
-            return Err(source.damaged(end as u64, Damage::Contents));
-        }
-        Ok(())
-    }
-
     /// Returns the chunk with this id; `None` if there is none.
-    pub(crate) fn chunk<O: Opened>(
-        &self,
-        source: &Source<O>,
-        tag: &[u8],
-    ) -> Result<Option<Chunk>, Error> {
-        let Some(at) = self.entry(tag) else {
+    fn chunk<O: Opened>(&self, source: &Source<O>, tag: usize) -> Result<Option<Chunk>, Error>
+        ensures value { IfOk result (λ found. found ≡ chunk_there self.now.bytes.items tag) }
+        ensures end { IfOk result (λ found. IfSome found (λ c. c.start + c.len < 2 ^ 64)) }
+    {
+        let Some(entry) = find_entry(&self.bytes, tag, self.bytes[6] as usize) else {
             return Ok(None);
         };
-        match self.chunk_at(at) {
+        match chunk_at(&self.bytes, entry, self.size) {
             Some(chunk) => Ok(Some(chunk)),
-            None => Err(source.damaged(at as u64, Damage::ChunkPlace)),
+            None => Err(source.damaged(8, Damage::ChunkPlace)),
         }
     }
 
@@ -188,86 +211,108 @@ impl<A: Allocator> Contents<A> {
     pub(crate) fn place<O: Opened>(
         &self,
         source: &Source<O>,
-        tag: &[u8],
+        tag: usize,
         len: u64,
-    ) -> Result<u64, Error> {
+    ) -> Result<u64, Error>
+        ensures value { IfOk result (λ start. start ≡ start_in (chunk_there self.now.bytes.items tag)) }
+        ensures end { IfOk result (λ start. start + len < 2 ^ 64) }
+    {
         match self.chunk(source, tag)? {
             Some(chunk) if chunk.len == len => Ok(chunk.start),
             _ => Err(source.damaged(8, Damage::ChunkSize)),
         }
     }
 
-    /// Returns where the chunks of a file with so many commits are.
+    /// Returns where the lists of further parents are.
+    fn edges<O: Opened>(&self, source: &Source<O>) -> Result<Chunk, Error>
+        ensures start { IfOk result (λ c. c.start ≡ start_in (chunk_there self.now.bytes.items edge)) }
+        ensures len { IfOk result (λ c. c.len ≡ len_in (chunk_there self.now.bytes.items edge)) }
+        ensures end { IfOk result (λ c. c.start + c.len < 2 ^ 64) }
+        ensures words { IfOk result (λ c. c.len % 4 ≡ 0) }
+    {
+        match self.chunk(source, EDGE)? {
+            Some(chunk) if chunk.len % 4 == 0 => Ok(chunk),
+            Some(_) => Err(source.damaged(8, Damage::ChunkSize)),
+            None => Ok(Chunk { start: 0, len: 0 }),
+        }
+    }
+
+    /// Returns where the chunks of a file are whose fanout table is at a place, and that has so many
+    /// commits.
     pub(crate) fn layout<O: Opened>(
         &self,
         source: &Source<O>,
+        fanout: u64,
         count: u32,
-    ) -> Result<Layout, Error> {
-        let edges = match self.chunk(source, b"EDGE")? {
-            Some(chunk) if chunk.len % 4 == 0 => chunk,
-            Some(_) => return Err(source.damaged(8, Damage::ChunkSize)),
-            None => Chunk { start: 0, len: 0 },
-        };
+    ) -> Result<Layout, Error>
+        ensures fanout { IfOk result (λ l. l.fanout ≡ fanout) }
+        ensures count { IfOk result (λ l. l.count ≡ count) }
+        ensures ids { IfOk result (λ l. l.ids ≡ start_in (chunk_there self.now.bytes.items oidl)) }
+        ensures rows { IfOk result (λ l. l.rows ≡ start_in (chunk_there self.now.bytes.items cdat)) }
+        ensures edges { IfOk result (λ l. l.edges.start ≡ start_in (chunk_there self.now.bytes.items edge)) }
+        ensures len { IfOk result (λ l. l.edges.len ≡ len_in (chunk_there self.now.bytes.items edge)) }
+    {
         Ok(Layout {
             count,
-            ids: self.place(source, b"OIDL", 20 * u64::from(count))?,
-            rows: self.place(source, b"CDAT", 36 * u64::from(count))?,
-            edges,
+            fanout,
+            ids: self.place(source, OIDL, 20 * u64::from(count))?,
+            rows: self.place(source, CDAT, 36 * u64::from(count))?,
+            edges: self.edges(source)?,
         })
     }
 }
 
 impl<A: Allocator> Fanout<A> {
-    /// Reads the fanout table of a file, and checks that it does not fall.
-    pub(crate) fn read<O: Opened>(
-        alloc: A,
-        source: &Source<O>,
-        contents: &Contents<A>,
-    ) -> Result<Fanout<A>, Error> {
-        let at = contents.place(source, b"OIDF", 1024)?;
+    /// Reads the fanout table at a place of a file, and checks that it does not fall.
+    pub(crate) fn read<O: Opened>(alloc: A, source: &Source<O>, at: u64) -> Result<Fanout<A>, Error>
+        ensures { O.keeps → IfOk result
+            (λ f. IsPart (O.content source.now.file) at f.bytes.items) }
+    {
         let mut bytes = Vec::new(alloc);
         source.read_into(at, 1024, &mut bytes)?;
-        if does_fall(&bytes) {
-            return Err(source.damaged(at, Damage::Fanout));
+        if is_fanout(&bytes) {
+            Ok(Fanout { bytes })
+        } else {
+            Err(source.damaged(at, Damage::Fanout))
         }
-        Ok(Fanout { bytes })
-    }
-
-    /// Returns the number of ids whose first byte is at most `byte`.
-    fn number(&self, byte: u8) -> u32 {
-        let rest = self.bytes.get(4 * byte as usize..).unwrap_or(&[]);
-        first_word(rest).unwrap_or(0)
     }
 
     /// Returns the number of ids.
-    pub(crate) fn count(&self) -> u32 {
-        self.number(255)
+    pub(crate) fn count(&self) -> u32
+        ensures { result ≡ (fanout_in self.now.bytes.items).count }
+    {
+        word_at(&self.bytes, 1020) as u32
     }
 
     /// Returns the positions of the ids with a first byte.
-    pub(crate) fn span(&self, byte: u8) -> Span {
-        let low = match byte {
-            0 => 0,
-            _ => self.number(byte - 1),
-        };
+    pub(crate) fn span(&self, byte: u8) -> Span
+        ensures order { result.low ≤ result.high }
+        ensures within { result.high ≤ (fanout_in self.now.bytes.items).count }
+    {
         Span {
-            low: low as usize,
-            high: self.number(byte) as usize,
+            low: below(&self.bytes, table_in(&self.bytes), byte),
+            high: word_at(&self.bytes, 4 * byte as usize),
         }
     }
 }
 
-/// Tells whether a fanout table is too short, or falls.
-fn does_fall(bytes: &[u8]) -> bool {
-    if bytes.len() < 1024 {
-        return true;
-    }
-    let table = Table {
+/// Returns where some bytes have a fanout table: at the start. Its last number counts the ids.
+fn table_in(bytes: &[u8]) -> Table
+    requires { 1024 ≤ length bytes.now }
+    ensures { result ≡ fanout_in bytes.now }
+{
+    Table {
         count: word_at(bytes, 1020),
         fanout: 0,
         ids: 0,
-    };
-    check_fanout(bytes, table).is_err()
+    }
+}
+
+/// Tells whether some bytes have a fanout table that never falls.
+fn is_fanout(bytes: &[u8]) -> bool
+    ensures { IsTrue result → IsFanout bytes.now }
+{
+    bytes.len() >= 1024 && check_fanout(bytes, table_in(bytes)).is_ok()
 }
 
 /// Checks that the chunk `BASE` of a file has the ids of the files before it in a chain.
@@ -281,7 +326,7 @@ pub(crate) fn check_bases<O: Opened, A: Allocator>(
         return Ok(());
     }
     let len = before.len().saturating_mul(20);
-    let at = contents.place(source, b"BASE", len as u64)?;
+    let at = contents.place(source, BASE, len as u64)?;
     let mut bytes = Vec::new(alloc);
     source.read_into(at, len, &mut bytes)?;
     for (i, id) in before.iter().enumerate() {

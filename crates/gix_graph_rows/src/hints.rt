@@ -1,6 +1,7 @@
 //! Keeps where the parents are that a walk has read, since it asks for these next.
 
-ghost use Rattle.std.specs.Prelude.{◌<◌, IfSome};
+ghost use Rattle.std.specs.Prelude.{◌≡◌, ◌<◌, ◌^◌, List, length, IfOk, IfSome};
+ghost use Rattle.gix_graph_rows.specs.ChainRows.{Said, IsPlaceOf, AreHints};
 
 use crate::error::Error;
 use gix_base::hash::ObjectId;
@@ -30,7 +31,10 @@ fn spot_of(id: ObjectId) -> usize {
 
 impl<A: Allocator> Hints<A> {
     /// Returns room for places, and keeps none.
-    pub(crate) fn new(alloc: A) -> Result<Hints<A>, Error> {
+    pub(crate) fn new(alloc: A) -> Result<Hints<A>, Error>
+        ensures { (fs : List Said) → length fs < 2 ^ 64
+            → IfOk result (λ h. AreHints fs h.hints.items) }
+    {
         let place = Place {
             layer: usize::MAX,
             row: 0,
@@ -46,7 +50,9 @@ impl<A: Allocator> Hints<A> {
 
     /// Returns the place of an id, if it is kept. The number of its file is less than `layers`.
     pub(crate) fn place(&self, id: ObjectId, layers: usize) -> Option<Place>
-        ensures { IfSome result (λ p. p.layer < layers) }
+        ensures within { IfSome result (λ p. p.layer < layers) }
+        ensures known { (fs : List Said) → layers ≡ length fs → AreHints fs self.now.hints.items
+            → IfSome result (IsPlaceOf fs id) }
     {
         match self.hints.get(spot_of(id)) {
             Some(hint) if hint.place.layer < layers && hint.id == id => Some(hint.place),
@@ -55,7 +61,10 @@ impl<A: Allocator> Hints<A> {
     }
 
     /// Keeps the place of an id instead of the one that was there.
-    pub(crate) fn note(&mut self, id: ObjectId, place: Place) {
+    pub(crate) fn note(&mut self, id: ObjectId, place: Place)
+        ensures { (fs : List Said) → AreHints fs self.old.hints.items → IsPlaceOf fs id place
+            → AreHints fs self.new.hints.items }
+    {
         if let Some(hint) = self.hints.get_mut(spot_of(id)) {
             *hint = Hint { id, place };
         }

@@ -2,6 +2,8 @@
 //! Chains").
 
 ghost use Rattle.std.specs.Prelude.{◌≡◌, ◌<◌, IfOk, IfSome, length};
+ghost use Rattle.gix_graph_rows.specs.ChainRows.{IsPlaceOf};
+ghost use Rattle.gix_graph_rows.specs.FilesRead.{files_of};
 
 use crate::error::Error;
 use crate::layer::Layer;
@@ -11,6 +13,7 @@ use gix_files::Opened;
 use std::alloc::Allocator;
 
 /// Looks an id up in all files, the last one first, as git does.
+#[tactic(auto, using(crate::proofs::SameFiles::files_of_set, crate::proofs::SameFiles::found_in))]
 fn search<O: Opened, A: Allocator + Copy>(
     alloc: A,
     layers: &mut [Layer<O, A>],
@@ -18,6 +21,9 @@ fn search<O: Opened, A: Allocator + Copy>(
 ) -> Result<Option<Place>, Error>
     ensures within { IfOk result (λ found. IfSome found (λ p. p.layer < length layers.old)) }
     ensures same { length layers.new ≡ length layers.old }
+    ensures files { files_of layers.new ≡ files_of layers.old }
+    ensures value { O.keeps → IfOk result
+        (λ found. IfSome found (IsPlaceOf (files_of layers.old) id)) }
 {
     let count = layers.len();
     for k in 0..count {
@@ -36,9 +42,13 @@ pub(crate) fn find<O: Opened, A: Allocator + Copy>(
     known: Option<Place>,
     id: ObjectId,
 ) -> Result<Option<Place>, Error>
-    requires { IfSome known (λ p. p.layer < length layers.old) }
+    requires here { IfSome known (λ p. p.layer < length layers.old) }
+    requires known { O.keeps → IfSome known (IsPlaceOf (files_of layers.old) id) }
     ensures within { IfOk result (λ found. IfSome found (λ p. p.layer < length layers.old)) }
     ensures same { length layers.new ≡ length layers.old }
+    ensures files { files_of layers.new ≡ files_of layers.old }
+    ensures value { O.keeps → IfOk result
+        (λ found. IfSome found (IsPlaceOf (files_of layers.old) id)) }
 {
     match known {
         Some(place) => Ok(Some(place)),

@@ -18,9 +18,11 @@
 //! Positions are in the order of hashes, so the rows of a walk are far apart. Blocks are therefore
 //! small, and a walk near the tips reads a few KiB a commit.
 
-ghost use Rattle.std.specs.Prelude.{IfOk, IfSome};
+ghost use Rattle.std.specs.Prelude.{◌≡◌, IfOk, IfSome};
 ghost use Rattle.gix_revwalk.specs.Held.{entry_of};
 ghost use Rattle.gix_graph_rows.specs.RowForm.{IsSaid};
+ghost use Rattle.gix_graph_rows.specs.ChainRows.{IsCommit, AreHints};
+ghost use Rattle.gix_graph_rows.specs.FilesRead.{files_of, contents_of};
 
 use crate::chain::{hashes, joined, layer_path};
 use crate::commit::commit_at;
@@ -32,19 +34,79 @@ use crate::row::NO_PARENT;
 use crate::source::open;
 use gix_base::hash::ObjectId;
 use gix_commitgraph::position::Counted;
-use gix_files::Folders;
+use gix_files::{Folders, Opened};
 use gix_revwalk::graph::SourceCommit;
 use std::alloc::{Allocator, Global};
+
+/// The files of a commit-graph that were opened.
+#[derive(Drop)]
+struct OpenFiles<O: Opened, A: Allocator + Copy> {
+    layers: Vec<Layer<O, A>, A>,
+    /// How many commits they have.
+    total: u32,
+}
+
+/// Opens a file, which comes after these files in a chain. Returns `false` if there is none.
+fn add_file<F: Folders, A: Allocator + Copy>(
+    alloc: A,
+    files: &F,
+    path: &[u8],
+    name: GraphFile,
+    before: &[ObjectId],
+    found: &mut OpenFiles<F::Opened, A>,
+) -> Result<bool, Error> {
+    let Some(source) = open(files, path, name)? else {
+        return Ok(false);
+    };
+    let layer = Layer::new(alloc, source, before)?;
+    let count = layer.count();
+    match found.total.checked_add(count) {
+        Some(total) if total <= NO_PARENT => found.total = total,
+        _ => return Err(Error::Damaged(name, 8, Damage::Commits)),
+    }
+    found.layers.push(layer)?;
+    Ok(true)
+}
+
+/// Opens the single file, or else the files of the chain.
+fn opened<F: Folders, A: Allocator + Copy>(
+    alloc: A,
+    files: &F,
+    folder: &[u8],
+) -> Result<OpenFiles<F::Opened, A>, Error> {
+    let mut found = OpenFiles {
+        layers: Vec::new(alloc),
+        total: 0,
+    };
+    let path = joined(alloc, folder, b"/info/commit-graph", b"")?;
+    if add_file(alloc, files, &path, GraphFile::Single, &[], &mut found)? {
+        return Ok(found);
+    }
+    let hashes = hashes(alloc, files, folder)?;
+    for (number, hash) in hashes.iter().enumerate() {
+        let name = GraphFile::Layer(*hash);
+        let path = layer_path(alloc, folder, *hash)?;
+        let before = hashes.get(..number).unwrap_or(&[]);
+        if !add_file(alloc, files, &path, name, before, &mut found)? {
+            return Err(Error::Missing(name));
+        }
+    }
+    Ok(found)
+}
 
 /// Reads commits from a commit-graph file, or from a chain of them.
 ///
 /// What was read is kept: up to 64 MiB of ids, and as many bytes of rows, for each file.
 #[derive(Drop)]
 pub struct GraphRows<F: Folders + Drop, A: Allocator + Copy = Global> {
+    /// Where the files are. If no field has this type, the prover refuses callers whose `F` has a
+    /// lifetime, such as `System<'_>`.
     files: F,
     layers: Vec<Layer<F::Opened, A>, A>,
     total: u32,
     hints: Hints<A>,
+    // Each hint is right of these files.
+    ghost known: { F.Opened.keeps → AreHints (files_of layers.items) hints.hints.items },
 }
 
 impl<F: Folders + Drop, A: Allocator + Copy> GraphRows<F, A> {
@@ -68,56 +130,16 @@ impl<F: Folders + Drop, A: Allocator + Copy> GraphRows<F, A> {
         files: F,
         objects_folder: &[u8],
     ) -> Result<Option<GraphRows<F, A>>, Error> {
-        let mut rows = GraphRows {
-            files,
-            layers: Vec::new(alloc),
-            total: 0,
-            hints: Hints::new(alloc)?,
-        };
-        rows.add_files(alloc, objects_folder)?;
-        if rows.layers.is_empty() {
+        let found = opened(alloc, &files, objects_folder)?;
+        if found.layers.is_empty() {
             return Ok(None);
         }
-        Ok(Some(rows))
-    }
-
-    /// Opens the single file, or else the files of the chain.
-    fn add_files(&mut self, alloc: A, folder: &[u8]) -> Result<(), Error> {
-        let path = joined(alloc, folder, b"/info/commit-graph", b"")?;
-        if self.add_file(alloc, &path, GraphFile::Single, &[])? {
-            return Ok(());
-        }
-        let hashes = hashes(alloc, &self.files, folder)?;
-        for (number, hash) in hashes.iter().enumerate() {
-            let name = GraphFile::Layer(*hash);
-            let path = layer_path(alloc, folder, *hash)?;
-            let before = hashes.get(..number).unwrap_or(&[]);
-            if !self.add_file(alloc, &path, name, before)? {
-                return Err(Error::Missing(name));
-            }
-        }
-        Ok(())
-    }
-
-    /// Opens a file, which comes after these files in a chain. Returns `false` if there is none.
-    fn add_file(
-        &mut self,
-        alloc: A,
-        path: &[u8],
-        name: GraphFile,
-        before: &[ObjectId],
-    ) -> Result<bool, Error> {
-        let Some(source) = open(&self.files, path, name)? else {
-            return Ok(false);
-        };
-        let layer = Layer::new(alloc, source, before)?;
-        let count = layer.count();
-        match self.total.checked_add(count) {
-            Some(total) if total <= NO_PARENT => self.total = total,
-            _ => return Err(Error::Damaged(name, 8, Damage::Commits)),
-        }
-        self.layers.push(layer)?;
-        Ok(true)
+        Ok(Some(GraphRows {
+            files,
+            layers: found.layers,
+            total: found.total,
+            hints: Hints::new(alloc)?,
+        }))
     }
 
     /// Returns the number of commits. A commit that two files of a chain have counts twice.
@@ -162,7 +184,16 @@ impl<F: Folders + Drop, A: Allocator + Copy> GraphRows<F, A> {
         // If a commit is found, there are 36 bytes that say its date, its generation number and its
         // number of parents, as a row of a commit-graph file does. A row that names a list of
         // further parents only says that there are at least two parents.
-        ensures { IfOk result (λ found. IfSome found (λ c. IsSaid (entry_of c))) }
+        ensures said { IfOk result (λ found. IfSome found (λ c. IsSaid (entry_of c))) }
+
+        // If the files keep their content, a commit that is found is what a row of one of them says,
+        // whose id is `id`. The ids of its parents are those at the positions in the row.
+        ensures value { F.Opened.keeps → IfOk result
+            (λ found. IfSome found
+            (λ c. IsCommit (contents_of self.old.layers.items) id (entry_of c))) }
+
+        // The open files are the same after the call.
+        ensures same { contents_of self.new.layers.items ≡ contents_of self.old.layers.items }
     {
         let known = self.hints.place(id, self.layers.len());
         match find(alloc, &mut self.layers, known, id)? {

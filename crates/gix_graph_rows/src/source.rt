@@ -1,6 +1,7 @@
 //! Reads open files, and names the file in each error.
 
-ghost use Rattle.std.specs.Prelude.{◌≤◌, length, IfOk};
+ghost use Rattle.std.specs.Prelude.{◌≡◌, ◌≤◌, length, take, IfOk};
+ghost use Rattle.gix_files.specs.Known.{IsPart};
 
 use crate::error::{Damage, Error, Feature, GraphFile, error_of};
 use gix_files::{Folders, Opened};
@@ -43,7 +44,9 @@ impl<O: Opened> Source<O> {
     }
 
     /// Returns the length of the file in bytes.
-    pub(crate) fn size(&self) -> Result<u64, Error> {
+    pub(crate) fn size(&self) -> Result<u64, Error>
+        ensures { O.keeps → IfOk result (λ n. n ≡ length (O.content self.now.file)) }
+    {
         match self.file.size() {
             Ok(size) => Ok(size),
             Err(error) => Err(error_of(self.name, error)),
@@ -52,7 +55,9 @@ impl<O: Opened> Source<O> {
 
     /// Reads bytes from `at` on into `buf`, and returns how many. Reads none only at the end.
     fn read_part(&self, at: u64, buf: &mut [u8]) -> Result<usize, Error>
-        ensures { IfOk result (λ n. n ≤ length buf.new) }
+        ensures bound { IfOk result (λ n. n ≤ length buf.new) }
+        ensures bytes { O.keeps → IfOk result
+            (λ n. IsPart (O.content self.now.file) at (take n buf.new)) }
     {
         match self.file.read_part(at, buf) {
             Ok(n) => Ok(n),
@@ -61,20 +66,24 @@ impl<O: Opened> Source<O> {
     }
 
     /// Reads from `at` on until `buf` is full or the file ends, and returns how many bytes.
-    fn fill(&self, at: u64, buf: &mut [u8]) -> Result<usize, Error> {
+    fn fill(&self, at: u64, buf: &mut [u8]) -> Result<usize, Error>
+        ensures bound { IfOk result (λ n. n ≤ length buf.new) }
+        ensures bytes { O.keeps → IfOk result
+            (λ n. IsPart (O.content self.now.file) at (take n buf.new)) }
+    {
         let mut done = 0usize;
         for _ in 0..u64::MAX {
-            let Some(rest) = buf.get_mut(done..) else {
-                break;
-            };
-            if rest.is_empty() {
+            if done == buf.len() {
                 break;
             }
-            let n = self.read_part(at.saturating_add(done as u64), rest)?;
+            let Some(place) = at.checked_add(done as u64) else {
+                break;
+            };
+            let n = self.read_part(place, &mut buf[done..])?;
             if n == 0 {
                 break;
             }
-            done = done.saturating_add(n);
+            done += n;
         }
         Ok(done)
     }
@@ -87,7 +96,11 @@ impl<O: Opened> Source<O> {
         at: u64,
         len: usize,
         bytes: &mut Vec<u8, A>,
-    ) -> Result<(), Error> {
+    ) -> Result<(), Error>
+        ensures most { length bytes.new.items ≤ len }
+        ensures part { O.keeps → IsPart (O.content self.now.file) at bytes.new.items }
+    {
+        bytes.clear();
         bytes.resize(len, 0)?;
         let got = self.fill(at, bytes.as_mut_slice());
         bytes.truncate(got.unwrap_or(0));
