@@ -1,0 +1,5 @@
+pub mod Orders
+pub mod OrderLaws
+pub mod Counts
+pub mod Fronts
+pub mod Walks
