@@ -364,6 +364,8 @@ def ambiguous(room: Room) -> list[Command]:
         if len(ids) > 1:
             chosen.setdefault(" ".join(sorted(kinds[id] for id in ids)), begin)
     made.git("tag", "v1", parent)
+    made.git("branch", "2024")
+    made.git("tag", "2024", f"{parent}~1")
     preferring = room.copy(made, "preferring")
     preferring.git("config", "core.disambiguate", "committish")
     preferring.may_be_refused = True
@@ -376,12 +378,14 @@ def ambiguous(room: Room) -> list[Command]:
         commands += each(made, "rev-parse --verify -q", begin)
         commands += each(made, "merge-base HEAD", begin)
         commands += each(made, "rev-list --count", begin, f"^{begin}", f"{begin}..HEAD")
+        commands += each(made, "rev-list", f"{begin}^!", f"^{begin}^!", f"{begin}^-", f"{begin}^@")
         commands += each(made, "describe --tags", begin, f"x-1-g{begin}")
         commands += each(made, "rev-parse --short=4", by_digits[begin][0])
     commands += each(made, "rev-parse --short=4", *made.ids, tree)
     commands += [row(made, *f"describe --tags --abbrev=4 {it}".split(" ")) for it
                  in made.git("rev-list", "-n", "12", "many").split("\n")]
     commands += each(made, "rev-parse", *(it.upper() for it in chosen.values()))
+    commands += each(made, "rev-parse -q --verify", "2024", "^2024", is_strict=True)
     return commands + unreadable(room)
 
 

@@ -120,7 +120,8 @@ fn add_marked(
     shorthand: &Shorthand<'_>,
     starts: &mut Starts,
 ) -> Result<bool, Stop> {
-    let (flags, text) = excluded(flags, shorthand.text);
+    let word = shorthand.text;
+    let (flags, text) = excluded(flags, word);
     let shorthand = Shorthand {
         text,
         marked: shorthand.marked,
@@ -132,7 +133,12 @@ fn add_marked(
         return Ok(false);
     };
     if !matches!(shorthand.marked, Marked::Parents) {
-        check_file(session, flags, shorthand.text)?;
+        // git looks the text up once more, and then the digits of several objects name none.
+        let is_digits = text.iter().all(|byte| byte.is_ascii_hexdigit());
+        if is_digits && revision(session, text)?.is_none() {
+            return Err(names_nothing(session, flags, word));
+        }
+        check_file(session, flags, text)?;
     }
     for tip in tips.iter() {
         starts.add(tip.id, tip.is_excluded != flags.is_turned)?;
@@ -204,6 +210,14 @@ fn add_word(
     add_single(session, flags, text, starts)
 }
 
+/// Returns the end for a word that names nothing.
+fn names_nothing(session: &Session<'_>, flags: Flags, word: &[u8]) -> Stop {
+    if flags.is_no_file || word.starts_with(b"^") {
+        return fatal(session.alloc, &[b"bad revision '", word, b"'"]);
+    }
+    no_revision(session, word)
+}
+
 /// Reads a revision of the command line.
 ///
 /// # Errors
@@ -222,10 +236,7 @@ pub(crate) fn read(
     if add_word(session, flags, word, starts)? {
         return Ok(());
     }
-    if flags.is_no_file || word.starts_with(b"^") {
-        return Err(fatal(session.alloc, &[b"bad revision '", word, b"'"]));
-    }
-    Err(no_revision(session, word))
+    Err(names_nothing(session, flags, word))
 }
 
 /// Returns whether a line of standard input ends the revisions, as `--` does.

@@ -90,7 +90,7 @@ fn looked_up<'w>(
     is_quiet: bool,
     word: &'w [u8],
 ) -> Result<Option<Tip<'w>>, Stop> {
-    if !is_quiet || is_counted(word) {
+    if !is_quiet || is_counted(word.strip_prefix(b"^").unwrap_or(word)) {
         return single_tip(session, word);
     }
     match looked_up_quietly(session, word) {
